@@ -1,0 +1,4 @@
+pub mod Tests
+pub mod Searching
+pub mod Layouts
+pub mod Lengths

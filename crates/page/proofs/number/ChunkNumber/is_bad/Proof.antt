@@ -1,0 +1,8 @@
+use Rattle.page.proofs.Tests.{cases}
+use Rattle.page.specs.Numbers.{badChunk}
+use Rattle.page.proofs.number.ChunkNumber.is_bad.Statement.{statement}
+use Rattle.page.proofs.number.ChunkNumber.is_bad.Tie as tie
+
+pub is-bad-spec : {M : Type 1} → statement M
+unfolding badChunk
+is-bad-spec = tie.close (tie.spec (λ c. search cases) (λ c. search cases))

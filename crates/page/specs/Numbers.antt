@@ -1,0 +1,20 @@
+-- Object ids and chunk numbers: the limits of document 01's page rules and refusal table.
+use Prim.Native.Nat.{ℕ}
+use mathlib.Core.Bool.{Bool, _||_}
+use lib.Dec.{eqb, ltb}
+
+-- the largest object id
+abbrev pub mostObject : ℕ
+mostObject = 0x0FFFFFFF
+
+-- the largest chunk number
+abbrev pub mostChunk : ℕ
+mostChunk = 0xFFFFF
+
+-- an id that no object has: 0, or above the largest
+unfoldable pub badObject : ℕ → Bool
+badObject id = eqb id 0 || ltb mostObject id
+
+-- a number that no chunk has: 0, or above the largest
+unfoldable pub badChunk : ℕ → Bool
+badChunk n = eqb n 0 || ltb mostChunk n

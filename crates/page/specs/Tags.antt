@@ -1,0 +1,68 @@
+-- Page kinds, first match wins (document 01, "Page kinds"): what the tags alone say.
+use Prim.Native.Nat.{ℕ, _+_, _*_, _/_, _%_}
+use mathlib.Core.Bool.{Bool, true, false, _&&_, _||_}
+use mathlib.Core.List.{List}
+use lib.ListN.{length, take, drop}
+use lib.Dec.{ltb, leb, eqb}
+use Rattle.page.specs.Choice.{pick}
+use Rattle.page.specs.Numbers.{badObject, mostChunk}
+use Rattle.page.specs.Words.{le32}
+use Rattle.page.specs.Layouts.{pageLen}
+use Rattle.page.specs.declared.layout.Layout.{Layout}
+use Rattle.page.specs.declared.tags.Tags.{Tags}
+use Rattle.page.specs.declared.tags.Claim.{Claim}
+use Rattle.page.specs.declared.tags.Claim.the-variants.{Blank, Foreign, Damaged, Header, Data}
+
+-- the sequence of a page that was never written
+abbrev pub blankSequence : ℕ
+blankSequence = 0xFFFFFFFF
+
+-- the least and the largest sequence of a record
+abbrev pub leastSequence : ℕ
+leastSequence = 0x1000
+
+abbrev pub mostSequence : ℕ
+mostSequence = 0xEFFFFF00
+
+-- four 32-bit words: sequence, object word, chunk word, byte count
+unfoldable pub tagsOf : List ℕ → Tags
+tagsOf s = record { sequence = le32 s 0; object = le32 s 4; chunk = le32 s 8; count = le32 s 12 }
+
+-- the 16 tag bytes of a page, at T in its spare
+unfoldable pub tagBytes : Layout → List ℕ → List ℕ
+tagBytes l page = take 16 (drop (l .tag) (drop (l .«data») page))
+
+-- whether the top bit of the chunk word is set
+abbrev pub isTyped : Tags → Bool
+isTyped t = leb 0x80000000 (t .chunk)
+
+-- the object id of a header: with the top bit the low 28 bits of the object word, else the whole word
+unfoldable pub objectIn : Tags → ℕ
+objectIn t = pick (isTyped t) (t .object % 0x10000000) (t .object)
+
+-- the type in a header's tags, with the top bit: the high 4 bits of the object word
+abbrev pub typeIn : Tags → ℕ
+typeIn t = t .object / 0x10000000
+
+-- a header, Damaged instead if its object id is out of range; its byte count is ignored
+unfoldable pub headerClaim : Tags → Claim
+headerClaim t = pick (badObject (objectIn t)) Damaged (Header (t .sequence) (record { 0 = objectIn t }))
+
+-- data, Damaged instead if its object id, its chunk number or its byte count is out of range
+unfoldable pub dataClaim : ℕ → Tags → Claim
+dataClaim p t =
+    pick (badObject (t .object)) Damaged
+    (pick (ltb mostChunk (t .chunk)) Damaged
+    (pick (eqb (t .count) 0) Damaged
+    (pick (ltb p (t .count)) Damaged
+    (Data (t .sequence) (record { 0 = t .object }) (record { 0 = t .chunk }) (t .count)))))
+
+-- the tags of a page of p data bytes, first match wins
+unfoldable pub claimOf : ℕ → Tags → Claim
+claimOf p t =
+    pick (eqb (t .sequence) blankSequence) Blank
+    (pick (ltb (t .sequence) leastSequence) Foreign
+    (pick (ltb mostSequence (t .sequence)) Foreign
+    (pick (isTyped t) (headerClaim t)
+    (pick (eqb (t .chunk) 0) (headerClaim t)
+    (dataClaim p t)))))

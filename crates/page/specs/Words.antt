@@ -1,0 +1,12 @@
+-- Little-endian unsigned numbers in a list of bytes.
+use Prim.Native.Nat.{ℕ, _+_, _*_}
+use mathlib.Core.List.{List}
+use lib.ListN.{getD}
+
+-- the word whose bytes, least first, are a, b, c and d
+abbrev pub wordOf : ℕ → ℕ → ℕ → ℕ → ℕ
+wordOf a b c d = a + b * 256 + c * 65536 + d * 16777216
+
+-- the word of the 4 bytes at `at`
+unfoldable pub le32 : List ℕ → ℕ → ℕ
+le32 s at = wordOf (getD s at 0) (getD s (at + 1) 0) (getD s (at + 2) 0) (getD s (at + 3) 0)

@@ -1,0 +1,42 @@
+// The three kinds of number of document 01, which do not stand in for each other.
+ghost use mathlib.Core.Path.{_≡_};
+ghost use Rattle.page.specs.Numbers.{badObject, badChunk};
+
+// The number of an object.
+pub struct ObjectId(pub u32);
+
+// The number of a chunk in its object, from 1.
+pub struct ChunkNumber(pub u32);
+
+// The number of a page in its dump, from 0.
+pub struct PageNumber(pub u32);
+
+impl ObjectId {
+    // The largest object id.
+    pub const MOST: u32 = 0x0FFF_FFFF;
+
+    // Whether no object has this id.
+    pub fn is_bad(self) -> bool
+        ensures { λ r. ⌜ r ≡ badObject (self .0) ⌝ }
+    {
+        if self.0 == 0 {
+            return true;
+        }
+        ObjectId::MOST < self.0
+    }
+}
+
+impl ChunkNumber {
+    // The largest chunk number.
+    pub const MOST: u32 = 0xF_FFFF;
+
+    // Whether no chunk has this number.
+    pub fn is_bad(self) -> bool
+        ensures { λ r. ⌜ r ≡ badChunk (self .0) ⌝ }
+    {
+        if self.0 == 0 {
+            return true;
+        }
+        ChunkNumber::MOST < self.0
+    }
+}

@@ -1,0 +1,129 @@
+// The tags of a page, and what they alone say of it.
+ghost use mathlib.Core.Path.{_≡_};
+ghost use Prim.Native.Nat.{_+_, _≤_};
+ghost use lib.ListN.{length};
+ghost use Rattle.page.specs.Tags.{tagsOf, objectIn, headerClaim, dataClaim, claimOf};
+use crate::layout::Layout;
+use crate::number::ChunkNumber;
+use crate::number::ObjectId;
+use crate::number::PageNumber;
+use crate::word::word_at;
+
+// The four words of a page's tags.
+pub struct Tags {
+    pub sequence: u32,
+    pub object: u32,
+    pub chunk: u32,
+    pub count: u32,
+}
+
+// What a page's tags alone say of it. A header may still be damaged by its type, which stands in the page.
+pub enum Claim {
+    Blank,
+    Foreign,
+    Damaged,
+    Header {
+        sequence: u32,
+        object: ObjectId,
+    },
+    Data {
+        sequence: u32,
+        object: ObjectId,
+        chunk: ChunkNumber,
+        count: u32,
+    },
+}
+
+impl Tags {
+    // The sequence of a page that was never written.
+    pub const BLANK: u32 = 0xFFFF_FFFF;
+    // The least and the largest sequence of a record.
+    pub const LEAST: u32 = 0x1000;
+    pub const MOST: u32 = 0xEFFF_FF00;
+    // From this chunk word on the top bit is set.
+    pub const TOP: u32 = 0x8000_0000;
+    // The object word holds a type above this many ids.
+    pub const IDS: u32 = 0x1000_0000;
+
+    // The tags that 16 bytes hold.
+    fn parse(s: &[u8]) -> Tags
+        requires { ⌜ 16 ≤ length (now s) ⌝ }
+        ensures { λ r. ⌜ r ≡ tagsOf (now (s .entry)) ⌝ }
+    {
+        Tags {
+            sequence: word_at(s, 0),
+            object: word_at(s, 4),
+            chunk: word_at(s, 8),
+            count: word_at(s, 12),
+        }
+    }
+
+    // The object id of a header's tags.
+    fn header_object(self) -> u32
+        ensures { λ r. ⌜ r ≡ objectIn self ⌝ }
+    {
+        if Tags::TOP <= self.chunk {
+            return self.object % Tags::IDS;
+        }
+        self.object
+    }
+
+    fn header_claim(self) -> Claim
+        ensures { λ r. ⌜ r ≡ headerClaim self ⌝ }
+    {
+        let object = ObjectId(self.header_object());
+        if object.is_bad() {
+            return Claim::Damaged;
+        }
+        Claim::Header {
+            sequence: self.sequence,
+            object,
+        }
+    }
+
+    fn data_claim(self, data: u16) -> Claim
+        ensures { λ r. ⌜ r ≡ dataClaim «data» self ⌝ }
+    {
+        let object = ObjectId(self.object);
+        if object.is_bad() {
+            return Claim::Damaged;
+        }
+        if ChunkNumber::MOST < self.chunk {
+            return Claim::Damaged;
+        }
+        if self.count == 0 {
+            return Claim::Damaged;
+        }
+        if (data as u32) < self.count {
+            return Claim::Damaged;
+        }
+        Claim::Data {
+            sequence: self.sequence,
+            object,
+            chunk: ChunkNumber(self.chunk),
+            count: self.count,
+        }
+    }
+
+    // What the tags say of a page with so many data bytes, first match wins.
+    fn claim(self, data: u16) -> Claim
+        ensures { λ r. ⌜ r ≡ claimOf «data» self ⌝ }
+    {
+        if self.sequence == Tags::BLANK {
+            return Claim::Blank;
+        }
+        if self.sequence < Tags::LEAST {
+            return Claim::Foreign;
+        }
+        if Tags::MOST < self.sequence {
+            return Claim::Foreign;
+        }
+        if Tags::TOP <= self.chunk {
+            return self.header_claim();
+        }
+        if self.chunk == 0 {
+            return self.header_claim();
+        }
+        self.data_claim(data)
+    }
+}
