@@ -26,3 +26,14 @@ length-most n e = leb-true _ _ (and-right (not (eqb n 0)) (leb n mostBytes) e)
 pub length-some : (n : ℕ) → lengthFits n ≡ true → 0 < n
 unfolding lengthFits
 length-some n e = let h = eqb-false n 0 (not-true _ (and-left (not (eqb n 0)) (leb n mostBytes) e)) in omega arith
+
+-- a page that lies in the dump has room, and ends within it
+pub record PageWithin (l : Layout) (n i : ℕ) : Type 0 where
+  pub room : roomy l ≡ true
+  pub ends : i * pageLen l + pageLen l ≤ n
+
+pub page-within : (l : Layout) (n i : ℕ) → pageIn l n i ≡ true → PageWithin l n i
+unfolding pageIn
+page-within l n i e =
+    let b = leb (i * pageLen l + pageLen l) n in
+    record { room = and-left (roomy l) b e; ends = leb-true _ _ (and-right (roomy l) b e) }

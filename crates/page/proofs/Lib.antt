@@ -2,3 +2,4 @@ pub mod Tests
 pub mod Searching
 pub mod Layouts
 pub mod Lengths
+pub mod Pages

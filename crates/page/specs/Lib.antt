@@ -5,4 +5,7 @@ pub mod Numbers
 pub mod Words
 pub mod Layouts
 pub mod Lengths
+pub mod Pages
 pub mod Tags
+pub mod Headers
+pub mod Kinds

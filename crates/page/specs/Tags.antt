@@ -7,7 +7,8 @@ use lib.Dec.{ltb, leb, eqb}
 use Rattle.page.specs.Choice.{pick}
 use Rattle.page.specs.Numbers.{badObject, mostChunk}
 use Rattle.page.specs.Words.{le32}
-use Rattle.page.specs.Layouts.{pageLen}
+use Rattle.page.specs.Lengths.{pageIn}
+use Rattle.page.specs.Pages.{pageAt}
 use Rattle.page.specs.declared.layout.Layout.{Layout}
 use Rattle.page.specs.declared.tags.Tags.{Tags}
 use Rattle.page.specs.declared.tags.Claim.{Claim}
@@ -66,3 +67,11 @@ claimOf p t =
     (pick (isTyped t) (headerClaim t)
     (pick (eqb (t .chunk) 0) (headerClaim t)
     (dataClaim p t)))))
+
+-- the tags of a page of a layout
+unfoldable pub claimOn : Layout → List ℕ → Claim
+claimOn l page = claimOf (l .«data») (tagsOf (tagBytes l page))
+
+-- what the tags of page i say; one that is not in the dump says nothing, as a blank one
+unfoldable pub claimAt : Layout → List ℕ → ℕ → Claim
+claimAt l dump i = pick (pageIn l (length dump) i) (claimOn l (pageAt l dump i)) Blank

@@ -4,4 +4,4 @@ pub mod refusal;
 pub mod layout;
 mod word;
 pub mod tags;
-
+pub mod kind;

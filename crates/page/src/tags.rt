@@ -2,7 +2,11 @@
 ghost use mathlib.Core.Path.{_≡_};
 ghost use Prim.Native.Nat.{_+_, _≤_};
 ghost use lib.ListN.{length};
-ghost use Rattle.page.specs.Tags.{tagsOf, objectIn, headerClaim, dataClaim, claimOf};
+ghost use mathlib.Core.Bool.{true};
+ghost use Rattle.page.specs.Layouts.{pageLen, roomy};
+ghost use Rattle.page.specs.Lengths.{pageIn};
+ghost use Rattle.page.specs.Pages.{pageAt};
+ghost use Rattle.page.specs.Tags.{tagsOf, tagBytes, objectIn, headerClaim, dataClaim, claimOf, claimAt};
 use crate::layout::Layout;
 use crate::number::ChunkNumber;
 use crate::number::ObjectId;
@@ -58,6 +62,19 @@ impl Tags {
         }
     }
 
+    // The tags of a page: its spare, and the tag bytes in that, are parts from the middle.
+    pub(crate) fn of_page(page: &[u8], l: Layout) -> Tags
+        requires { ⌜ roomy l ≡ true ⌝ }
+        requires { ⌜ length (now page) ≡ pageLen l ⌝ }
+        ensures { λ r. ⌜ r ≡ tagsOf (tagBytes l (now (page .entry))) ⌝ }
+    {
+        let d = l.data as usize;
+        let t = l.tag as usize;
+        let spare = &page[d..];
+        let e = t + 16;
+        Tags::parse(&spare[t..e])
+    }
+
     // The object id of a header's tags.
     fn header_object(self) -> u32
         ensures { λ r. ⌜ r ≡ objectIn self ⌝ }
@@ -106,7 +123,7 @@ impl Tags {
     }
 
     // What the tags say of a page with so many data bytes, first match wins.
-    fn claim(self, data: u16) -> Claim
+    pub(crate) fn claim(self, data: u16) -> Claim
         ensures { λ r. ⌜ r ≡ claimOf «data» self ⌝ }
     {
         if self.sequence == Tags::BLANK {
@@ -126,4 +143,25 @@ impl Tags {
         }
         self.data_claim(data)
     }
+}
+
+// The bytes of page n, which lies in the dump.
+pub(crate) fn page_at(dump: &[u8], l: Layout, n: PageNumber) -> &[u8]
+    requires { ⌜ pageIn l (length (now dump)) (n .0) ≡ true ⌝ }
+    ensures { λ r. ⌜ now r ≡ pageAt l (now (dump .entry)) (n .0) ⌝ }
+{
+    let size = l.page_len();
+    let a = (n.0 as usize) * size;
+    let e = a + size;
+    &dump[a..e]
+}
+
+// What the tags of page n say; a page that is not in the dump says nothing, as a blank one.
+pub fn claim_at(dump: &[u8], l: Layout, n: PageNumber) -> Claim
+    ensures { λ r. ⌜ r ≡ claimAt l (now (dump .entry)) (n .0) ⌝ }
+{
+    if !l.holds(dump.len(), n) {
+        return Claim::Blank;
+    }
+    Tags::of_page(page_at(dump, l, n), l).claim(l.data)
 }

@@ -1,0 +1,22 @@
+-- Laws of the bytes of a page.
+use Prim.Native.Nat.{ℕ, _+_, _-_, _*_, _≤_}
+use mathlib.Core.Bool.{true}
+use mathlib.Core.List.{List}
+use mathlib.Core.Path.{_≡_}
+use lib.ListN.{length, take, drop, length-drop}
+use lib.Seq.{take-all, length-take-le}
+use native.Mathlib.Omega.{arith}
+use Rattle.page.specs.Layouts.{pageLen}
+use Rattle.page.specs.Lengths.{pageIn}
+use Rattle.page.specs.Pages.{pageAt}
+use Rattle.page.specs.declared.layout.Layout.{Layout}
+use Rattle.page.proofs.Lengths.{page-within}
+
+-- a part that goes to the end is what is left behind its start
+pub suffix : (s : List ℕ) (d : ℕ) → take (length s - d) (drop d s) ≡ drop d s
+suffix s d = take-all (length s - d) (drop d s) (simp length-drop (omega arith))
+
+-- a page that lies in the dump is as long as its layout says
+pub page-length : (l : Layout) (dump : List ℕ) (i : ℕ) → pageIn l (length dump) i ≡ true → length (pageAt l dump i) ≡ pageLen l
+unfolding pageAt
+page-length l dump i h = let w = page-within l (length dump) i h in length-take-le _ _ (simp length-drop (omega arith))

@@ -1,0 +1,50 @@
+-- Page kinds, first match wins (document 01, "Page kinds"): what the tags and the page say.
+use Prim.Native.Nat.{ℕ}
+use mathlib.Core.Bool.{Bool, true, false, not, _&&_, _||_}
+use mathlib.Core.List.{List}
+use lib.ListN.{length}
+use lib.Dec.{eqb, ltb}
+use Rattle.page.specs.Choice.{pick}
+use Rattle.page.specs.Words.{le32}
+use Rattle.page.specs.Lengths.{pageIn}
+use Rattle.page.specs.Pages.{pageAt}
+use Rattle.page.specs.Tags.{tagsOf, tagBytes, isTyped, typeIn, claimOn}
+use Rattle.page.specs.Headers.{atType, atParent, atSize, atShrink}
+use Rattle.page.specs.declared.layout.Layout.{Layout}
+use Rattle.page.specs.declared.number.ObjectId.{ObjectId}
+use Rattle.page.specs.declared.tags.Tags.{Tags}
+use Rattle.page.specs.declared.tags.Claim.{Claim}
+use Rattle.page.specs.declared.tags.Claim.the-variants as claim
+use Rattle.page.specs.declared.kind.Kind.{Kind}
+use Rattle.page.specs.declared.kind.Kind.the-variants.{Blank, Foreign, Damaged, Header, Data}
+
+-- a page type that is not 1 to 5
+unfoldable pub badType : ℕ → Bool
+badType n = eqb n 0 || ltb 5 n
+
+-- a tag type, which only tags with the top bit have, that differs from the page type
+unfoldable pub typeDiffers : Tags → ℕ → Bool
+typeDiffers t n = isTyped t && not (eqb (typeIn t) n)
+
+-- a header by its tags, Damaged instead if its page type is none or differs from its tag type
+unfoldable pub headerOf : List ℕ → Tags → ℕ → ObjectId → Kind
+headerOf page t sequence object =
+    pick (badType (le32 page atType)) Damaged
+    (pick (typeDiffers t (le32 page atType)) Damaged
+    (Header sequence object (le32 page atType) (record { 0 = le32 page atParent }) (le32 page atSize) (not (eqb (le32 page atShrink) 0))))
+
+-- the kind of a page whose tags say this
+unfoldable pub kindBy : List ℕ → Tags → Claim → Kind
+kindBy page t claim.Blank = Blank
+kindBy page t claim.Foreign = Foreign
+kindBy page t claim.Damaged = Damaged
+kindBy page t (claim.Header s o) = headerOf page t s o
+kindBy page t (claim.Data s o c n) = Data s o c n
+
+-- the kind of a page of a layout
+unfoldable pub kindOf : Layout → List ℕ → Kind
+kindOf l page = kindBy page (tagsOf (tagBytes l page)) (claimOn l page)
+
+-- the kind of page i; one that is not in the dump says nothing, as a blank one
+unfoldable pub kindAt : Layout → List ℕ → ℕ → Kind
+kindAt l dump i = pick (pageIn l (length dump) i) (kindOf l (pageAt l dump i)) Blank

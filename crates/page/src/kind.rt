@@ -1,0 +1,127 @@
+// The kind of a page, with the values that a record has.
+ghost use mathlib.Core.Path.{_≡_};
+ghost use mathlib.Core.Bool.{true};
+ghost use Prim.Native.Nat.{_≤_};
+ghost use lib.ListN.{length};
+ghost use Rattle.page.specs.Layouts.{pageLen, roomy};
+ghost use Rattle.page.specs.Kinds.{badType, typeDiffers, headerOf, kindBy, kindOf, kindAt};
+use crate::layout::Layout;
+use crate::number::ChunkNumber;
+use crate::number::ObjectId;
+use crate::number::PageNumber;
+use crate::tags::Claim;
+use crate::tags::Tags;
+use crate::tags::page_at;
+use crate::word::word_at;
+
+pub enum Kind {
+    Blank,
+    Foreign,
+    Damaged,
+    Header {
+        sequence: u32,
+        object: ObjectId,
+        page_type: u32,
+        parent: ObjectId,
+        size: u32,
+        shrink: bool,
+    },
+    Data {
+        sequence: u32,
+        object: ObjectId,
+        chunk: ChunkNumber,
+        count: u32,
+    },
+}
+
+// Where a header has what its record says.
+pub const AT_TYPE: usize = 0x0;
+pub const AT_PARENT: usize = 0x4;
+pub const AT_SIZE: usize = 0x124;
+pub const AT_SHRINK: usize = 0x1DC;
+
+// Whether a page type is none of the five.
+fn bad_type(page_type: u32) -> bool
+    ensures { λ r. ⌜ r ≡ badType «page_type» ⌝ }
+{
+    if page_type == 0 {
+        return true;
+    }
+    5 < page_type
+}
+
+// Whether the tags have a type, and it differs from the page's.
+fn type_differs(t: Tags, page_type: u32) -> bool
+    ensures { λ r. ⌜ r ≡ typeDiffers t «page_type» ⌝ }
+{
+    if t.chunk < Tags::TOP {
+        return false;
+    }
+    t.object / Tags::IDS != page_type
+}
+
+// A header by its tags, with the tests on its types.
+fn header_kind(page: &[u8], t: Tags, sequence: u32, object: ObjectId) -> Kind
+    requires { ⌜ 480 ≤ length (now page) ⌝ }
+    ensures { λ r. ⌜ r ≡ headerOf (now (page .entry)) t sequence object ⌝ }
+{
+    let page_type = word_at(page, AT_TYPE);
+    if bad_type(page_type) {
+        return Kind::Damaged;
+    }
+    if type_differs(t, page_type) {
+        return Kind::Damaged;
+    }
+    Kind::Header {
+        sequence,
+        object,
+        page_type,
+        parent: ObjectId(word_at(page, AT_PARENT)),
+        size: word_at(page, AT_SIZE),
+        shrink: word_at(page, AT_SHRINK) != 0,
+    }
+}
+
+// The kind of a page whose tags say this.
+fn kind_by(page: &[u8], t: Tags, claim: Claim) -> Kind
+    requires { ⌜ 480 ≤ length (now page) ⌝ }
+    ensures { λ r. ⌜ r ≡ kindBy (now (page .entry)) t claim ⌝ }
+{
+    match claim {
+        Claim::Blank => Kind::Blank,
+        Claim::Foreign => Kind::Foreign,
+        Claim::Damaged => Kind::Damaged,
+        Claim::Header { sequence, object } => header_kind(page, t, sequence, object),
+        Claim::Data {
+            sequence,
+            object,
+            chunk,
+            count,
+        } => Kind::Data {
+            sequence,
+            object,
+            chunk,
+            count,
+        },
+    }
+}
+
+// The kind of a page.
+fn page_kind(page: &[u8], l: Layout) -> Kind
+    requires { ⌜ roomy l ≡ true ⌝ }
+    requires { ⌜ length (now page) ≡ pageLen l ⌝ }
+    ensures { λ r. ⌜ r ≡ kindOf l (now (page .entry)) ⌝ }
+{
+    let t = Tags::of_page(page, l);
+    kind_by(page, t, t.claim(l.data))
+}
+
+// The kind of page n; a page that is not in the dump says nothing, as a blank one.
+pub fn kind_at(dump: &[u8], l: Layout, n: PageNumber) -> Kind
+    ensures { λ r. ⌜ r ≡ kindAt l (now (dump .entry)) (n .0) ⌝ }
+{
+    if !l.holds(dump.len(), n) {
+        return Kind::Blank;
+    }
+    page_kind(page_at(dump, l, n), l)
+}
