@@ -2,14 +2,18 @@
 use Prim.Native.Nat.{ℕ, suc, _+_, _*_, _/_, _%_, _<_, _≤_}
 use mathlib.Core.Bool.{Bool, true, false, not, _&&_}
 use mathlib.Core.Path.{_≡_, refl, sym, ap, _∙_}
-use native.Mathlib.Nat.{suc-mul, mul-le-mul-right, div-mul-le-self, div-lt-iff-lt-mul, div-le-self}
+use mathlib.Core.Logic.{_↔_}
+use native.Mathlib.Nat.{suc-mul, mul-le-mul-right, div-mul-le-self, div-lt-iff-lt-mul, div-le-self, le-div-iff-mul-le}
 use native.Mathlib.Omega.{arith}
 use lib.Dec.{leb, ltb, eqb}
-use borrow.Author.Tests.{leb-true, eqb-false, not-true}
+use borrow.Author.Tests.{leb-true, leb-false, ltb-true, ltb-false, le-leb, lt-leb, eqb-false, not-true, not-false}
 use Rattle.page.specs.Layouts.{pageLen, roomy, numberOf}
 use Rattle.page.specs.Lengths.{mostBytes, blockFits, lengthFits, wholeBlocks, pageCount, pageIn, openedOf}
 use Rattle.page.specs.declared.layout.Layout.{Layout}
-use Rattle.page.proofs.Layouts.{and-left, and-right, roomy-facts}
+use Rattle.page.specs.declared.layout.Opened.the-variants.{Pages, Refused}
+use Rattle.page.specs.declared.refusal.Refusal.{Refusal}
+use Rattle.page.proofs.Layouts.{and-left, and-right, roomy-facts, listed-roomy}
+use Rattle.page.proofs.Searching.{pick-cases, by-test}
 
 pub block-some : (k : ℕ) → blockFits k ≡ true → 0 < k
 unfolding blockFits
@@ -37,3 +41,51 @@ unfolding pageIn
 page-within l n i e =
     let b = leb (i * pageLen l + pageLen l) n in
     record { room = and-left (roomy l) b e; ends = leb-true _ _ (and-right (roomy l) b e) }
+
+-- what an accepted dump has
+pub record Open (l : Layout) (k n m : ℕ) : Type 0 where
+  pub listed : numberOf l < 13
+  pub room : roomy l ≡ true
+  pub block : blockFits k ≡ true
+  pub long : lengthFits n ≡ true
+  pub whole : wholeBlocks l k n ≡ true
+  pub pages : pageCount l n ≡ m
+
+pub opened-facts : (l : Layout) (k n m : ℕ) → openedOf l k n ≡ Pages m → Open l k n m
+unfolding openedOf
+opened-facts l k n m e =
+    pick-cases (leb 13 (numberOf l)) _ _ _ _ e (λ _ q. refused q)
+    (λ h₁ e₁. pick-cases (not (blockFits k)) _ _ _ _ e₁ (λ _ q. refused q)
+    (λ h₂ e₂. pick-cases (not (lengthFits n)) _ _ _ _ e₂ (λ _ q. refused q)
+    (λ h₃ e₃. pick-cases (not (wholeBlocks l k n)) _ _ _ _ e₃ (λ _ q. refused q)
+    (λ h₄ e₄.
+    let a = leb-false 13 (numberOf l) h₁ in
+    record {
+      listed = a;
+      room = listed-roomy l a;
+      block = not-false _ h₂;
+      long = not-false _ h₃;
+      whole = not-false _ h₄;
+      pages = cc;
+    }))))
+  where
+    refused : {r : Refusal} → Refused r ≡ Pages m → Open l k n m
+    refused q = let z : _≡_ {A = ℕ} 0 1 = cc in absurd (omega arith)
+
+-- a dump has fewer than 2^31 pages
+pub opened-most : (l : Layout) (k n m : ℕ) → openedOf l k n ≡ Pages m → m ≤ mostBytes
+opened-most l k n m e =
+    let f = opened-facts l k n m e in
+    omega (arith, f .pages, length-most n (f .long), div-le-self n (pageLen l))
+
+-- the pages of a dump are those below its page count, for any layout with room
+pub page-in : (l : Layout) (n i : ℕ) → roomy l ≡ true → pageIn l n i ≡ ltb i (pageCount l n)
+unfolding pageIn
+page-in l n i h =
+    let f = roomy-facts l h in
+    let d : (suc i ≤ n / pageLen l) ↔ (suc i * pageLen l ≤ n) = le-div-iff-mul-le (omega arith) in
+    let e : (n / pageLen l < suc i) ↔ (n < suc i * pageLen l) = div-lt-iff-lt-mul (omega arith) in
+    let m = suc-mul i (pageLen l) in
+    by-test (ltb i (pageCount l n)) _
+    (λ t. rw (h, t, le-leb (i * pageLen l + pageLen l) n (omega (arith, d .0 (ltb-true i (pageCount l n) t)))))
+    (λ t. rw (h, t, lt-leb (i * pageLen l + pageLen l) n (omega (arith, e .0 (omega (arith, ltb-false i (pageCount l n) t))))))

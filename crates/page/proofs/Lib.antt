@@ -3,3 +3,5 @@ pub mod Searching
 pub mod Layouts
 pub mod Lengths
 pub mod Pages
+pub mod Sound
+pub mod Counting

@@ -6,15 +6,19 @@ use lib.ListN.{length}
 use lib.Dec.{eqb, ltb}
 use Rattle.page.specs.Choice.{pick}
 use Rattle.page.specs.Words.{le32}
-use Rattle.page.specs.Lengths.{pageIn}
+use Rattle.page.specs.Lengths.{pageIn, placedOf}
 use Rattle.page.specs.Pages.{pageAt}
 use Rattle.page.specs.Tags.{tagsOf, tagBytes, isTyped, typeIn, claimOn}
 use Rattle.page.specs.Headers.{atType, atParent, atSize, atShrink}
 use Rattle.page.specs.declared.layout.Layout.{Layout}
+use Rattle.page.specs.declared.layout.Placed.{Placed}
+use Rattle.page.specs.declared.layout.Placed.the-variants as placed
 use Rattle.page.specs.declared.number.ObjectId.{ObjectId}
 use Rattle.page.specs.declared.tags.Tags.{Tags}
 use Rattle.page.specs.declared.tags.Claim.{Claim}
 use Rattle.page.specs.declared.tags.Claim.the-variants as claim
+use Rattle.page.specs.declared.kind.Told.{Told}
+use Rattle.page.specs.declared.kind.Told.the-variants as told
 use Rattle.page.specs.declared.kind.Kind.{Kind}
 use Rattle.page.specs.declared.kind.Kind.the-variants.{Blank, Foreign, Damaged, Header, Data}
 
@@ -48,3 +52,12 @@ kindOf l page = kindBy page (tagsOf (tagBytes l page)) (claimOn l page)
 -- the kind of page i; one that is not in the dump says nothing, as a blank one
 unfoldable pub kindAt : Layout → List ℕ → ℕ → Kind
 kindAt l dump i = pick (pageIn l (length dump) i) (kindOf l (pageAt l dump i)) Blank
+
+-- the kind where the page is placed
+unfoldable pub toldIn : Placed → Kind → Told
+toldIn (placed.Refused r) k = told.Refused r
+toldIn placed.Here k = told.Kind k
+
+-- the kind of page i of a dump of a named layout in blocks of k
+unfoldable pub toldOf : Layout → ℕ → List ℕ → ℕ → Told
+toldOf l k dump i = toldIn (placedOf l k (length dump) i) (kindAt l dump i)

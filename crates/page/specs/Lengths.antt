@@ -7,7 +7,10 @@ use Rattle.page.specs.Layouts.{pageLen, roomy, numberOf}
 use Rattle.page.specs.declared.layout.Layout.{Layout}
 use Rattle.page.specs.declared.layout.Opened.{Opened}
 use Rattle.page.specs.declared.layout.Opened.the-variants.{Pages, Refused}
-use Rattle.page.specs.declared.refusal.Refusal.the-variants.{BadLayout, BadLength}
+use Rattle.page.specs.declared.layout.Placed.{Placed}
+use Rattle.page.specs.declared.layout.Placed.the-variants.{Here}
+use Rattle.page.specs.declared.layout.Placed.the-variants as placed
+use Rattle.page.specs.declared.refusal.Refusal.the-variants.{BadLayout, BadLength, BadPage}
 
 -- the most bytes of a dump
 abbrev pub mostBytes : ℕ
@@ -37,6 +40,15 @@ openedOf l k n =
     (pick (not (lengthFits n)) (Refused BadLength)
     (pick (not (wholeBlocks l k n)) (Refused BadLength)
     (Pages (pageCount l n)))))
+
+-- page i where the dump has so many pages: 0 to count - 1
+unfoldable pub placedIn : Opened → ℕ → Placed
+placedIn (Refused r) i = placed.Refused r
+placedIn (Pages count) i = pick (leb count i) (placed.Refused BadPage) Here
+
+-- page i of such a dump
+unfoldable pub placedOf : Layout → ℕ → ℕ → ℕ → Placed
+placedOf l k n i = placedIn (openedOf l k n) i
 
 -- whether page i lies in a dump of n bytes, with room for a header and for tags
 unfoldable pub pageIn : Layout → ℕ → ℕ → Bool

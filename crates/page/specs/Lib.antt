@@ -9,3 +9,5 @@ pub mod Pages
 pub mod Tags
 pub mod Headers
 pub mod Kinds
+pub mod Counts
+pub mod Asked

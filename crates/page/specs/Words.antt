@@ -10,3 +10,11 @@ wordOf a b c d = a + b * 256 + c * 65536 + d * 16777216
 -- the word of the 4 bytes at `at`
 unfoldable pub le32 : List ℕ → ℕ → ℕ
 le32 s at = wordOf (getD s at 0) (getD s (at + 1) 0) (getD s (at + 2) 0) (getD s (at + 3) 0)
+
+-- the 16-bit number of the 2 bytes at `at`
+unfoldable pub le16 : List ℕ → ℕ → ℕ
+le16 s at = getD s at 0 + getD s (at + 1) 0 * 256
+
+-- the 64-bit number of the 8 bytes at `at`
+unfoldable pub le64 : List ℕ → ℕ → ℕ
+le64 s at = le32 s at + le32 s (at + 4) * 4294967296

@@ -4,11 +4,14 @@ ghost use mathlib.Core.Bool.{true};
 ghost use Prim.Native.Nat.{_≤_};
 ghost use lib.ListN.{length};
 ghost use Rattle.page.specs.Layouts.{pageLen, roomy};
-ghost use Rattle.page.specs.Kinds.{badType, typeDiffers, headerOf, kindBy, kindOf, kindAt};
+ghost use Rattle.page.specs.Kinds.{badType, typeDiffers, headerOf, kindBy, kindOf, kindAt, toldOf};
+use crate::fields::Fields;
 use crate::layout::Layout;
+use crate::layout::Placed;
 use crate::number::ChunkNumber;
 use crate::number::ObjectId;
 use crate::number::PageNumber;
+use crate::refusal::Refusal;
 use crate::tags::Claim;
 use crate::tags::Tags;
 use crate::tags::page_at;
@@ -33,12 +36,6 @@ pub enum Kind {
         count: u32,
     },
 }
-
-// Where a header has what its record says.
-pub const AT_TYPE: usize = 0x0;
-pub const AT_PARENT: usize = 0x4;
-pub const AT_SIZE: usize = 0x124;
-pub const AT_SHRINK: usize = 0x1DC;
 
 // Whether a page type is none of the five.
 fn bad_type(page_type: u32) -> bool
@@ -65,7 +62,7 @@ fn header_kind(page: &[u8], t: Tags, sequence: u32, object: ObjectId) -> Kind
     requires { ⌜ 480 ≤ length (now page) ⌝ }
     ensures { λ r. ⌜ r ≡ headerOf (now (page .entry)) t sequence object ⌝ }
 {
-    let page_type = word_at(page, AT_TYPE);
+    let page_type = word_at(page, Fields::TYPE);
     if bad_type(page_type) {
         return Kind::Damaged;
     }
@@ -76,9 +73,9 @@ fn header_kind(page: &[u8], t: Tags, sequence: u32, object: ObjectId) -> Kind
         sequence,
         object,
         page_type,
-        parent: ObjectId(word_at(page, AT_PARENT)),
-        size: word_at(page, AT_SIZE),
-        shrink: word_at(page, AT_SHRINK) != 0,
+        parent: ObjectId(word_at(page, Fields::PARENT)),
+        size: word_at(page, Fields::FILE_SIZE),
+        shrink: word_at(page, Fields::SHRINK) != 0,
     }
 }
 
@@ -107,7 +104,7 @@ fn kind_by(page: &[u8], t: Tags, claim: Claim) -> Kind
 }
 
 // The kind of a page.
-fn page_kind(page: &[u8], l: Layout) -> Kind
+fn kind_on(page: &[u8], l: Layout) -> Kind
     requires { ⌜ roomy l ≡ true ⌝ }
     requires { ⌜ length (now page) ≡ pageLen l ⌝ }
     ensures { λ r. ⌜ r ≡ kindOf l (now (page .entry)) ⌝ }
@@ -123,5 +120,22 @@ pub fn kind_at(dump: &[u8], l: Layout, n: PageNumber) -> Kind
     if !l.holds(dump.len(), n) {
         return Kind::Blank;
     }
-    page_kind(page_at(dump, l, n), l)
+    kind_on(page_at(dump, l, n), l)
+}
+
+// The kind of a page, or why there is none.
+pub enum Told {
+    Kind(Kind),
+    Refused(Refusal),
+}
+
+// The kind of page n of a dump of a named layout in blocks of k.
+pub fn page_kind(dump: &[u8], l: Layout, k: u32, n: PageNumber) -> Told
+    ensures { λ r. ⌜ r ≡ toldOf l k (now (dump .entry)) (n .0) ⌝ }
+{
+    let p = l.placed(dump.len(), k, n);
+    match p {
+        Placed::Refused(r) => Told::Refused(r),
+        Placed::Here => Told::Kind(kind_at(dump, l, n)),
+    }
 }

@@ -3,7 +3,7 @@ ghost use mathlib.Core.Path.{_≡_};
 ghost use Prim.Native.Nat.{_+_, _<_, _^_};
 ghost use mathlib.Core.Bool.{true};
 ghost use Rattle.page.specs.Layouts.{layoutAt, byNumber, bySizes, hasSizes, numberOf, numberOfSizes, pageLen, tagPlace, roomy};
-ghost use Rattle.page.specs.Lengths.{blockFits, lengthFits, wholeBlocks, pageIn, openedOf};
+ghost use Rattle.page.specs.Lengths.{blockFits, lengthFits, wholeBlocks, pageIn, openedOf, placedOf};
 use crate::number::PageNumber;
 use crate::refusal::Refusal;
 
@@ -22,6 +22,12 @@ pub enum Named {
 // How many pages a dump has, or why it is none.
 pub enum Opened {
     Pages(u32),
+    Refused(Refusal),
+}
+
+// That a page is in a dump, or why not.
+pub enum Placed {
+    Here,
     Refused(Refusal),
 }
 
@@ -205,5 +211,21 @@ impl Layout {
             return Opened::Refused(Refusal::BadLength);
         }
         Opened::Pages((len / self.page_len()) as u32)
+    }
+
+    // Whether page n is in a dump of this length in blocks of k, or why not.
+    pub fn placed(self, len: usize, k: u32, n: PageNumber) -> Placed
+        ensures { λ r. ⌜ r ≡ placedOf self k len (n .0) ⌝ }
+    {
+        let o = self.opened(len, k);
+        match o {
+            Opened::Refused(r) => Placed::Refused(r),
+            Opened::Pages(count) => {
+                if count <= n.0 {
+                    return Placed::Refused(Refusal::BadPage);
+                }
+                Placed::Here
+            }
+        }
     }
 }

@@ -1,7 +1,10 @@
 // The pages of a dump: layouts, tags, page kinds, header fields, counts and the finding of the layout.
+pub mod count;
+pub mod fields;
+pub mod header;
+pub mod kind;
+pub mod layout;
 pub mod number;
 pub mod refusal;
-pub mod layout;
-mod word;
 pub mod tags;
-pub mod kind;
+mod word;

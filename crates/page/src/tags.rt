@@ -43,6 +43,7 @@ impl Tags {
     pub const BLANK: u32 = 0xFFFF_FFFF;
     // The least and the largest sequence of a record.
     pub const LEAST: u32 = 0x1000;
+
     pub const MOST: u32 = 0xEFFF_FF00;
     // From this chunk word on the top bit is set.
     pub const TOP: u32 = 0x8000_0000;

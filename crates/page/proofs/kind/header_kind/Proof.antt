@@ -19,15 +19,16 @@ unfolding headerOf
 returns-3 c =
     let d = c .before .before .before in
     let b = d .before .before in
-    rw
-    (← b .before .before .word-at .ensures,
-    ← b .before .bad-type .ensures,
-    b .if1 .left,
-    ← d .before .type-differs .ensures,
-    d .if2 .left,
-    ← c .before .before .word-at2 .ensures,
-    ← c .before .word-at3 .ensures,
-    ← c .word-at4 .ensures)
+    rw (
+      ← b .before .before .word-at .ensures,
+      ← b .before .bad-type .ensures,
+      b .if1 .left,
+      ← d .before .type-differs .ensures,
+      d .if2 .left,
+      ← c .before .before .word-at2 .ensures,
+      ← c .before .word-at3 .ensures,
+      ← c .word-at4 .ensures,
+    )
 
 pub header-kind-spec : {M : Type 1} → statement M
 header-kind-spec = tie.close (tie.spec (search needs) (search needs) returns (search needs) returns-2 (search needs) (search needs) (search needs) returns-3)

@@ -23,15 +23,15 @@ returns c = rw (← c .before .holds .ensures, not-true (c .before .holds .resul
 page-at-requires : tie.Need-page-at-requires
 page-at-requires c κs = lies c
 
-page-kind-requires : tie.Need-page-kind-requires
-page-kind-requires c κs =
+kind-on-requires : tie.Need-kind-on-requires
+kind-on-requires c κs =
     let s = c .before .before .before .before .args in
     let h = lies (c .before) in
     (page-within (s .l) (length (s .dump .now)) (s .n .0) h .room, ap length (c .page-at .ensures) ∙ page-length (s .l) (s .dump .now) (s .n .0) h)
 
 returns-2 : tie.Need-returns-2
 unfolding kindAt
-returns-2 c = rw (lies (c .before .before), ← c .before .page-at .ensures) (c .page-kind .ensures)
+returns-2 c = rw (lies (c .before .before), ← c .before .page-at .ensures) (c .kind-on .ensures)
 
 pub kind-at-spec : {M : Type 1} → statement M
-kind-at-spec = tie.close (tie.spec (search needs) returns page-at-requires page-kind-requires returns-2)
+kind-at-spec = tie.close (tie.spec (search needs) returns page-at-requires kind-on-requires returns-2)

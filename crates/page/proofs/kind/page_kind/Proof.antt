@@ -1,21 +1,16 @@
--- The tags are read once, and say which kind the page is.
-use mathlib.Core.Path.{ap}
-use native.Mathlib.Omega.{arith}
+-- Each arm of the match is a case of the definition.
 use borrow.Author.Needs.{needs}
-use Rattle.page.specs.Kinds.{kindOf}
-use Rattle.page.specs.Tags.{claimOn}
-use Rattle.page.proofs.Layouts.{roomy-facts}
+use Rattle.page.specs.Kinds.{toldOf, toldIn}
 use Rattle.page.proofs.kind.page_kind.Statement.{statement}
 use Rattle.page.proofs.kind.page_kind.Tie as tie
 
-kind-by-requires : tie.Need-kind-by-requires
-kind-by-requires c κs =
-    let s = c .before .before .before in
-    omega (arith, roomy-facts (s .args .l) (s .pre .0))
-
 returns : tie.Need-returns
-unfolding kindOf claimOn
-returns c = rw (← c .before .before .of-page .ensures, ← c .before .claim .ensures) (c .kind-by .ensures)
+unfolding toldOf toldIn
+returns c = rw (← c .before .before .before .placed .ensures, c .before .p .given .1)
+
+returns-2 : tie.Need-returns-2
+unfolding toldOf toldIn
+returns-2 c = rw (← c .before .before .before .placed .ensures, c .before .enum-told .given .1, c .kind-at .ensures)
 
 pub page-kind-spec : {M : Type 1} → statement M
-page-kind-spec = tie.close (tie.spec (λ c κs. search needs) (search needs) kind-by-requires returns)
+page-kind-spec = tie.close (tie.spec (search needs) (search needs) (search needs) (search needs) returns returns-2)

@@ -1,0 +1,71 @@
+-- Laws of the counts of pages by kind: kinds exclude each other, so the counts add up.
+use Prim.Native.Nat.{ℕ, zero, suc, _+_, _/_, _≤_}
+use mathlib.Core.Bool.{Bool, true, false}
+use mathlib.Core.List.{List}
+use mathlib.Core.Path.{_≡_, refl}
+use native.Mathlib.Nat.{le-trans}
+use native.Mathlib.Numerals.{add-one}
+use native.Mathlib.Omega.{arith}
+use lib.ListN.{length}
+use Rattle.page.specs.Search.{count, more}
+use Rattle.page.specs.Layouts.{pageLen}
+use Rattle.page.specs.Lengths.{pageCount}
+use Rattle.page.specs.Kinds.{kindAt}
+use Rattle.page.specs.Counts.{countsBelow, withKind, AtMost, isBlank, isForeign, isDamaged, isHeader, isData}
+use Rattle.page.specs.declared.layout.Layout.{Layout}
+use Rattle.page.specs.declared.count.Counts.{Counts}
+use Rattle.page.specs.declared.kind.Kind.{Kind}
+use Rattle.page.specs.declared.kind.Kind.the-variants.{Blank, Foreign, Damaged, Header, Data}
+use Rattle.page.proofs.Searching.{count-le}
+
+-- one where a test holds
+abbrev pub one : Bool → ℕ
+one b = more b 0
+
+-- every kind passes exactly one of the five tests: kinds exclude each other
+pub one-kind : (k : Kind) → one (isBlank k) + one (isForeign k) + one (isDamaged k) + one (isHeader k) + one (isData k) ≡ 1
+one-kind Blank = refl
+one-kind Foreign = refl
+one-kind Damaged = refl
+one-kind (Header s o t p z m) = refl
+one-kind (Data s o c n) = refl
+
+module _ (l : Layout) (dump : List ℕ) where
+  -- the next page counted too
+  pub counts-next : (n : ℕ) → countsBelow l dump (n + 1) ≡ withKind (countsBelow l dump n) (kindAt l dump n)
+  unfolding countsBelow count
+  counts-next n = rw add-one
+
+  -- no count is above the number of pages counted
+  pub counts-at-most : (n m : ℕ) (c : Counts) → c ≡ countsBelow l dump n → n ≤ m → AtMost m c
+  unfolding countsBelow
+  counts-at-most n m c e h =
+      rw e record {
+        blanks = le-trans (count-le _ n) h;
+        foreigns = le-trans (count-le _ n) h;
+        damageds = le-trans (count-le _ n) h;
+        header = le-trans (count-le _ n) h;
+        datas = le-trans (count-le _ n) h;
+      }
+
+-- the sum of the five counts
+abbrev pub total : Counts → ℕ
+total c = c .blank + c .foreign + c .damaged + c .headers + c .«data»
+
+-- one page more is one more in all
+total-with : (c : Counts) (k : Kind) → total (withKind c k) ≡ total c + 1
+total-with c Blank = omega arith
+total-with c Foreign = omega arith
+total-with c Damaged = omega arith
+total-with c (Header s o t p z m) = omega arith
+total-with c (Data s o n b) = omega arith
+
+-- the five counts of the first n pages add up to n
+pub adds-up : (l : Layout) (dump : List ℕ) (n : ℕ) → total (countsBelow l dump n) ≡ n
+unfolding countsBelow count
+adds-up l dump zero = refl
+adds-up l dump (suc n) = omega (arith, total-with (countsBelow l dump n) (kindAt l dump n), adds-up l dump n)
+
+-- those of a dump add up to its length / (P + S), for any P and S
+pub counts-add-up : (l : Layout) (dump : List ℕ) → total (countsBelow l dump (pageCount l (length dump))) ≡ length dump / (l .«data» + l .spare)
+counts-add-up l dump = adds-up l dump (pageCount l (length dump))

@@ -1,0 +1,90 @@
+// The header fields of a page of a dump.
+ghost use mathlib.Core.Path.{_≡_};
+ghost use mathlib.Core.Bool.{true};
+ghost use Prim.Native.Nat.{_≤_};
+ghost use lib.ListN.{length};
+ghost use Rattle.page.specs.Lengths.{pageIn};
+ghost use Rattle.page.specs.Counts.{isHeader};
+ghost use Rattle.page.specs.Asked.{askedOf, headedOf, textAt};
+use crate::fields::Fields;
+use crate::fields::Text;
+use crate::kind::Kind;
+use crate::kind::Told;
+use crate::kind::page_kind;
+use crate::layout::Layout;
+use crate::number::PageNumber;
+use crate::refusal::Refusal;
+use crate::tags::page_at;
+
+// That a page is a header, or why its fields are refused.
+enum Asked {
+    Header,
+    Refused(Refusal),
+}
+
+// The numbers of a header, or why there are none.
+pub enum Headed {
+    Fields(Fields),
+    Refused(Refusal),
+}
+
+// Whether a page is a header.
+fn is_header(k: Kind) -> bool
+    ensures { λ r. ⌜ r ≡ isHeader k ⌝ }
+{
+    let Kind::Header {
+        sequence: _,
+        object: _,
+        page_type: _,
+        parent: _,
+        size: _,
+        shrink: _,
+    } = k
+    else {
+        return false;
+    };
+    true
+}
+
+// Whether the fields of page n can be read.
+fn ask_header(dump: &[u8], l: Layout, k: u32, n: PageNumber) -> Asked
+    ensures { λ r. ⌜ r ≡ askedOf l k (now (dump .entry)) (n .0) ⌝ }
+{
+    let t = page_kind(dump, l, k, n);
+    match t {
+        Told::Refused(r) => Asked::Refused(r),
+        Told::Kind(kind) => {
+            if is_header(kind) {
+                return Asked::Header;
+            }
+            Asked::Refused(Refusal::NotHeader)
+        }
+    }
+}
+
+// The header fields of page n that are numbers.
+pub fn header(dump: &[u8], l: Layout, k: u32, n: PageNumber) -> Headed
+    ensures { λ r. ⌜ r ≡ headedOf l k (now (dump .entry)) (n .0) ⌝ }
+{
+    let a = ask_header(dump, l, k, n);
+    match a {
+        Asked::Refused(r) => Headed::Refused(r),
+        Asked::Header => Headed::Fields(Fields::of_page(page_at(dump, l, n))),
+    }
+}
+
+// A header field of page n that is bytes, as a part of the dump; an empty part where `header` refuses.
+pub fn header_text(dump: &[u8], l: Layout, k: u32, n: PageNumber, f: Text) -> &[u8]
+    ensures { λ r. ⌜ now r ≡ textAt f l k (now (dump .entry)) (n .0) ⌝ }
+{
+    let a = ask_header(dump, l, k, n);
+    match a {
+        Asked::Refused(_) => &dump[..0],
+        Asked::Header => {
+            let page = page_at(dump, l, n);
+            let from = f.place();
+            let end = from + f.length();
+            &page[from..end]
+        }
+    }
+}
