@@ -1,0 +1,6 @@
+pub mod Gather
+pub mod Records
+pub mod Newest
+pub mod Cuts
+pub mod Sizes
+pub mod Lookups

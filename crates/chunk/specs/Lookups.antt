@@ -1,0 +1,75 @@
+-- What the lookups of an object answer (document 01, "Newest, size and cuts", "Index" for the visits, and the refusal table), over what each page says.
+use Prim.Native.Nat.{ℕ, _+_, _-_, min}
+use mathlib.Core.Bool.{Bool, true, false}
+use mathlib.Core.Option.{Option, none, some}
+use lib.Dec.{eqb, leb}
+use Rattle.page.specs.Choice.{pick}
+use Rattle.page.specs.Numbers.{badObject, badChunk}
+use Rattle.page.specs.declared.kind.Kind.{Kind}
+use Rattle.page.specs.declared.refusal.Refusal.the-variants.{BadObject, BadChunk, NoObject, NoHeader, Deleted, NotAFile, PastEnd}
+use Rattle.chunk.specs.Records.{ageOf, isGone, isFile, countOf, baseOf}
+use Rattle.chunk.specs.Newest.{newestHeader, newestCopy, since, records}
+use Rattle.chunk.specs.Cuts.{lowestCut}
+use Rattle.chunk.specs.Sizes.{sizeOf}
+use Rattle.chunk.specs.declared.answer.File.{File}
+use Rattle.chunk.specs.declared.answer.File.the-variants as file
+use Rattle.chunk.specs.declared.answer.Sized.{Sized}
+use Rattle.chunk.specs.declared.answer.Sized.the-variants as sized
+use Rattle.chunk.specs.declared.answer.Looked.{Looked}
+use Rattle.chunk.specs.declared.answer.Looked.the-variants as looked
+
+module _ (says : ℕ → Kind) (o n : ℕ) where
+  -- the records visited from the newest down to page p
+  abbrev pub downTo : ℕ → ℕ
+  downTo p = since says o (ageOf says p) n
+
+  -- by the newest header: none, deleted, no file, or the header of a live file
+  unfoldable pub fileBy : Option ℕ → File
+  fileBy none = file.Refused NoHeader (records says o n)
+  fileBy (some h) =
+      pick (isGone (says h)) (file.Refused Deleted (downTo h))
+      (pick (isFile (says h)) (file.Header (record { 0 = h }) (downTo h))
+      (file.Refused NotAFile (downTo h)))
+
+  -- the live file that object o is, if it is one
+  unfoldable pub fileOf : File
+  fileOf = pick (eqb (records says o n) 0) (file.Refused NoObject 0) (fileBy (newestHeader says o n))
+
+  module _ (P : ℕ) where
+    -- the size of a live file
+    unfoldable pub sizedBy : File → Sized
+    sizedBy (file.Refused r v) = sized.Refused r v
+    sizedBy (file.Header h v) = sized.Size (sizeOf says P o (h .0) n) v
+
+    -- a size lookup
+    unfoldable pub sizedOf : Sized
+    sizedOf = pick (badObject o) (sized.Refused BadObject 0) (sizedBy fileOf)
+
+    module _ (c : ℕ) where
+      -- how many bytes of chunk c the file shows: as many as a page has, or as the size leaves
+      abbrev pub shownOf : ℕ → ℕ
+      shownOf size = min P (size - baseOf P c)
+
+      -- how many bytes of a copy are valid: its byte count, no more than shown, and none behind a later cut
+      abbrev pub validOf : Kind → ℕ → ℕ → ℕ
+      validOf k shown cut = min (countOf k) (min shown (cut - baseOf P c))
+
+      -- the copy q of a live file with newest header h: hidden, and so a hole, if a later header cuts at or below the chunk's begin
+      unfoldable pub copyBy : ℕ → ℕ → Option ℕ → Looked
+      copyBy h size none = looked.Hole (shownOf size) (records says o n)
+      copyBy h size (some q) =
+          pick (leb (lowestCut says o h (ageOf says q) n) (baseOf P c)) (looked.Hole (shownOf size) (records says o n))
+          (looked.Copy (record { 0 = q }) (validOf (says q) (shownOf size) (lowestCut says o h (ageOf says q) n)) (shownOf size)
+          (since says o (min (ageOf says q) (ageOf says h)) n))
+
+      -- chunk c of a live file of a size, which ends before it or not
+      unfoldable pub chunkBy : ℕ → ℕ → ℕ → Looked
+      chunkBy h v size = pick (leb size (baseOf P c)) (looked.Refused PastEnd v 0) (copyBy h size (newestCopy says o c n))
+
+      unfoldable pub lookedBy : File → Looked
+      lookedBy (file.Refused r v) = looked.Refused r v 0
+      lookedBy (file.Header h v) = chunkBy (h .0) v (sizeOf says P o (h .0) n)
+
+      -- a chunk lookup
+      unfoldable pub lookedOf : Looked
+      lookedOf = pick (badObject o) (looked.Refused BadObject 0 0) (pick (badChunk c) (looked.Refused BadChunk 0 0) (lookedBy fileOf))

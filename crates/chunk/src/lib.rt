@@ -1,0 +1,2 @@
+// What a file held last, from the dump alone: newest records, sizes, cuts, chunks and the live list.
+pub mod answer;
