@@ -1,12 +1,13 @@
 -- What the values of a record are bounded by: what the crates above cite, so that they need not see through the definitions.
 -- A record's tags passed every test before the one that made them a header or data, so each limit is the failed test of a worse
 -- kind; the tests on a header's types stand behind those. A page that is not in the dump is blank, so a record's page is in it.
-use Prim.Native.Nat.{ℕ, _+_, _<_, _≤_, _^_}
-use mathlib.Core.Bool.{Bool, true, false, _||_}
+use Prim.Native.Nat.{ℕ, _+_, _*_, _<_, _≤_, _^_}
+use mathlib.Core.Bool.{Bool, true, false, not, _||_}
 use mathlib.Core.List.{List}
 use mathlib.Core.Path.{_≡_, refl, sym, _∙_}
 use lib.Dec.{eqb, ltb}
 use lib.ListN.{length, getD}
+use lib.Seq.{getD-take, getD-drop}
 use native.Mathlib.Omega.{arith}
 use borrow.Author.Tests.{eqb-false, ltb-false, ltb-true, lt-ltb, le-ltb}
 use Rattle.page.specs.Choice.{pick}
@@ -14,18 +15,21 @@ use Rattle.page.specs.Words.{le32}
 use Rattle.page.specs.Numbers.{mostObject, mostChunk, badObject, badChunk}
 use Rattle.page.specs.Lengths.{pageIn, openedOf}
 use Rattle.page.specs.Pages.{pageAt}
-use Rattle.page.specs.Headers.{atType}
+use Rattle.page.specs.Layouts.{pageLen}
+use Rattle.page.specs.Headers.{atType, atParent, atSize, fieldsOf}
 use Rattle.page.specs.Tags.{blankSequence, leastSequence, mostSequence, isTyped, objectIn, tagsOf, tagBytes, headerClaim, dataClaim, claimOf, claimOn}
 use Rattle.page.specs.Kinds.{badType, typeDiffers, headerOf, kindBy, kindOf, kindAt}
 use Rattle.page.specs.declared.layout.Layout.{Layout}
 use Rattle.page.specs.declared.layout.Opened.the-variants.{Pages}
+use Rattle.page.specs.declared.fields.Fields.{Fields}
 use Rattle.page.specs.declared.number.ObjectId.{ObjectId}
 use Rattle.page.specs.declared.number.ChunkNumber.{ChunkNumber}
 use Rattle.page.specs.declared.tags.Tags.{Tags}
 use Rattle.page.specs.declared.tags.Claim.{Claim}
 use Rattle.page.specs.declared.tags.Claim.the-variants as claim
 use Rattle.page.specs.declared.kind.Kind.the-variants.{Blank, Foreign, Damaged, Header, Data}
-use Rattle.page.proofs.Lengths.{opened-facts, page-in}
+use Rattle.page.proofs.Lengths.{opened-facts, page-in, page-within}
+use Rattle.page.proofs.Layouts.{roomy-facts}
 use Rattle.page.proofs.Searching.{pick-cases}
 
 -- neither of two tests that fail together holds
@@ -179,24 +183,36 @@ pub record DataWithin (l : Layout) (dump : List ℕ) (i s : ℕ) (o : ObjectId) 
   pub chunk : Between 1 mostChunk (c .0)
   pub count : Between 1 (l .«data») n
 
--- the tags of a header claim one, and its type is one of the five
-record HeaderBy (r : Claim) (s : ℕ) (o : ObjectId) (t : ℕ) : Type 0 where
+-- a header's values are the fields of its page
+pub record HeaderSays (f : Fields) (t : ℕ) (p : ObjectId) (z : ℕ) (m : Bool) : Type 0 where
+  pub type-is : t ≡ f .«page_type»
+  pub parent-is : p .0 ≡ f .parent
+  pub size-is : z ≡ f .«file_size»
+  pub mark-is : m ≡ not (eqb (f .shrink) 0)
+
+-- the tags of a header claim one, its type is one of the five, and its page says its values
+record HeaderBy (page : List ℕ) (r : Claim) (s : ℕ) (o : ObjectId) (t : ℕ) (p : ObjectId) (z : ℕ) (m : Bool) : Type 0 where
   claimed : r ≡ claim.Header s o
   page-type : Between 1 5 t
+  says : HeaderSays (fieldsOf page) t p z m
 
 module _ (page : List ℕ) (t : Tags) where
   module _ (s : ℕ) (o : ObjectId) (y : ℕ) (p : ObjectId) (z : ℕ) (m : Bool) where
-    header-by : (r : Claim) → kindBy page t r ≡ Header s o y p z m → HeaderBy r s o y
-    unfolding kindBy headerOf
+    header-by : (r : Claim) → kindBy page t r ≡ Header s o y p z m → HeaderBy page r s o y p z m
+    unfolding kindBy headerOf fieldsOf
     header-by claim.Blank e = clash (cc)
     header-by claim.Foreign e = clash (cc)
     header-by claim.Damaged e = clash (cc)
     header-by (claim.Header s′ o′) e =
-        pick-cases (badType (le32 page atType)) _ _ _ (HeaderBy (claim.Header s′ o′) s o y) e (λ _ q. clash (cc))
-        (λ h e₁. pick-cases (typeDiffers t (le32 page atType)) _ _ _ (HeaderBy (claim.Header s′ o′) s o y) e₁ (λ _ q. clash (cc))
+        pick-cases (badType (le32 page atType)) _ _ _ (HeaderBy page (claim.Header s′ o′) s o y p z m) e (λ _ q. clash (cc))
+        (λ h e₁. pick-cases (typeDiffers t (le32 page atType)) _ _ _ (HeaderBy page (claim.Header s′ o′) s o y p z m) e₁ (λ _ q. clash (cc))
         (λ _ q.
         let a : le32 page atType ≡ y = cc in
-        record { claimed = cc; page-type = rw a at (type-within (le32 page atType) h) }))
+        record {
+          claimed = cc;
+          page-type = rw a at (type-within (le32 page atType) h);
+          says = record { type-is = cc; parent-is = cc; size-is = cc; mark-is = cc };
+        }))
     header-by (claim.Data s′ o′ c n) e = clash (cc)
 
   module _ (s : ℕ) (o : ObjectId) (c : ChunkNumber) (n : ℕ) where
@@ -222,6 +238,19 @@ module _ (l : Layout) (dump : List ℕ) (i : ℕ) where
       let b = header-by (pageAt l dump i) tags s o t p z m (claimOf (l .«data») tags) q in
       let w = header-claimed (l .«data») tags s o (b .claimed) in
       record { page = h; sequence = w .sequence; object = w .object; page-type = b .page-type })
+      (λ _ q. clash (cc))
+
+  -- and are those that `header` gives
+  pub header-says :
+      (s : ℕ) (o : ObjectId) (t : ℕ) (p : ObjectId) (z : ℕ) (m : Bool) →
+      kindAt l dump i ≡ Header s o t p z m →
+      HeaderSays (fieldsOf (pageAt l dump i)) t p z m
+  unfolding kindAt kindOf claimOn
+  header-says s o t p z m e =
+      pick-cases (pageIn l (length dump) i) _ _ _ (HeaderSays (fieldsOf (pageAt l dump i)) t p z m) e
+      (λ _ q.
+      let tags = tagsOf (tagBytes l (pageAt l dump i)) in
+      header-by (pageAt l dump i) tags s o t p z m (claimOf (l .«data») tags) q .says)
       (λ _ q. clash (cc))
 
   -- a data page's values are within their limits
@@ -260,7 +289,43 @@ module _ (l : Layout) (k : ℕ) (dump : List ℕ) (m : ℕ) (e : openedOf l k (l
   pub below-count : (i : ℕ) → pageIn l (length dump) i ≡ true → i < m
   below-count i h = ltb-true i m (sym (opened-in i) ∙ h)
 
--- a word of bytes is below 2^32
-pub word-below : (s : List ℕ) (at : ℕ) → ((i : ℕ) → getD s i 0 < 256) → le32 s at < 2 ^ 32
+-- whether every number of a list is a byte
+abbrev pub AllBytes : List ℕ → Type 0
+AllBytes s = (i : ℕ) → getD s i 0 < 256
+
+-- the bytes of a page are bytes of the dump
+page-byte : (l : Layout) (dump : List ℕ) (i j : ℕ) → AllBytes dump → j < pageLen l → getD (pageAt l dump i) j 0 < 256
+unfolding pageAt
+page-byte l dump i j b h = rw (getD-take, getD-drop) (b (i * pageLen l + j))
+
+-- a word of a page is below 2^32
+pub word-below : (l : Layout) (dump : List ℕ) (i at : ℕ) → AllBytes dump → at + 4 ≤ pageLen l → le32 (pageAt l dump i) at < 2 ^ 32
 unfolding le32
-word-below s at h = omega (arith, h at, h (at + 1), h (at + 2), h (at + 3))
+word-below l dump i at b h =
+    omega (
+      arith,
+      page-byte l dump i at b (omega arith),
+      page-byte l dump i (at + 1) b (omega arith),
+      page-byte l dump i (at + 2) b (omega arith),
+      page-byte l dump i (at + 3) b (omega arith),
+    )
+
+-- a header's parent and size are machine words
+pub record HeaderWords (p : ObjectId) (z : ℕ) : Type 0 where
+  pub parent : p .0 < 2 ^ 32
+  pub size : z < 2 ^ 32
+
+pub header-words :
+    (l : Layout) (dump : List ℕ) (i s : ℕ) (o : ObjectId) (t : ℕ) (p : ObjectId) (z : ℕ) (m : Bool) →
+    AllBytes dump →
+    kindAt l dump i ≡ Header s o t p z m →
+    HeaderWords p z
+unfolding fieldsOf
+header-words l dump i s o t p z m b e =
+    let f = header-says l dump i s o t p z m e in
+    let w = header-within l dump i s o t p z m e in
+    let r = roomy-facts l (page-within l (length dump) i (w .page) .room) in
+    record {
+      parent = rw (f .parent-is) (word-below l dump i atParent b (omega arith));
+      size = rw (f .size-is) (word-below l dump i atSize b (omega arith));
+    }
