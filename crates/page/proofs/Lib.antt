@@ -5,3 +5,4 @@ pub mod Lengths
 pub mod Pages
 pub mod Sound
 pub mod Counting
+pub mod Within
