@@ -1,0 +1,5 @@
+pub mod Cells
+pub mod Slots
+pub mod Chains
+pub mod Additions
+pub mod Held

@@ -1,0 +1,4 @@
+// The index: lent words that hold, for each object, its added records from the newest to the oldest.
+pub mod additions;
+pub mod chains;
+pub mod slots;
