@@ -26,6 +26,12 @@ pub data Trace : Type 0 where
   broken : Trace
   rec : ℕ → Trace → Trace
 
+-- by where the next link leads; the rest is the chain from a page and below its age
+abbrev pub by : Lead → (ℕ → ℕ → Trace) → Trace
+by End rest = clean
+by Damaged rest = broken
+by (Record q a) rest = rec (q .0) (rest (q .0) a)
+
 module _ (n : ℕ) (obj age : ℕ → ℕ) where
   -- where the link w leads in the chain of object o below the age b. It is damaged if it leads outside the dump, to a page that is not a
   -- record of that object, or to one that is not older
@@ -37,19 +43,10 @@ module _ (n : ℕ) (obj age : ℕ → ℕ) where
       (pick (ltb (age (w - 2)) b) (Record (record { 0 = w - 2 }) (age (w - 2)))
       Damaged) Damaged) Damaged)
 
-  -- what a link says, where `rest` is the chain from the page that it leads to
-  unfoldable pub step : ℕ → ℕ → ℕ → Trace → Trace
-  step o b w rest =
-      pick (ltb w 2) clean
-      (pick (ltb (w - 2) n)
-      (pick (eqb (obj (w - 2)) o)
-      (pick (ltb (age (w - 2)) b) (rec (w - 2) rest)
-      broken) broken) broken)
-
   -- the chain of object o below the age b from the link w, by at most so many steps
   unfoldable pub traceBy : List ℕ → ℕ → ℕ → ℕ → ℕ → Trace
-  traceBy c o zero b w = step o b w broken
-  traceBy c o (suc f) b w = let rest = traceBy c o f (age (w - 2)) (word c (linkAt (w - 2))) in step o b w rest
+  traceBy c o zero b w = by (leadOf o b w) (λ q a. broken)
+  traceBy c o (suc f) b w = by (leadOf o b w) (λ q a. traceBy c o f a (word c (linkAt q)))
 
   -- the chain of object o below the age b from the link w. Ages fall along it, so that it has at most b steps
   unfoldable pub trace : List ℕ → ℕ → ℕ → ℕ → Trace
