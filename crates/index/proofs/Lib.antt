@@ -1,3 +1,6 @@
 pub mod Links
 pub mod Records
 pub mod Inserting
+pub mod Counts
+pub mod Probing
+pub mod Holding
