@@ -4,3 +4,5 @@ pub mod Inserting
 pub mod Counts
 pub mod Probing
 pub mod Holding
+pub mod Answers
+pub mod Keeping
