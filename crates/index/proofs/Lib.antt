@@ -6,3 +6,5 @@ pub mod Probing
 pub mod Holding
 pub mod Answers
 pub mod Keeping
+pub mod Lending
+pub mod Ordering
