@@ -4,3 +4,4 @@ pub mod Newest
 pub mod Cuts
 pub mod Sizes
 pub mod Lookups
+pub mod Scans
