@@ -5,3 +5,4 @@ pub mod Cuts
 pub mod Sizes
 pub mod Lookups
 pub mod Scans
+pub mod Answers

@@ -17,8 +17,8 @@ use crate::record::larger;
 use crate::record::order_of;
 use crate::record::sequence_of;
 use crate::record::smaller;
-use page::kind::kind_at;
 use page::kind::Kind;
+use page::kind::kind_at;
 use page::layout::Layout;
 use page::number::ChunkNumber;
 use page::number::ObjectId;
@@ -32,7 +32,9 @@ pub enum Newest {
 
 // The parents of unlinked and of deleted objects, and the type of a file.
 pub const UNLINKED: u32 = 3;
+
 pub const DELETED: u32 = 4;
+
 pub const FILE: u32 = 1;
 // A place behind every file's end, for a header that does not cut.
 pub const NOWHERE: u64 = 18446744073709551615;
@@ -94,7 +96,17 @@ pub fn records_since(dump: &[u8], l: Layout, pages: u32, o: ObjectId, age: u64) 
 }
 
 // The largest end so far, with a data page of object o too if it is newer than an age.
-fn end_with(end: u64, data: u16, o: ObjectId, age: u64, n: PageNumber, sequence: u32, object: ObjectId, chunk: ChunkNumber, count: u32) -> u64
+fn end_with(
+    end: u64,
+    data: u16,
+    o: ObjectId,
+    age: u64,
+    n: PageNumber,
+    sequence: u32,
+    object: ObjectId,
+    chunk: ChunkNumber,
+    count: u32,
+) -> u64
     ensures { λ r. ⌜ r ≡ endWith end «data» (o .0) age (n .0) (dataIn sequence object chunk count) ⌝ }
 {
     if object.0 != o.0 {
@@ -153,7 +165,19 @@ pub fn cut_of(newest: bool, page_type: u32, parent: ObjectId, size: u32, shrink:
 }
 
 // The lowest cut so far, with a header of object o too if it is newer than an age; h is the newest header.
-fn cut_with(cut: u64, o: ObjectId, h: PageNumber, age: u64, n: PageNumber, sequence: u32, object: ObjectId, page_type: u32, parent: ObjectId, size: u32, shrink: bool) -> u64
+fn cut_with(
+    cut: u64,
+    o: ObjectId,
+    h: PageNumber,
+    age: u64,
+    n: PageNumber,
+    sequence: u32,
+    object: ObjectId,
+    page_type: u32,
+    parent: ObjectId,
+    size: u32,
+    shrink: bool,
+) -> u64
     ensures { λ r. ⌜ r ≡ cutWith cut (o .0) (h .0) age (n .0) (headerIn sequence object «page_type» parent size shrink) ⌝ }
 {
     if object.0 != o.0 {
@@ -186,7 +210,19 @@ pub fn lowest_cut(dump: &[u8], l: Layout, pages: u32, o: ObjectId, h: PageNumber
         else {
             continue;
         };
-        cut = cut_with(cut, o, h, age, n, sequence, object, page_type, parent, size, shrink);
+        cut = cut_with(
+            cut,
+            o,
+            h,
+            age,
+            n,
+            sequence,
+            object,
+            page_type,
+            parent,
+            size,
+            shrink,
+        );
     }
     cut
 }

@@ -22,10 +22,11 @@ unfolding cutWith cutOf
 returns-3 c =
     let d = c .before .before .before .before in
     let e = d .before .before in
-    rw
-    (eq-eqb _ _ (e .if1 .left),
-    ← d .before .order-of .ensures,
-    lt-ltb _ _ (d .if2 .left))
+    rw (
+      eq-eqb _ _ (e .if1 .left),
+      ← d .before .order-of .ensures,
+      lt-ltb _ _ (d .if2 .left),
+    )
     (c .smaller .ensures ∙ rw (c .before .cut-of .ensures))
 
 pub cut-with-spec : {M : Type 1} → statement M

@@ -20,11 +20,12 @@ unfolding endWith
 returns-3 c =
     let d = c .before .before in
     let e = d .before .before in
-    rw
-    (eq-eqb _ _ (e .if1 .left),
-    ← d .before .order-of .ensures,
-    lt-ltb _ _ (d .if2 .left),
-    ← c .before .base-of .ensures .0)
+    rw (
+      eq-eqb _ _ (e .if1 .left),
+      ← d .before .order-of .ensures,
+      lt-ltb _ _ (d .if2 .left),
+      ← c .before .base-of .ensures .0,
+    )
     (c .larger .ensures)
 
 pub end-with-spec : {M : Type 1} → statement M

@@ -44,11 +44,12 @@ loop-again-2 c =
     let t : test (says (q .i)) ≡ true =
     rw (← k .kind-at .ensures, ← e .before .is-wanted .ensures) (not-false (e .before .is-wanted .result) (e .if1 .left))
     in
-    let g : c .before .order-of .result ≡ ageOf says (q .i) = rw (← k .kind-at .ensures, ← c .before .before .sequence-of .ensures) (c .before .order-of .ensures) in
-    (search needs,
-    c .or-newer .ensures
-    ∙ rw (q .inv .1, g) (later-in says (q .i) (newest says test (q .i)))
-    ∙ ap (newestIn says) (sym (newest-take says test (q .i) t)))
+    let g : c .before .order-of .result ≡ ageOf says (q .i) = rw (← k .kind-at .ensures, ← c .before .before .sequence-of .ensures) (c .before .order-of .ensures) in (
+      search needs,
+      c .or-newer .ensures
+          ∙ rw (q .inv .1, g) (later-in says (q .i) (newest says test (q .i)))
+          ∙ ap (newestIn says) (sym (newest-take says test (q .i) t)),
+    )
 
 returns : tie.Need-returns Inv-loop μ-loop
 returns c =
