@@ -18,18 +18,22 @@ use Rattle.chunk.specs.declared.answer.Sized.the-variants as sized
 use Rattle.chunk.specs.declared.answer.Looked.{Looked}
 use Rattle.chunk.specs.declared.answer.Looked.the-variants as looked
 
+-- what an object is whose newest header h says k: deleted, no file, or a live file
+unfoldable pub fileAt : Kind → ℕ → ℕ → File
+fileAt k h v =
+    pick (isGone k) (file.Refused Deleted v)
+    (pick (isFile k) (file.Header (record { 0 = h }) v)
+    (file.Refused NotAFile v))
+
 module _ (says : ℕ → Kind) (o n : ℕ) where
   -- the records visited from the newest down to page p
   abbrev pub downTo : ℕ → ℕ
   downTo p = since says o (ageOf says p) n
 
-  -- by the newest header: none, deleted, no file, or the header of a live file
+  -- by its newest header, if it has one
   unfoldable pub fileBy : Option ℕ → File
   fileBy none = file.Refused NoHeader (records says o n)
-  fileBy (some h) =
-      pick (isGone (says h)) (file.Refused Deleted (downTo h))
-      (pick (isFile (says h)) (file.Header (record { 0 = h }) (downTo h))
-      (file.Refused NotAFile (downTo h)))
+  fileBy (some h) = fileAt (says h) h (downTo h)
 
   -- the live file that object o is, if it is one
   unfoldable pub fileOf : File
