@@ -3,3 +3,4 @@ pub mod Slots
 pub mod Chains
 pub mod Additions
 pub mod Held
+pub mod Walks

@@ -2,3 +2,4 @@
 pub mod additions;
 pub mod chains;
 pub mod slots;
+pub mod walks;

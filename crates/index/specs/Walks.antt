@@ -1,0 +1,144 @@
+-- Lookups down the chain of an object, on any chain (document 01, "Index" for the visits, and the refusal table). A lookup visits records from
+-- the newest on, and meets the links that lead to them; v counts the records visited.
+use Prim.Native.Nat.{ℕ, _+_, _-_, max, min}
+use mathlib.Core.Bool.{Bool, true, false, _&&_}
+use mathlib.Core.List.{List}
+use lib.ListN.{length}
+use lib.Dec.{eqb, ltb, leb}
+use Rattle.page.specs.Choice.{pick}
+use Rattle.page.specs.Counts.{isHeader}
+use Rattle.page.specs.Kinds.{kindAt}
+use Rattle.page.specs.Lengths.{openedOf}
+use Rattle.page.specs.Numbers.{badObject, badChunk}
+use Rattle.page.specs.declared.kind.Kind.{Kind}
+use Rattle.page.specs.declared.layout.Layout.{Layout}
+use Rattle.page.specs.declared.refusal.Refusal.the-variants.{BadObject, BadChunk, NoObject, NoHeader, PastEnd, ShortIndex, IndexDamaged}
+use Rattle.chunk.specs.Records.{ageOf, chunkOf, countOf, fileSize, baseOf}
+use Rattle.chunk.specs.Cuts.{nowhere, cutOf}
+use Rattle.chunk.specs.Sizes.{endOf}
+use Rattle.chunk.specs.Lookups.{fileAt}
+use Rattle.chunk.specs.Answers.{onPages}
+use Rattle.chunk.specs.declared.answer.File.{File}
+use Rattle.chunk.specs.declared.answer.File.the-variants as file
+use Rattle.chunk.specs.declared.answer.Sized.{Sized}
+use Rattle.chunk.specs.declared.answer.Sized.the-variants as sized
+use Rattle.chunk.specs.declared.answer.Looked.{Looked}
+use Rattle.chunk.specs.declared.answer.Looked.the-variants as looked
+use Rattle.index.specs.Cells.{cellsFor}
+use Rattle.index.specs.Chains.{objects, Trace, clean, broken, rec, chain}
+use Rattle.index.specs.declared.walks.Met.{Met}
+use Rattle.index.specs.declared.walks.Met.the-variants.{Copy, Nothing}
+use Rattle.index.specs.declared.walks.Reached.{Reached}
+use Rattle.index.specs.declared.walks.Reached.the-variants as reached
+
+-- a chain that ends before a header was met: no record at all, or data records only
+abbrev pub headless : ℕ → Reached
+headless v = pick (eqb v 0) (reached.Refused NoObject 0) (reached.Refused NoHeader v)
+
+-- the size of a live file
+abbrev pub sizeFile : ℕ → File → Sized
+sizeFile size (file.Refused r v) = sized.Refused r v
+sizeFile size (file.Header h v) = sized.Size size v
+
+module _ (says : ℕ → Kind) where
+  -- what is left of a chain behind its newest header
+  unfoldable pub behind : Trace → Trace
+  behind clean = clean
+  behind broken = broken
+  behind (rec q t) = pick (isHeader (says q)) t (behind t)
+
+  -- the size that the newest header h gives, with the largest end of the data above it
+  abbrev pub sizeAt : ℕ → ℕ → ℕ
+  sizeAt h end = max (fileSize (says h)) end
+
+  -- the size by what was reached
+  unfoldable pub sizeReached : Reached → Sized
+  sizeReached (reached.Refused r v) = sized.Refused r v
+  sizeReached (reached.Header h end m v) = sizeFile (sizeAt (h .0) end) (fileAt (says (h .0)) (h .0) v)
+
+  -- the lowest cut, with page q too, which is the newest header or not
+  abbrev pub cutBy : Bool → ℕ → ℕ → ℕ
+  cutBy isNewest q cut = pick (isHeader (says q)) (min (cutOf isNewest (says q)) cut) cut
+
+  module _ (P c : ℕ) where
+    -- the first copy met of chunk c, with page q too
+    abbrev pub metWith : ℕ → Met → Met
+    metWith q (Copy p) = Copy p
+    metWith q Nothing = pick (eqb (chunkOf (says q)) c) (Copy (record { 0 = q })) Nothing
+
+    -- down to the newest header, with the largest end of data and the first copy met so far
+    unfoldable pub reach : ℕ → Met → ℕ → Trace → Reached
+    reach end m v clean = headless v
+    reach end m v broken = reached.Refused IndexDamaged 0
+    reach end m v (rec q t) =
+        pick (isHeader (says q)) (reached.Header (record { 0 = q }) end m (v + 1))
+        (reach (max (endOf P (says q)) end) (metWith q m) (v + 1) t)
+
+    -- how many bytes of chunk c a file of a size shows
+    abbrev pub shownIn : ℕ → ℕ
+    shownIn size = min P (size - baseOf P c)
+
+    -- page q is the copy of chunk c, where `cut` is the lowest cut of newer headers
+    abbrev pub found : ℕ → ℕ → ℕ → ℕ → Looked
+    found size cut q v =
+        looked.Copy (record { 0 = q }) (min (countOf (says q)) (min (shownIn size) (cut - baseOf P c))) (shownIn size) v
+
+    -- whether page q is a copy of chunk c that the lowest cut of newer headers does not hide
+    abbrev pub isShown : ℕ → ℕ → Bool
+    isShown cut q = eqb (chunkOf (says q)) c && ltb (baseOf P c) cut
+
+    -- below the newest header, down to the first copy that is not hidden. What hides a copy hides all older ones too, so that behind a hidden
+    -- copy there is none to be found; for a hole every record is visited
+    unfoldable pub seek : ℕ → ℕ → ℕ → Trace → Looked
+    seek size cut v clean = looked.Hole (shownIn size) v
+    seek size cut v broken = looked.Refused IndexDamaged 0 0
+    seek size cut v (rec q t) = pick (isShown cut q) (found size cut q (v + 1)) (seek size (cutBy false q cut) (v + 1) t)
+
+    -- the copy that was met above the newest header h, where nothing cuts, or else the copy below it
+    unfoldable pub copyFrom : ℕ → ℕ → ℕ → Trace → Met → Looked
+    copyFrom h size v t (Copy q) = found size nowhere (q .0) v
+    copyFrom h size v t Nothing = seek size (cutBy true h nowhere) v t
+
+    -- chunk c of a live file of a size, which ends before it or not
+    unfoldable pub chunkFile : ℕ → Met → Trace → File → Looked
+    chunkFile size m t (file.Refused r v) = looked.Refused r v 0
+    chunkFile size m t (file.Header h v) = pick (leb size (baseOf P c)) (looked.Refused PastEnd v 0) (copyFrom (h .0) size v t m)
+
+    -- chunk c by what was reached, and the chain behind that
+    unfoldable pub chunkReached : Trace → Reached → Looked
+    chunkReached t (reached.Refused r v) = looked.Refused r v 0
+    chunkReached t (reached.Header h end m v) = chunkFile (sizeAt (h .0) end) m t (fileAt (says (h .0)) (h .0) v)
+
+    -- a chunk lookup
+    unfoldable pub chunkWalk : Trace → Looked
+    chunkWalk t = chunkReached (behind t) (reach 0 Nothing 0 t)
+
+  -- a size lookup; no copy has chunk number 0
+  unfoldable pub sizeWalk : ℕ → Trace → Sized
+  sizeWalk P t = sizeReached (reach P 0 0 Nothing 0 t)
+
+-- the lookups of object o on the cells of n pages
+module _ (says : ℕ → Kind) (P : ℕ) (cells : List ℕ) (o n : ℕ) where
+  abbrev pub chainOf : Trace
+  chainOf = chain n (objects says) (ageOf says) cells o
+
+  unfoldable pub sizeIn : Sized
+  sizeIn =
+      pick (ltb (length cells) (cellsFor n)) (sized.Refused ShortIndex 0)
+      (pick (badObject o) (sized.Refused BadObject 0)
+      (sizeWalk says P chainOf))
+
+  unfoldable pub chunkIn : ℕ → Looked
+  chunkIn c =
+      pick (ltb (length cells) (cellsFor n)) (looked.Refused ShortIndex 0 0)
+      (pick (badObject o) (looked.Refused BadObject 0 0)
+      (pick (badChunk c) (looked.Refused BadChunk 0 0)
+      (chunkWalk says P c chainOf)))
+
+-- the lookups of object o on a dump of a named layout in blocks of k, by any cells
+module _ (l : Layout) (k : ℕ) (dump cells : List ℕ) (o : ℕ) where
+  unfoldable pub sizeFrom : Sized
+  sizeFrom = onPages (λ r. sized.Refused r 0) (λ n. sizeIn (kindAt l dump) (l .«data») cells o n) (openedOf l k (length dump))
+
+  unfoldable pub chunkFrom : ℕ → Looked
+  chunkFrom c = onPages (λ r. looked.Refused r 0 0) (λ n. chunkIn (kindAt l dump) (l .«data») cells o n c) (openedOf l k (length dump))
