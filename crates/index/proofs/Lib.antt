@@ -8,3 +8,7 @@ pub mod Answers
 pub mod Keeping
 pub mod Lending
 pub mod Ordering
+pub mod Through
+pub mod Parting
+pub mod Walking
+pub mod Ruling

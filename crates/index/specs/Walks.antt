@@ -31,6 +31,16 @@ use Rattle.index.specs.declared.walks.Met.the-variants.{Copy, Nothing}
 use Rattle.index.specs.declared.walks.Reached.{Reached}
 use Rattle.index.specs.declared.walks.Reached.the-variants as reached
 
+-- the records that a lookup reports visiting
+abbrev pub sizeVisits : Sized → ℕ
+sizeVisits (sized.Size z v) = v
+sizeVisits (sized.Refused r v) = v
+
+abbrev pub chunkVisits : Looked → ℕ
+chunkVisits (looked.Copy p a s v) = v
+chunkVisits (looked.Hole s v) = v
+chunkVisits (looked.Refused r v n) = v
+
 -- a chain that ends before a header was met: no record at all, or data records only
 abbrev pub headless : ℕ → Reached
 headless v = pick (eqb v 0) (reached.Refused NoObject 0) (reached.Refused NoHeader v)
