@@ -12,3 +12,4 @@ pub mod Through
 pub mod Parting
 pub mod Walking
 pub mod Ruling
+pub mod Bridging

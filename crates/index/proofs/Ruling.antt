@@ -152,10 +152,10 @@ module _ (says S : ℕ → Kind) (o n b : ℕ) where
 
   -- the list parted at a record q
   module _ (A : List ℕ) (q : ℕ) (B : List ℕ) (l : Listed says S o n b (A ++ (q ∷ B))) where
-    above : (x : ℕ) → In x A → ageOf S q < ageOf S x
+    pub above : (x : ℕ) → In x A → ageOf S q < ageOf S x
     above x i = falls-above (ageOf S) A q B b (l .falls) x i
 
-    below : (x : ℕ) → In x B → ageOf S x < ageOf S q
+    pub below : (x : ℕ) → In x B → ageOf S x < ageOf S q
     below x i = falls-in (ageOf S) x B (ageOf S q) (falls-below (ageOf S) A q B b (l .falls)) i
 
     pub newest-at :

@@ -11,6 +11,7 @@ use Rattle.page.specs.Kinds.{kindAt}
 use Rattle.page.specs.Lengths.{openedOf}
 use Rattle.page.specs.Numbers.{badObject, badChunk}
 use Rattle.page.specs.declared.kind.Kind.{Kind}
+use Rattle.page.specs.declared.kind.Kind.the-variants.{Blank}
 use Rattle.page.specs.declared.layout.Layout.{Layout}
 use Rattle.page.specs.declared.refusal.Refusal.the-variants.{BadObject, BadChunk, NoObject, NoHeader, PastEnd, ShortIndex, IndexDamaged}
 use Rattle.chunk.specs.Records.{ageOf, chunkOf, countOf, fileSize, baseOf}
@@ -30,6 +31,10 @@ use Rattle.index.specs.declared.walks.Met.{Met}
 use Rattle.index.specs.declared.walks.Met.the-variants.{Copy, Nothing}
 use Rattle.index.specs.declared.walks.Reached.{Reached}
 use Rattle.index.specs.declared.walks.Reached.the-variants as reached
+
+-- what the pages say, with those not yet added read as blank
+abbrev pub seenSays : (ℕ → Kind) → (ℕ → Bool) → ℕ → Kind
+seenSays says added p = pick (added p) (says p) Blank
 
 -- the records that a lookup reports visiting
 abbrev pub sizeVisits : Sized → ℕ
