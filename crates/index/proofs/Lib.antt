@@ -12,4 +12,5 @@ pub mod Through
 pub mod Parting
 pub mod Walking
 pub mod Ruling
+pub mod Visiting
 pub mod Bridging
