@@ -8,3 +8,4 @@ pub mod Answers
 pub mod Keeping
 pub mod Lending
 pub mod Ordering
+pub mod Entries

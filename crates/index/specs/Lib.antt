@@ -1,5 +1,6 @@
 pub mod Cells
 pub mod Slots
+pub mod Entries
 pub mod Chains
 pub mod Additions
 pub mod Held
