@@ -9,3 +9,4 @@ pub mod Keeping
 pub mod Lending
 pub mod Ordering
 pub mod Entries
+pub mod Placing

@@ -3,4 +3,5 @@ pub mod additions;
 mod cells;
 pub mod chains;
 pub mod entry;
+pub mod places;
 pub mod slots;
