@@ -12,11 +12,12 @@ use Rattle.page.specs.declared.layout.Opened.the-variants.{Pages}
 use Rattle.index.specs.Cells.{cellsFor, linkAt, firstAt, word, keys, isMarked, last, linked, claimed}
 use Rattle.index.specs.Slots.{slot}
 use Rattle.index.specs.Chains.{chain}
-use Rattle.index.specs.Additions.{Outcome, outcome, refused, emptied, startIn, placeOf, addOther, addAt, addRecord, addTo}
+use Rattle.index.specs.Places.{placeOf}
+use Rattle.index.specs.Additions.{Outcome, outcome, refused, emptied, startIn, addOther, addAt, addRecord, addTo}
 use Rattle.index.specs.declared.additions.Added.the-variants.{Done}
-use Rattle.index.specs.declared.additions.Place.{Place}
-use Rattle.index.specs.declared.additions.Place.the-variants.{At}
-use Rattle.index.specs.declared.additions.Place.the-variants as place
+use Rattle.index.specs.declared.places.Place.{Place}
+use Rattle.index.specs.declared.places.Place.the-variants.{At}
+use Rattle.index.specs.declared.places.Place.the-variants as place
 
 module _ (n : ℕ) (c : List ℕ) where
   pub start-short : length c < cellsFor n → startIn (Pages n) c ≡ refused ShortIndex c

@@ -19,11 +19,12 @@ use Rattle.page.specs.declared.refusal.Refusal.the-variants.{AlreadyAdded}
 use Rattle.index.specs.Cells.{cellsFor, word, linkAt, keyAt, firstAt, keys, isMarked, last, linked, claimed}
 use Rattle.index.specs.Slots.{slot, first, used}
 use Rattle.index.specs.Chains.{Trace, chain, trace, top}
-use Rattle.index.specs.Additions.{Outcome, outcome, refused, emptied, placeOf, addAt, addTo}
+use Rattle.index.specs.Places.{placeOf}
+use Rattle.index.specs.Additions.{Outcome, outcome, refused, emptied, addAt, addTo}
 use Rattle.index.specs.Held.{seen, with, recs, fromList, Held}
 use Rattle.index.specs.declared.additions.Added.{Added}
 use Rattle.index.specs.declared.additions.Added.the-variants.{Done, Refused}
-use Rattle.index.specs.declared.additions.Place.the-variants as place
+use Rattle.index.specs.declared.places.Place.the-variants as place
 use Rattle.index.proofs.Links.{trace-end}
 use Rattle.index.proofs.Records.{In, recs-in, recs-none}
 use Rattle.index.proofs.Inserting.{spot, place-spot, place-met, trace-falls}

@@ -19,34 +19,34 @@ use Rattle.index.proofs.Probing.{slot-lt, slot-same}
 module _
     (n : ℕ) (obj age : ℕ → ℕ) (pos : 0 < n) (c c′ : List ℕ)
     (same : (i : ℕ) → i < cellsFor n → word c′ i ≡ word c i)
-    where
-  slot-lent : (o : ℕ) → slot n (keys c′) o ≡ slot n (keys c) o
-  slot-lent o = slot-same (keys c) (keys c′) o n pos (λ j jn. ap (serves o) (same (keyAt j) (omega arith)))
+  where
+    slot-lent : (o : ℕ) → slot n (keys c′) o ≡ slot n (keys c) o
+    slot-lent o = slot-same (keys c) (keys c′) o n pos (λ j jn. ap (serves o) (same (keyAt j) (omega arith)))
 
-  first-lent : (o : ℕ) → first n c′ o ≡ first n c o
-  unfolding first firstIn
-  first-lent o =
-      let s = slot-lt (keys c) o n pos in
-      rw (slot-lent o, same (keyAt (slot n (keys c) o)) (omega arith), same (firstAt (slot n (keys c) o)) (omega arith)) refl
+    first-lent : (o : ℕ) → first n c′ o ≡ first n c o
+    unfolding first firstIn
+    first-lent o =
+        let s = slot-lt (keys c) o n pos in
+        rw (slot-lent o, same (keyAt (slot n (keys c) o)) (omega arith), same (firstAt (slot n (keys c) o)) (omega arith)) refl
 
-  -- the chains of cells with the same first words are the same
-  pub chain-lent : (o : ℕ) → chain n obj age c′ o ≡ chain n obj age c o
-  unfolding chain
-  chain-lent o =
-      ap (trace n obj age c′ o top) (first-lent o)
-      ∙ frame n obj age o c′ c top (first n c o) (λ x xn _ _. same (linkAt x) (omega arith))
+    -- the chains of cells with the same first words are the same
+    pub chain-lent : (o : ℕ) → chain n obj age c′ o ≡ chain n obj age c o
+    unfolding chain
+    chain-lent o =
+        ap (trace n obj age c′ o top) (first-lent o)
+        ∙ frame n obj age o c′ c top (first n c o) (λ x xn _ _. same (linkAt x) (omega arith))
 
-  -- and they hold the same pages
-  pub held-lent : (added : ℕ → Bool) → cellsFor n ≤ length c′ → Held n obj age added c → Held n obj age added c′
-  held-lent added room g = record {
-    room = room;
-    marks = λ p pn. ap (λ (v : ℕ). not (eqb v 0)) (same (linkAt p) (omega arith)) ∙ g .marks p pn;
-    chains = λ o po. chain-lent o ∙ g .chains o po;
-    homes = λ j jn k.
-      let e : keys c′ j ≡ keys c j = same (keyAt j) (omega arith) in
-      slot-lent (keys c′ j) ∙ rw e (g .homes j jn (λ z. k (e ∙ z)));
-    spare = rw (count-same (used (keys c)) (used (keys c′)) n (λ i l. ap (λ (v : ℕ). not (eqb v 0)) (same (keyAt i) (omega arith)))) (g .spare);
-  }
+    -- and they hold the same pages
+    pub held-lent : (added : ℕ → Bool) → cellsFor n ≤ length c′ → Held n obj age added c → Held n obj age added c′
+    held-lent added room g = record {
+      room = room;
+      marks = λ p pn. ap (λ (v : ℕ). not (eqb v 0)) (same (linkAt p) (omega arith)) ∙ g .marks p pn;
+      chains = λ o po. chain-lent o ∙ g .chains o po;
+      homes = λ j jn k.
+          let e : keys c′ j ≡ keys c j = same (keyAt j) (omega arith) in
+          slot-lent (keys c′ j) ∙ rw e (g .homes j jn (λ z. k (e ∙ z)));
+      spare = rw (count-same (used (keys c)) (used (keys c′)) n (λ i l. ap (λ (v : ℕ). not (eqb v 0)) (same (keyAt i) (omega arith)))) (g .spare);
+    }
 
 -- the first `len` words are lent
 module _ (n : ℕ) (obj age : ℕ → ℕ) (pos : 0 < n) (added : ℕ → Bool) (c : List ℕ) (len : ℕ) (enough : cellsFor n ≤ len) (short : len ≤ length c) where

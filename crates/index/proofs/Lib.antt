@@ -14,3 +14,5 @@ pub mod Walking
 pub mod Ruling
 pub mod Visiting
 pub mod Bridging
+pub mod Entries
+pub mod Placing

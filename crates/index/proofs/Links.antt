@@ -8,7 +8,7 @@ use mathlib.Core.Path.{_≡_, refl, sym, ap, _∙_}
 use native.Mathlib.Nat.{le-refl, le-of-suc-le-suc, not-suc-le-zero, le-trans}
 use native.Mathlib.Omega.{arith}
 use lib.Dec.{ltb, eqb}
-use borrow.Author.Tests.{ltb-true, ltb-false, lt-ltb, le-ltb, eqb-true, eq-eqb}
+use borrow.Author.Tests.{ltb-true, ltb-false, lt-ltb, le-ltb, eqb-true, eq-eqb, ne-eqb}
 use Rattle.page.specs.Choice.{pick}
 use Rattle.index.specs.Cells.{word, linkAt, linkTo}
 use Rattle.index.specs.Chains.{Trace, clean, broken, rec, by, leadOf, traceBy, trace}
@@ -52,11 +52,29 @@ module _ (n : ℕ) (obj age : ℕ → ℕ) (o b w : ℕ) where
   unfolding leadOf
   lead-end h = simp (lt-ltb w 2 h)
 
+  module _ (big : 2 ≤ w) where
+    pub lead-outside : n ≤ w - 2 → leadOf n obj age o b w ≡ Damaged
+    unfolding leadOf
+    lead-outside h = simp (le-ltb w 2 big, le-ltb (w - 2) n h)
+
+    module _ (inside : w - 2 < n) where
+      pub lead-other : (obj (w - 2) ≡ o → ⊥) → leadOf n obj age o b w ≡ Damaged
+      unfolding leadOf
+      lead-other h = simp (le-ltb w 2 big, lt-ltb (w - 2) n inside, ne-eqb (obj (w - 2)) o h)
+
+      module _ (own : obj (w - 2) ≡ o) where
+        pub lead-newer : b ≤ age (w - 2) → leadOf n obj age o b w ≡ Damaged
+        unfolding leadOf
+        lead-newer h = simp (le-ltb w 2 big, lt-ltb (w - 2) n inside, eq-eqb (obj (w - 2)) o own, le-ltb (age (w - 2)) b h)
+
+        pub lead-older : age (w - 2) < b → leadOf n obj age o b w ≡ Record (record { 0 = w - 2 }) (age (w - 2))
+        unfolding leadOf
+        lead-older h = simp (le-ltb w 2 big, lt-ltb (w - 2) n inside, eq-eqb (obj (w - 2)) o own, lt-ltb (age (w - 2)) b h)
+
   pub lead-record : (q : ℕ) → Leads n obj age o b w q → leadOf n obj age o b w ≡ Record (record { 0 = q }) (age q)
-  unfolding leadOf
   lead-record q l =
       let e : w - 2 ≡ q = omega arith in
-      simp (e, le-ltb w 2 (omega arith), lt-ltb q n (l .inside), eq-eqb (obj q) o (l .own), lt-ltb (age q) b (l .older))
+      rw e at (lead-older (omega arith) (rw e (l .inside)) (rw e (l .own)) (rw e (l .older)))
 
 -- two chains whose rests are the same wherever a link may lead are the same
 by-same :

@@ -77,6 +77,20 @@ module _ (key : ℕ → ℕ) (o : ℕ) where
         go Nothing (Slot s) h i = i .0
         go Nothing Nothing h i = home
 
+    -- what the two searches give
+    module _ (pos : 0 < n) (r : ℕ) where
+      -- what the slot is, is one of the table
+      within : r ≡ slot n key o → (r ≡ slot n key o) × (r < n)
+      within e = (e, rw e (slot-lt pos))
+
+      pub slot-near : down key o (o % n + 1) ≡ Slot r → (r ≡ slot n key o) × (r < n)
+      unfolding slot
+      slot-near e = within (rw e refl)
+
+      pub slot-far : down key o (o % n + 1) ≡ Nothing → r ≡ foundOr (down key o n) (o % n) → (r ≡ slot n key o) × (r < n)
+      unfolding slot
+      slot-far e f = within (rw e f)
+
     -- where a slot is free, the object's slot is free or its own
     pub slot-serves : count (used key) n < n → serves o (key (slot n key o)) ≡ true
     unfolding slot

@@ -12,15 +12,16 @@ use Rattle.page.specs.declared.layout.Layout.{Layout}
 use Rattle.page.specs.declared.layout.Opened.{Opened}
 use Rattle.page.specs.declared.layout.Opened.the-variants as opened
 use Rattle.page.specs.declared.refusal.Refusal.{Refusal}
-use Rattle.page.specs.declared.refusal.Refusal.the-variants.{ShortIndex, IndexDamaged, BadPage, AlreadyAdded}
+use Rattle.page.specs.declared.refusal.Refusal.the-variants.{ShortIndex, BadPage, AlreadyAdded}
 use Rattle.chunk.specs.Records.{ageOf}
 use Rattle.index.specs.Cells.{cellsFor, linkAt, firstAt, keys, isMarked, last, linked, claimed}
 use Rattle.index.specs.Slots.{slot}
-use Rattle.index.specs.Chains.{objects, Trace, clean, broken, rec, chain}
+use Rattle.index.specs.Chains.{objects, chain}
+use Rattle.index.specs.Places.{placeOf}
 use Rattle.index.specs.declared.additions.Added.{Added}
 use Rattle.index.specs.declared.additions.Added.the-variants.{Done, Refused}
-use Rattle.index.specs.declared.additions.Place.{Place}
-use Rattle.index.specs.declared.additions.Place.the-variants as place
+use Rattle.index.specs.declared.places.Place.{Place}
+use Rattle.index.specs.declared.places.Place.the-variants as place
 
 -- what a call answers, and the cells that it leaves
 pub record Outcome : Type 0 where
@@ -45,15 +46,6 @@ startIn (opened.Pages n) c = pick (ltb (length c) (cellsFor n)) (refused ShortIn
 
 unfoldable pub startOf : Layout → ℕ → List ℕ → List ℕ → Outcome
 startOf l k dump c = startIn (openedOf l k (length dump)) c
-
--- where the link to page p goes in a chain whose first link stands at a place: the link to the first record not newer than p, or the last.
--- Every link down to there is met
-unfoldable pub placeOf : (ℕ → ℕ) → ℕ → Trace → ℕ → Place
-placeOf age p clean at = place.At at
-placeOf age p broken at = place.Refused IndexDamaged
-placeOf age p (rec q rest) at =
-    let below = placeOf age p rest (linkAt q) in
-    pick (leb (age q) (age p)) (pick (eqb q p) (place.Refused AlreadyAdded) (place.At at)) below
 
 -- a page that is no record is marked
 unfoldable pub addOther : List ℕ → ℕ → Outcome

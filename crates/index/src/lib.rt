@@ -1,5 +1,8 @@
 // The index: lent words that hold, for each object, its added records from the newest to the oldest.
 pub mod additions;
+mod cells;
 pub mod chains;
+pub mod entry;
+pub mod places;
 pub mod slots;
 pub mod walks;
