@@ -3,3 +3,4 @@ pub mod Searching
 pub mod Layouts
 pub mod Lengths
 pub mod Pages
+pub mod Finding

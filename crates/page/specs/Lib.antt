@@ -9,3 +9,4 @@ pub mod Pages
 pub mod Tags
 pub mod Headers
 pub mod Kinds
+pub mod Find

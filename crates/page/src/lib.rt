@@ -5,3 +5,4 @@ pub mod layout;
 mod word;
 pub mod tags;
 pub mod kind;
+pub mod find;
