@@ -2,7 +2,7 @@
 use mathlib.Core.Path.{_≡_, sym}
 use borrow.Author.Needs.{needs}
 use Rattle.page.specs.Find.{bearsSequence}
-use Rattle.page.proofs.Finding.{not-good}
+use Rattle.page.proofs.Blocks.{not-good}
 use Rattle.page.proofs.find.bears.Statement.{statement}
 use Rattle.page.proofs.find.bears.Tie as tie
 

@@ -3,7 +3,7 @@
 use Prim.Native.Nat.{_+_, _-_, _/_, _%_, _^_, _<_, _≤_, zero-le}
 use mathlib.Core.Bool.{true, false}
 use mathlib.Core.Path.{_≡_, sym, _∙_}
-use native.Mathlib.Nat.{div-le-self}
+use native.Mathlib.Nat.{add-zero, div-le-self}
 use native.Mathlib.Omega.{arith}
 use lib.ListN.{length}
 use borrow.Author.Needs.{needs}
@@ -12,16 +12,17 @@ use Rattle.page.specs.Choice.{pick}
 use Rattle.page.specs.Layouts.{roomy}
 use Rattle.page.specs.Lengths.{wholeBlocks}
 use Rattle.page.specs.Tags.{claimAt}
-use Rattle.page.specs.Find.{scoreOf, markedOf, isScored, markedAt, candidateScore, winnerOf}
-use Rattle.page.proofs.Searching.{count-le}
+use Rattle.page.specs.Find.{candidateScore}
 use Rattle.page.proofs.Layouts.{row-roomy, roomy-facts}
-use Rattle.page.proofs.Lengths.{block-some, block-most, length-most}
-use Rattle.page.proofs.Finding.{page-numbered, whole-pages, block-ends, none-scored, Through, through-none, through-on, score-undivided, score-divided, Leads, leads-none, leads-still, leads-now, won-named, won-refused}
+use Rattle.page.proofs.Lengths.{block-some, length-most}
+use Rattle.page.proofs.Blocks.{whole-pages, page-numbered, none-scored, Through, through-none, through-ends, through-marked, through-on, through-score}
+use Rattle.page.proofs.Leading.{Leads, leads-none, leads-still, leads-now, won-named, won-refused}
+use Rattle.page.proofs.Finding.{score-undivided, score-divided}
 use Rattle.page.proofs.find.best_of.Statement.{statement}
 use Rattle.page.proofs.find.best_of.Tie as tie
 
 abbrev Inv-blocks2 : tie.InvT-blocks2
-Inv-blocks2 dump k best found n l pages score₀ marked₀ next₀ score marked next = (pages < 2 ^ 31) × Through (claimAt l dump) k pages next score marked
+Inv-blocks2 dump k best found n l pages score₀ marked₀ next₀ score marked next = Through (claimAt l dump) k pages next score marked
 
 abbrev μ-blocks2 : tie.MeasureT-blocks2
 μ-blocks2 dump k best found n l pages score₀ marked₀ next₀ score marked next = pages - next
@@ -48,142 +49,112 @@ candidates-again c =
     let q = r .before .before in
     let a = q .before .before .args in
     let e = score-undivided (a .dump .now) (a .k) (q .candidates .n) (rw (← r .row .ensures, ← c .before .divides .ensures) (not-true (c .before .divides .result) (c .if1 .taken))) in
-    (search needs, leads-still (candidateScore (a .dump .now) (a .k)) (q .candidates .n) (q .candidates .best) (q .candidates .found) (q .candidates .inv .1) (rw e zero-le))
+    (search needs, leads-still (q .candidates .inv .1) (rw e zero-le))
 
 div-pages : tie.Need-div-pages Inv-blocks2 μ-blocks2 Inv-candidates μ-candidates
 div-pages c = omega (arith, roomy-facts (c .before .before .before .row .result) (room (c .before .before .before)), c .page-len .ensures .0)
 
--- the pages are few
+-- its pages are few
 few : (c : tie.After-page-len Inv-blocks2 μ-blocks2 Inv-candidates μ-candidates) → length (c .before .before .before .before .before .before .before .args .dump .now) / c .page-len .result < 2 ^ 31
 few c =
     let s = c .before .before .before .before .before .before .before in
     omega (arith, length-most (length (s .args .dump .now)) (s .pre .1), div-le-self (length (s .args .dump .now)) (c .page-len .result))
 
--- and come out even in blocks
-whole : (c : tie.Else1 Inv-blocks2 μ-blocks2 Inv-candidates μ-candidates) → wholeBlocks (c .before .before .row .result) (c .before .before .before .before .before .before .args .k) (length (c .before .before .before .before .before .before .args .dump .now)) ≡ true
-whole c = rw (← c .before .divides .ensures) (not-false (c .before .divides .result) (c .if1 .left))
-
-even : (c : tie.After-page-len Inv-blocks2 μ-blocks2 Inv-candidates μ-candidates) → length (c .before .before .before .before .before .before .before .args .dump .now) / c .page-len .result % c .before .before .before .before .before .before .before .args .k ≡ 0
-even c =
-    let r = c .before .before .before in
-    let s = r .before .before .before .before in
-    rw (c .page-len .ensures .0)
-    (whole-pages (r .row .result) (s .args .k) (length (s .args .dump .now)) (block-some (s .args .k) (s .pre .0)) (omega (arith, roomy-facts (r .row .result) (room r))) (whole (c .before)))
-
 cast-pages : tie.Need-cast-pages Inv-blocks2 μ-blocks2 Inv-candidates μ-candidates
 cast-pages c = omega (arith, few c)
 
+-- and its blocks are whole
+whole :
+    (c : tie.Else1 Inv-blocks2 μ-blocks2 Inv-candidates μ-candidates) →
+    wholeBlocks (c .before .before .row .result) (c .before .before .before .before .before .before .args .k) (length (c .before .before .before .before .before .before .args .dump .now)) ≡ true
+whole c = rw (← c .before .divides .ensures) (not-false (c .before .divides .result) (c .if1 .left))
+
 blocks2-holds : tie.Need-blocks2-holds Inv-blocks2 μ-blocks2 Inv-candidates μ-candidates
 blocks2-holds c =
-    let a = c .before .before .before .before .before .before .before .args in
-    (few c, through-none (claimAt (c .before .before .before .row .result) (a .dump .now)) (a .k) (length (a .dump .now) / c .page-len .result))
-
--- a block that begins within the pages ends within them
-ends : (c : tie.In-blocks2 Inv-blocks2 μ-blocks2 Inv-candidates μ-candidates) → c .before .blocks2 .next + c .before .before .before .before .before .before .before .before .before .args .k ≤ length (c .before .before .before .before .before .before .before .before .before .args .dump .now) / c .before .before .page-len .result
-ends c =
-    let p = c .before .before in
-    let s = p .before .before .before .before .before .before .before in
-    block-ends (s .args .k) (c .before .blocks2 .next) _ (block-some (s .args .k) (s .pre .0)) (c .before .blocks2 .inv .1 .starts) (even p) (c .blocks2-test .taken)
+    let r = c .before .before .before in
+    let s = r .before .before .before .before in
+    let a = s .args in
+    let some = block-some (a .k) (s .pre .0) in
+    let size = roomy-facts (r .row .result) (room r) in
+    through-none (claimAt (r .row .result) (a .dump .now)) (a .k) _ some (few c)
+    (rw (c .page-len .ensures .0) (whole-pages (r .row .result) (a .k) (length (a .dump .now)) some (omega arith) (whole (c .before))))
 
 add-next : tie.Need-add-next Inv-blocks2 μ-blocks2 Inv-candidates μ-candidates
-add-next c = omega (arith, ends c)
+add-next c = let t = c .before .blocks2 .inv in omega (arith, t .few, through-ends t (c .blocks2-test .taken))
 
 marked-in-requires : tie.Need-marked-in-requires Inv-blocks2 μ-blocks2 Inv-candidates μ-candidates
-marked-in-requires c κs = omega (arith, ends c)
-
--- what was counted with this block
-counted-now :
-    (c : tie.After-marked-in Inv-blocks2 μ-blocks2 Inv-candidates μ-candidates) →
-    c .before .before .blocks2 .marked + c .marked-in .result
-    ≡ markedOf (claimAt (c .before .before .before .before .before .before .row .result) (c .before .before .before .before .before .before .before .before .before .before .args .dump .now)) (c .before .before .blocks2 .next + c .before .before .before .before .before .before .before .before .before .before .args .k)
-counted-now c = omega (arith, c .marked-in .ensures)
+marked-in-requires c κs = let t = c .before .blocks2 .inv in omega (arith, t .few, through-ends t (c .blocks2-test .taken))
 
 add-marked : tie.Need-add-marked Inv-blocks2 μ-blocks2 Inv-candidates μ-candidates
 add-marked c =
-    let a = c .before .before .before .before .before .before .before .before .before .before .args in
-    let said = claimAt (c .before .before .before .before .before .before .row .result) (a .dump .now) in
-    omega (arith, counted-now c, count-le (markedAt said) (c .before .before .blocks2 .next + a .k), ends (c .before))
+    let b = c .before in
+    let t = b .before .blocks2 .inv in
+    omega (arith, t .few, through-marked t (c .marked-in .result) (b .blocks2-test .taken) (c .marked-in .ensures))
 
 first-sequence-requires : tie.Need-first-sequence-requires Inv-blocks2 μ-blocks2 Inv-candidates μ-candidates
-first-sequence-requires c κs = omega (arith, ends (c .before))
+first-sequence-requires c κs =
+    let b = c .before in
+    let t = b .before .blocks2 .inv in
+    omega (arith, t .few, through-ends t (b .blocks2-test .taken))
 
 blocks2-less : tie.Need-blocks2-less Inv-blocks2 μ-blocks2 Inv-candidates μ-candidates
-blocks2-less c =
-    let b = c .before .before .before in
-    let s = b .before .before .before .before .before .before .before .before .before in
-    let h = block-some (s .args .k) (s .pre .0) in
-    omega (arith, b .blocks2-test .taken)
+blocks2-less c = let b = c .before .before .before in omega (arith, b .before .blocks2 .inv .some, b .blocks2-test .taken)
 
 blocks2-again : tie.Need-blocks2-again Inv-blocks2 μ-blocks2 Inv-candidates μ-candidates
 blocks2-again c =
     let m = c .before .before in
     let b = m .before in
     let q = b .before .blocks2 in
-    let p = b .before .before in
-    let r = p .before .before .before in
-    let s = r .before .before .before .before in
-    let a = s .args in
-    let said = claimAt (r .row .result) (a .dump .now) in
-    let none = q .inv .1 .scored ∙ none-scored said (page-numbered (r .row .result) (a .dump .now)) (a .k) (q .next) (q .inv .1 .starts) (sym (c .before .first-sequence .ensures) ∙ c .if2 .taken) in
-    (few p, through-on said (a .k) _ (q .next) (q .score) (q .marked) _ _ (block-some (a .k) (s .pre .0)) (even p) (b .blocks2-test .taken) (q .inv .1) none (counted-now m))
+    let r = b .before .before .before .before .before in
+    let a = r .before .before .before .before .args in
+    let none = none-scored (claimAt (r .row .result) (a .dump .now)) (page-numbered (r .row .result) (a .dump .now)) (a .k) (q .next) (q .inv .starts) (sym (c .before .first-sequence .ensures) ∙ c .if2 .taken) in
+    rw add-zero at (through-on (q .inv) 0 (m .marked-in .result) (b .blocks2-test .taken) none (m .marked-in .ensures))
 
 scored-in-requires : tie.Need-scored-in-requires Inv-blocks2 μ-blocks2 Inv-candidates μ-candidates
 scored-in-requires c κs =
     let b = c .before .before .before in
-    ((b .before .blocks2 .inv .1 .starts, omega (arith, ends b)), c .before .first-sequence .ensures)
+    let t = b .before .blocks2 .inv in
+    ((t .starts, omega (arith, t .few, through-ends t (b .blocks2-test .taken))), c .before .first-sequence .ensures)
 
--- what was scored with this block
-scored-now :
+-- the block is gone through
+through-now :
     (c : tie.After-scored-in Inv-blocks2 μ-blocks2 Inv-candidates μ-candidates) →
-    c .before .before .before .before .before .blocks2 .score + c .scored-in .result
-    ≡ scoreOf (claimAt (c .before .before .before .before .before .before .before .before .before .row .result) (c .before .before .before .before .before .before .before .before .before .before .before .before .before .args .dump .now)) (c .before .before .before .before .before .before .before .before .before .before .before .before .before .args .k) (c .before .before .before .before .before .blocks2 .next + c .before .before .before .before .before .before .before .before .before .before .before .before .before .args .k)
-scored-now c = omega (arith, c .scored-in .ensures, c .before .before .before .before .before .blocks2 .inv .1 .scored)
-
-add-score : tie.Need-add-score Inv-blocks2 μ-blocks2 Inv-candidates μ-candidates
-add-score c =
-    let b = c .before .before .before .before in
-    let r = b .before .before .before .before .before in
-    let a = r .before .before .before .before .args in
-    omega (arith, scored-now c, count-le (isScored (claimAt (r .row .result) (a .dump .now)) (a .k)) (b .before .blocks2 .next + a .k), ends b)
-
-blocks2-less-2 : tie.Need-blocks2-less-2 Inv-blocks2 μ-blocks2 Inv-candidates μ-candidates
-blocks2-less-2 c =
-    let b = c .before .before .before .before in
-    let s = b .before .before .before .before .before .before .before .before .before in
-    let h = block-some (s .args .k) (s .pre .0) in
-    omega (arith, b .blocks2-test .taken)
-
-blocks2-again-2 : tie.Need-blocks2-again-2 Inv-blocks2 μ-blocks2 Inv-candidates μ-candidates
-blocks2-again-2 c =
-    let m = c .before .before .before in
-    let b = m .before in
-    let q = b .before .blocks2 in
-    let p = b .before .before in
-    let r = p .before .before .before in
-    let s = r .before .before .before .before in
-    let a = s .args in
-    (few p, through-on (claimAt (r .row .result) (a .dump .now)) (a .k) _ (q .next) (q .score) (q .marked) _ _ (block-some (a .k) (s .pre .0)) (even p) (b .blocks2-test .taken) (q .inv .1) (scored-now c) (counted-now m))
-
-score-fits-requires : tie.Need-score-fits-requires Inv-blocks2 μ-blocks2 Inv-candidates μ-candidates
-score-fits-requires c κs =
-    let q = c .before in
+    let q = c .before .before .before .before .before in
     let r = q .before .before .before .before in
     let a = r .before .before .before .before .args in
-    omega (arith, q .blocks2 .inv, count-le (isScored (claimAt (r .row .result) (a .dump .now)) (a .k)) (q .blocks2 .next))
+    Through (claimAt (r .row .result) (a .dump .now)) (a .k) (length (a .dump .now) / q .before .page-len .result) (q .blocks2 .next + a .k) (q .blocks2 .score + c .scored-in .result) (q .blocks2 .marked + c .before .before .before .marked-in .result)
+through-now c =
+    let m = c .before .before .before in
+    let b = m .before in
+    through-on (b .before .blocks2 .inv) (c .scored-in .result) (m .marked-in .result) (b .blocks2-test .taken) (c .scored-in .ensures) (m .marked-in .ensures)
+
+add-score : tie.Need-add-score Inv-blocks2 μ-blocks2 Inv-candidates μ-candidates
+add-score c = let t = through-now c in omega (arith, t .few, through-score t)
+
+blocks2-less-2 : tie.Need-blocks2-less-2 Inv-blocks2 μ-blocks2 Inv-candidates μ-candidates
+blocks2-less-2 c = let b = c .before .before .before .before in omega (arith, b .before .blocks2 .inv .some, b .blocks2-test .taken)
+
+blocks2-again-2 : tie.Need-blocks2-again-2 Inv-blocks2 μ-blocks2 Inv-candidates μ-candidates
+blocks2-again-2 c = through-now c
+
+score-fits-requires : tie.Need-score-fits-requires Inv-blocks2 μ-blocks2 Inv-candidates μ-candidates
+score-fits-requires c κs = let t = c .before .blocks2 .inv in omega (arith, t .few, through-score t)
 
 -- the candidate's score, once its blocks are gone through
 scores :
     (c : tie.After-score-fits Inv-blocks2 μ-blocks2 Inv-candidates μ-candidates) →
-    candidateScore (c .before .before .before .before .before .before .before .before .before .before .args .dump .now) (c .before .before .before .before .before .before .before .before .before .before .args .k) (c .before .before .before .before .before .before .before .before .candidates .n)
-    ≡ pick (c .score-fits .result) (c .before .before .blocks2 .score) 0
+    let r = c .before .before .before .before .before .before in
+    let a = r .before .before .before .before .args in
+    candidateScore (a .dump .now) (a .k) (r .before .before .candidates .n) ≡ pick (c .score-fits .result) (c .before .before .blocks2 .score) 0
 scores c =
     let q = c .before .before in
     let p = q .before in
     let r = p .before .before .before in
     let a = r .before .before .before .before .args in
-    score-divided (a .dump .now) (a .k) (r .before .before .candidates .n) (q .blocks2 .next) (q .blocks2 .score) (q .blocks2 .marked)
+    let o = q .blocks2 in
+    score-divided (a .dump .now) (a .k) (r .before .before .candidates .n) (o .next) (o .score) (o .marked)
     (rw (← r .row .ensures) (whole (p .before)))
-    (rw (← r .row .ensures, ← p .page-len .ensures .0) (q .blocks2 .inv .1))
+    (rw (← r .row .ensures, ← p .page-len .ensures .0) (o .inv))
     (rw (← r .row .ensures, ← p .page-len .ensures .0) (c .before .blocks2-test .left))
     ∙ rw (← c .score-fits .ensures)
 
@@ -191,42 +162,39 @@ candidates-again-2 : tie.Need-candidates-again-2 Inv-blocks2 μ-blocks2 Inv-cand
 candidates-again-2 c =
     let f = c .before in
     let q = f .before .before .before .before .before .before .before .before in
-    let a = q .before .before .args in
     let e = rw (not-true (f .score-fits .result) (c .if3 .taken)) at (scores f) in
-    (search needs, leads-still (candidateScore (a .dump .now) (a .k)) (q .candidates .n) (q .candidates .best) (q .candidates .found) (q .candidates .inv .1) (rw e zero-le))
+    (search needs, leads-still (q .candidates .inv .1) (rw e zero-le))
 
 candidates-again-3 : tie.Need-candidates-again-3 Inv-blocks2 μ-blocks2 Inv-candidates μ-candidates
 candidates-again-3 c =
     let f = c .before .before in
     let q = f .before .before .before .before .before .before .before .before in
-    let a = q .before .before .args in
     let e = rw (not-false (f .score-fits .result) (c .before .if3 .left)) at (scores f) in
-    (search needs, leads-still (candidateScore (a .dump .now) (a .k)) (q .candidates .n) (q .candidates .best) (q .candidates .found) (q .candidates .inv .1) (rw e (c .if4 .taken)))
+    (search needs, leads-still (q .candidates .inv .1) (rw e (c .if4 .taken)))
 
 candidates-again-4 : tie.Need-candidates-again-4 Inv-blocks2 μ-blocks2 Inv-candidates μ-candidates
 candidates-again-4 c =
     let f = c .before .before in
     let q = f .before .before .before .before .before .before .before .before in
-    let a = q .before .before .args in
     let e = rw (not-false (f .score-fits .result) (c .before .if3 .left)) at (scores f) in
-    (search needs, rw (← e) (leads-now (candidateScore (a .dump .now) (a .k)) (q .candidates .n) (q .candidates .best) (q .candidates .found) (q .candidates .inv .1) (rw e (c .if4 .left))))
+    (search needs, rw (← e) (leads-now (q .candidates .inv .1) (rw e (c .if4 .left))))
 
--- behind the table
-behind : (c : tie.After-candidates Inv-blocks2 μ-blocks2 Inv-candidates μ-candidates) → Leads (candidateScore (c .before .before .before .args .dump .now) (c .before .before .before .args .k)) 13 (c .before .candidates .best) (c .before .candidates .found)
+-- the candidate that leads behind the table
+behind :
+    (c : tie.After-candidates Inv-blocks2 μ-blocks2 Inv-candidates μ-candidates) →
+    let q = c .before .candidates in
+    let a = c .before .before .before .args in
+    Leads (candidateScore (a .dump .now) (a .k)) 13 (q .best) (q .found)
 behind c = let e : c .before .candidates .n ≡ 13 = omega arith in rw e at (c .before .candidates .inv .1)
 
 returns : tie.Need-returns Inv-blocks2 μ-blocks2 Inv-candidates μ-candidates
-returns c =
-    let a = c .before .before .before .before .args in
-    sym (won-refused (candidateScore (a .dump .now) (a .k)) _ _ (behind (c .before)) (c .if5 .taken))
+returns c = sym (won-refused (behind (c .before)) (c .if5 .taken))
 
 row-requires-2 : tie.Need-row-requires-2 Inv-blocks2 μ-blocks2 Inv-candidates μ-candidates
 row-requires-2 c κs = behind (c .before) .within (omega (arith, c .if5 .left))
 
 returns-2 : tie.Need-returns-2 Inv-blocks2 μ-blocks2 Inv-candidates μ-candidates
-returns-2 c =
-    let a = c .before .before .before .before .before .args in
-    rw (c .row2 .ensures) (sym (won-named (candidateScore (a .dump .now) (a .k)) _ _ (behind (c .before .before)) (omega (arith, c .before .if5 .left))))
+returns-2 c = rw (c .row2 .ensures) (sym (won-named (behind (c .before .before)) (omega (arith, c .before .if5 .left))))
 
 pub best-of-spec : {M : Type 1} → statement M
 best-of-spec =

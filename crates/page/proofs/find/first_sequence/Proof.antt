@@ -6,7 +6,7 @@ use native.Mathlib.Nat.{add-sub-cancel-left}
 use borrow.Author.Needs.{needs}
 use Rattle.page.specs.Tags.{claimAt}
 use Rattle.page.specs.Find.{isGood, firstSequence}
-use Rattle.page.proofs.Finding.{not-good, sequence-here, sequence-next, sequence-end}
+use Rattle.page.proofs.Blocks.{not-good, sequence-here, sequence-next, sequence-end}
 use Rattle.page.proofs.find.first_sequence.Statement.{statement}
 use Rattle.page.proofs.find.first_sequence.Tie as tie
 

@@ -1,6 +1,6 @@
 use mathlib.Core.Path.{sym}
 use borrow.Author.Needs.{needs}
-use Rattle.page.proofs.Finding.{not-blank}
+use Rattle.page.proofs.Blocks.{not-blank}
 use Rattle.page.proofs.find.is_marked.Statement.{statement}
 use Rattle.page.proofs.find.is_marked.Tie as tie
 

@@ -6,7 +6,7 @@ use native.Mathlib.Omega.{arith}
 use borrow.Author.Needs.{needs}
 use Rattle.page.specs.Tags.{claimAt}
 use Rattle.page.specs.Find.{markedAt, markedOf}
-use Rattle.page.proofs.Finding.{tally-yes, tally-no, tally-le}
+use Rattle.page.proofs.Blocks.{tally-yes, tally-no, tally-le}
 use Rattle.page.proofs.find.marked_in.Statement.{statement}
 use Rattle.page.proofs.find.marked_in.Tie as tie
 
