@@ -1,9 +1,9 @@
 -- Laws of finding the layout: a found layout fits and divides the dump, no candidate has a higher score and none before it as high a one,
 -- and the answer rests on what the tags say alone.
-use Prim.Native.Nat.{ℕ, _+_, _≤_, _<_}
+use Prim.Native.Nat.{ℕ, _≤_, _<_}
 use mathlib.Core.Bool.{Bool, true, false, not}
 use mathlib.Core.List.{List}
-use mathlib.Core.Path.{_≡_, refl, sym, ap, _∙_, fun-ext}
+use mathlib.Core.Path.{_≡_, refl, sym, fun-ext}
 use native.Mathlib.Nat.{le-antisymm}
 use native.Mathlib.Omega.{arith}
 use lib.Dec.{eqb}
@@ -21,7 +21,7 @@ use Rattle.page.specs.declared.layout.Named.the-variants as named
 use Rattle.page.specs.declared.refusal.Refusal.the-variants.{BadLayout, BadLength, NoLayout}
 use Rattle.page.proofs.Searching.{pick-cases, by-test}
 use Rattle.page.proofs.Blocks.{Through}
-use Rattle.page.proofs.Leading.{Leads, Leader, leader, highest-bounds, won-named, won-refused}
+use Rattle.page.proofs.Leading.{leader, highest-bounds, won-named, won-refused}
 
 -- a candidate that does not divide the dump into whole blocks has no score
 pub score-undivided : (dump : List ℕ) (k c : ℕ) → wholeBlocks (layoutAt c) k (length dump) ≡ false → candidateScore dump k c ≡ 0
@@ -38,31 +38,31 @@ score-divided dump k c next score marked e t h =
     let all = le-antisymm h (t .within) in
     rw (e, all, t .scored, t .counted)
 
--- the pages of a candidate, by its number
-abbrev pages : List ℕ → ℕ → ℕ
-pages dump c = pageCount (layoutAt c) (length dump)
+-- what the pages of a candidate score, and whether it fits
+abbrev pub ownScore : List ℕ → ℕ → ℕ → ℕ
+ownScore dump k c = scoreOf (claimAt (layoutAt c) dump) k (pageCount (layoutAt c) (length dump))
+
+abbrev pub ownFits : List ℕ → ℕ → ℕ → Bool
+ownFits dump k c = scoreFits (ownScore dump k c) (markedOf (claimAt (layoutAt c) dump) (pageCount (layoutAt c) (length dump)))
 
 -- a candidate that divides the dump into whole blocks and fits, with its score
 pub record Fitting (dump : List ℕ) (k c : ℕ) : Type 0 where
   pub divides : wholeBlocks (layoutAt c) k (length dump) ≡ true
-  pub fits : scoreFits (scoreOf (claimAt (layoutAt c) dump) k (pages dump c)) (markedOf (claimAt (layoutAt c) dump) (pages dump c)) ≡ true
-  pub scores : candidateScore dump k c ≡ scoreOf (claimAt (layoutAt c) dump) k (pages dump c)
+  pub fits : ownFits dump k c ≡ true
+  pub scores : candidateScore dump k c ≡ ownScore dump k c
 
 -- is one that has a score
 pub fitting : (dump : List ℕ) (k c : ℕ) → 0 < candidateScore dump k c → Fitting dump k c
 unfolding candidateScore fittingScore
 fitting dump k c h =
     pick-cases (wholeBlocks (layoutAt c) k (length dump)) _ _ _ _ refl
-    (λ d z. pick-cases (scoreFits (scoreOf (claimAt (layoutAt c) dump) k (pages dump c)) (markedOf (claimAt (layoutAt c) dump) (pages dump c))) _ _ _ _ z
+    (λ d z. pick-cases (ownFits dump k c) _ _ _ _ z
     (λ f y. record { divides = d; fits = f; scores = sym y })
     (λ f y. absurd (omega arith)))
     (λ d z. absurd (omega arith))
 
 -- and has one
-pub fitting-scores :
-    (dump : List ℕ) (k c : ℕ) → wholeBlocks (layoutAt c) k (length dump) ≡ true →
-    scoreFits (scoreOf (claimAt (layoutAt c) dump) k (pages dump c)) (markedOf (claimAt (layoutAt c) dump) (pages dump c)) ≡ true →
-    candidateScore dump k c ≡ scoreOf (claimAt (layoutAt c) dump) k (pages dump c)
+pub fitting-scores : (dump : List ℕ) (k c : ℕ) → wholeBlocks (layoutAt c) k (length dump) ≡ true → ownFits dump k c ≡ true → candidateScore dump k c ≡ ownScore dump k c
 unfolding candidateScore fittingScore
 fitting-scores dump k c d f = rw (d, f)
 
@@ -82,8 +82,8 @@ pub record Found (dump : List ℕ) (k : ℕ) (l : Layout) : Type 0 where
   pub highest : (c : ℕ) → c < 13 → candidateScore dump k c ≤ candidateScore dump k number
   pub first : (c : ℕ) → c < number → candidateScore dump k c < candidateScore dump k number
 
-pub found : (dump : List ℕ) (k : ℕ) (l : Layout) → findOf dump k ≡ named.Layout l → Found dump k l
-found dump k l e =
+pub found-is : (dump : List ℕ) (k : ℕ) (l : Layout) → findOf dump k ≡ named.Layout l → Found dump k l
+found-is dump k l e =
     let w = past-refusals dump k (named.Layout l) (λ z. let n : _≡_ {A = ℕ} 0 1 = cc in omega arith) (λ z. let n : _≡_ {A = ℕ} 0 1 = cc in omega arith) e in
     let score = candidateScore dump k in
     let o = leader score 13 in

@@ -1,7 +1,7 @@
 // Finding the layout of a dump: the candidate whose pages bear their block's sequence most often.
 ghost use mathlib.Core.Path.{_≡_};
 ghost use mathlib.Core.Bool.{true};
-ghost use Prim.Native.Nat.{_+_, _%_, _≤_, _<_, _^_};
+ghost use Prim.Native.Nat.{_+_, _%_, _<_, _^_};
 ghost use lib.ListN.{length};
 ghost use Rattle.page.specs.Lengths.{blockFits, lengthFits};
 ghost use Rattle.page.specs.Tags.{claimAt};

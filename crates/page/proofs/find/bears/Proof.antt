@@ -1,5 +1,4 @@
 -- The two good cases compare the sequence; the others are not good.
-use mathlib.Core.Path.{_≡_, sym}
 use borrow.Author.Needs.{needs}
 use Rattle.page.specs.Find.{bearsSequence}
 use Rattle.page.proofs.Blocks.{not-good}

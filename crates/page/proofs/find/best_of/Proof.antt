@@ -1,7 +1,7 @@
 -- The inner loop goes through the candidate's blocks, each whole; the outer one keeps the candidate that leads.
 -- A candidate of the table has room, so that its page length is no zero divisor and its pages are few enough to count.
-use Prim.Native.Nat.{_+_, _-_, _/_, _%_, _^_, _<_, _≤_, zero-le}
-use mathlib.Core.Bool.{true, false}
+use Prim.Native.Nat.{_+_, _-_, _/_, _^_, _<_, _≤_, zero-le}
+use mathlib.Core.Bool.{true}
 use mathlib.Core.Path.{_≡_, sym, _∙_}
 use native.Mathlib.Nat.{add-zero, div-le-self}
 use native.Mathlib.Omega.{arith}

@@ -1,10 +1,6 @@
 -- The refusals come in the definition's order, and leave what the search asks.
-use mathlib.Core.Bool.{true}
-use mathlib.Core.Path.{_≡_}
-use lib.ListN.{length}
 use borrow.Author.Needs.{needs}
 use borrow.Author.Tests.{not-false}
-use Rattle.page.specs.Lengths.{blockFits, lengthFits}
 use Rattle.page.specs.Find.{findOf}
 use Rattle.page.proofs.find.find.Statement.{statement}
 use Rattle.page.proofs.find.find.Tie as tie
