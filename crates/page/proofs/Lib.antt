@@ -5,3 +5,6 @@ pub mod Lengths
 pub mod Pages
 pub mod Sound
 pub mod Counting
+pub mod Blocks
+pub mod Leading
+pub mod Finding

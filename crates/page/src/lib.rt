@@ -8,3 +8,4 @@ pub mod number;
 pub mod refusal;
 pub mod tags;
 mod word;
+pub mod find;
