@@ -6,3 +6,4 @@ pub mod Pages
 pub mod Sound
 pub mod Counting
 pub mod Within
+pub mod Marked

@@ -11,3 +11,4 @@ pub mod Headers
 pub mod Kinds
 pub mod Counts
 pub mod Asked
+pub mod Shelf
