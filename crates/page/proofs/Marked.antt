@@ -1,7 +1,12 @@
 -- The shelf dump W, the marked cases about pages and the limits of a dump's length: computed from the definitions, in one table.
-use mathlib.Core.List.{map}
-use mathlib.Core.Path.{_≡_, refl}
-use lib.ListN.{length}
+use Prim.Native.Nat.{ℕ, zero, suc, _+_, _≤_, _<_}
+use mathlib.Core.List.{List, map}
+use mathlib.Core.Path.{_≡_, refl, sym, ap, _∙_}
+use lib.Dec.{ltb}
+use lib.ListN.{length, getD, List·getD-eq-default}
+use native.Mathlib.Nat.{add-zero, zero-add}
+use native.Mathlib.Omega.{arith}
+use borrow.Author.Tests.{ltb-true, ltb-false}
 use Rattle.page.specs.Search.{firstFrom, count}
 use Rattle.page.specs.Numbers.{badObject}
 use Rattle.page.specs.Words.{le32}
@@ -12,9 +17,14 @@ use Rattle.page.specs.Tags.{tagsOf, tagBytes, objectIn, headerClaim, dat
 use Rattle.page.specs.Kinds.{badType, typeDiffers, headerOf, kindBy, kindOf, kindAt}
 use Rattle.page.specs.Counts.{countsBelow, countedIn, countedOf}
 use Rattle.page.specs.Shelf.{shelfLayout, wordBytes, tagged, headerPage, dataPage, blankPage, shelfPages, dumpOf, shelf, retagged, kindsFrom, shelfKinds, pageCases, kindIn}
+use Rattle.page.specs.declared.layout.Layout.{Layout}
+use Rattle.page.specs.declared.kind.Kind.{Kind}
+use Rattle.page.specs.declared.kind.Kind.the-variants.{Blank}
 use Rattle.page.specs.declared.layout.Opened.the-variants.{Pages, Refused}
 use Rattle.page.specs.declared.count.Counted.the-variants.{Counts}
 use Rattle.page.specs.declared.refusal.Refusal.the-variants.{BadLength}
+use Rattle.page.proofs.Searching.{by-test}
+use Rattle.page.proofs.Within.{blank-beyond}
 
 pub record Marked : Type 0 where
   -- W has 4,224 bytes, in blocks of 4 it has 8 pages, of these kinds and with these counts
@@ -39,3 +49,29 @@ marked = record {
   longest = refl;
   too-long = refl;
 }
+
+module _ (l : Layout) (dump : List ℕ) where
+  kinds-length : (i n : ℕ) → length (kindsFrom l dump i n) ≡ n
+  unfolding kindsFrom
+  kinds-length i zero = refl
+  kinds-length i (suc n) = ap suc (kinds-length (i + 1) n)
+
+  kinds-at : (i n j : ℕ) → j < n → getD (kindsFrom l dump i n) j Blank ≡ kindAt l dump (i + j)
+  unfolding kindsFrom
+  kinds-at i zero j h = absurd (omega arith)
+  kinds-at i (suc n) zero h = rw add-zero
+  kinds-at i (suc n) (suc j) h = let e : i + 1 + j ≡ i + suc j = omega arith in rw (← e) (kinds-at (i + 1) n j (omega arith))
+
+  -- a dump whose kinds are known has them at their numbers, and blank pages beyond
+  pub kinds-known : (k m : ℕ) (ks : List Kind) → openedOf l k (length dump) ≡ Pages m → kindsFrom l dump 0 m ≡ ks → (i : ℕ) → kindAt l dump i ≡ getD ks i Blank
+  kinds-known k m ks o e i =
+      by-test (ltb i m) _
+      (λ t. rw (← e) (sym (rw zero-add at (kinds-at 0 m i (ltb-true i m t)))))
+      (λ t.
+      let h = ltb-false i m t in
+      let n : length ks ≤ i = rw (← e) (omega (arith, kinds-length 0 m)) in
+      blank-beyond l k dump m o i h ∙ sym (List·getD-eq-default ks Blank n))
+
+-- the kinds of W by page number
+pub shelf-kind : (i : ℕ) → kindAt shelfLayout shelf i ≡ getD shelfKinds i Blank
+shelf-kind = kinds-known shelfLayout shelf 4 8 shelfKinds (rw (marked .shelf-length) (marked .shelf-opened)) (marked .shelf-kinds)
