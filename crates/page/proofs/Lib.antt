@@ -8,3 +8,5 @@ pub mod Counting
 pub mod Blocks
 pub mod Leading
 pub mod Finding
+pub mod Within
+pub mod Marked

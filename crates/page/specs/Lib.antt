@@ -12,3 +12,4 @@ pub mod Kinds
 pub mod Counts
 pub mod Asked
 pub mod Find
+pub mod Shelf
