@@ -2,19 +2,22 @@
 use Prim.Native.Nat.{ℕ, zero, suc, _+_, _<_, _≤_, max, min}
 use mathlib.Core.Bool.{Bool, true, false, _&&_}
 use mathlib.Core.Option.{Option, none, some}
-use mathlib.Core.Path.{_≡_, refl, _∙_}
+use mathlib.Core.Path.{_≡_, refl, ap, _∙_}
 use native.Mathlib.Numerals.{add-one}
+use native.Mathlib.Omega.{arith}
 use borrow.Author.Tests.{le-leb, lt-leb}
 use lib.Dec.{eqb, ltb, leb}
 use Rattle.page.specs.Choice.{pick}
 use Rattle.page.specs.Counts.{isHeader, isData}
 use Rattle.page.proofs.Searching.{by-test}
 use Rattle.page.specs.declared.kind.Kind.{Kind}
+use Rattle.page.specs.declared.number.PageNumber.{PageNumber}
 use Rattle.chunk.specs.Gather.{gather}
 use Rattle.chunk.specs.Records.{ageOf, isOf}
 use Rattle.chunk.specs.Newest.{later, newest, since}
 use Rattle.chunk.specs.Cuts.{nowhere, lowestCut}
 use Rattle.chunk.specs.Sizes.{dataEnd}
+use Rattle.chunk.specs.declared.scan.Newest.the-variants.{At, Nothing}
 use Rattle.chunk.specs.Scans.{laterIn, newestIn, endWith, cutWith}
 
 -- a test joined with none
@@ -30,6 +33,10 @@ gather-none f a = refl
 pub gather-step : {A : Type 0} (f : ℕ → A → A) (a : A) (n : ℕ) → gather f a (n + 1) ≡ f n (gather f a n)
 unfolding gather
 gather-step f a n = rw add-one
+
+-- equal pages found have equal ages
+at-age : (p q : PageNumber) (a b : ℕ) → At p a ≡ At q b → a ≡ b
+at-age p q a b e = cc
 
 module _ (says : ℕ → Kind) where
   pub newest-none : (test : Kind → Bool) → newest says test 0 ≡ none
@@ -51,6 +58,15 @@ module _ (says : ℕ → Kind) where
   pub later-in : (p : ℕ) (r : Option ℕ) → laterIn (newestIn says r) p (ageOf says p) ≡ newestIn says (later says p r)
   later-in p none = refl
   later-in p (some q) = by-test (leb (ageOf says q) (ageOf says p)) _ (λ t. rw t) (λ t. rw t)
+
+  -- what a scan found, as a page
+  pub in-none : (r : Option ℕ) → newestIn says r ≡ Nothing → r ≡ none
+  in-none none e = refl
+  in-none (some q) e = let z : _≡_ {A = ℕ} 0 1 = cc in absurd (omega arith)
+
+  pub in-some : (r : Option ℕ) (p : PageNumber) (a : ℕ) → newestIn says r ≡ At p a → (r ≡ some (p .0)) × (ageOf says (p .0) ≡ a)
+  in-some none p a e = let z : _≡_ {A = ℕ} 0 1 = cc in absurd (omega arith)
+  in-some (some q) p a e = let h : q ≡ p .0 = cc in (ap some h, rw (← h) (at-age _ _ _ _ e))
 
   pub since-none : (o x : ℕ) → since says o x 0 ≡ 0
   unfolding since gather

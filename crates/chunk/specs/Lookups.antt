@@ -59,16 +59,20 @@ module _ (says : ℕ → Kind) (o n : ℕ) where
       validOf k shown cut = min (countOf k) (min shown (cut - baseOf P c))
 
       -- the copy q of a live file with newest header h: hidden, and so a hole, if a later header cuts at or below the chunk's begin
-      unfoldable pub copyBy : ℕ → ℕ → Option ℕ → Looked
-      copyBy h size none = looked.Hole (shownOf size) (records says o n)
-      copyBy h size (some q) =
-          pick (leb (lowestCut says o h (ageOf says q) n) (baseOf P c)) (looked.Hole (shownOf size) (records says o n))
-          (looked.Copy (record { 0 = q }) (validOf (says q) (shownOf size) (lowestCut says o h (ageOf says q) n)) (shownOf size)
+      unfoldable pub copyAt : ℕ → ℕ → ℕ → Looked
+      copyAt h shown q =
+          pick (leb (lowestCut says o h (ageOf says q) n) (baseOf P c)) (looked.Hole shown (records says o n))
+          (looked.Copy (record { 0 = q }) (validOf (says q) shown (lowestCut says o h (ageOf says q) n)) shown
           (since says o (min (ageOf says q) (ageOf says h)) n))
+
+      -- by the copy, if there is one
+      unfoldable pub copyBy : ℕ → ℕ → Option ℕ → Looked
+      copyBy h shown none = looked.Hole shown (records says o n)
+      copyBy h shown (some q) = copyAt h shown q
 
       -- chunk c of a live file of a size, which ends before it or not
       unfoldable pub chunkBy : ℕ → ℕ → ℕ → Looked
-      chunkBy h v size = pick (leb size (baseOf P c)) (looked.Refused PastEnd v 0) (copyBy h size (newestCopy says o c n))
+      chunkBy h v size = pick (leb size (baseOf P c)) (looked.Refused PastEnd v 0) (copyBy h (shownOf size) (newestCopy says o c n))
 
       unfoldable pub lookedBy : File → Looked
       lookedBy (file.Refused r v) = looked.Refused r v 0

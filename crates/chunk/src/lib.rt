@@ -2,3 +2,4 @@
 pub mod answer;
 pub mod record;
 pub mod scan;
+pub mod lookup;
