@@ -21,7 +21,7 @@ use Rattle.chunk.specs.Records.{ageOf, isOf, isGone, isFile, chunkOf, baseOf, f
 use Rattle.chunk.specs.Newest.{newestHeader, newestCopy, since, records}
 use Rattle.chunk.specs.Cuts.{nowhere, cutOf, lowestCut}
 use Rattle.chunk.specs.Sizes.{sizeOf, dataEnd}
-use Rattle.chunk.specs.Lookups.{fileAt, fileBy, fileOf, sizedBy, copyBy, chunkBy, lookedBy}
+use Rattle.chunk.specs.Lookups.{fileAt, fileBy, fileOf, sizedBy, copyAt, copyBy, chunkBy, lookedBy}
 use Rattle.chunk.specs.declared.answer.File.{File}
 use Rattle.chunk.specs.declared.answer.File.the-variants as file
 use Rattle.chunk.specs.declared.answer.Sized.{Sized}
@@ -82,7 +82,7 @@ module _ (says S : ℕ → Kind) (o n b P : ℕ) (pos : 0 < o) where
     -- refusals that leave a live file or none
     chunk-at :
         (c : ℕ) (m : Met) (k : Kind) (v : ℕ) →
-        copyFrom says P c h (sizeOf S P o h n) v (fromList B) m ≡ copyBy S o n P c h (sizeOf S P o h n) (newestCopy S o c n) →
+        copyFrom says P c h (shownIn says P c (sizeOf S P o h n)) v (fromList B) m ≡ copyBy S o n P c h (shownIn says P c (sizeOf S P o h n)) (newestCopy S o c n) →
         chunkFile says P c (sizeOf S P o h n) m (fromList B) (fileAt k h v) ≡ lookedBy S o n P c (fileAt k h v)
     unfolding chunkFile lookedBy chunkBy fileAt
     chunk-at c m k v g =
@@ -90,8 +90,8 @@ module _ (says S : ℕ → Kind) (o n b P : ℕ) (pos : 0 < o) where
 
     chunk-walk-at :
         (c : ℕ) →
-        copyFrom says P c h (sizeOf S P o h n) (length A + 1) (fromList B) (through (metWith says P c) Nothing A)
-        ≡ copyBy S o n P c h (sizeOf S P o h n) (newestCopy S o c n) →
+        copyFrom says P c h (shownIn says P c (sizeOf S P o h n)) (length A + 1) (fromList B) (through (metWith says P c) Nothing A)
+        ≡ copyBy S o n P c h (shownIn says P c (sizeOf S P o h n)) (newestCopy S o c n) →
         chunkWalk says P c (fromList (A ++ (h ∷ B))) ≡ lookedBy S o n P c (fileOf S o n)
     unfolding chunkWalk chunkReached
     chunk-walk-at c g =
@@ -105,7 +105,7 @@ module _ (says S : ℕ → Kind) (o n b P : ℕ) (pos : 0 < o) where
       (by-test (eqb (length L) 0) _ (λ t. rw t) (λ t. rw t))
   size-parted L (at A h B f e) l = size-walk-at A h B l f e
 
-  module _ (c : ℕ) (numbered : 0 < c) (near : baseOf P c < nowhere) (size : ℕ) where
+  module _ (c : ℕ) (numbered : 0 < c) (near : baseOf P c < nowhere) (shown : ℕ) where
     abbrev isCopy : Kind → Bool
     isCopy k = eqb (chunkOf k) c
 
@@ -126,7 +126,7 @@ module _ (says S : ℕ → Kind) (o n b P : ℕ) (pos : 0 < o) where
 
     abbrev Same : List ℕ → ℕ → List ℕ → Type 0
     Same A h B =
-        copyFrom says P c h size (length A + 1) (fromList B) (through (metWith says P c) Nothing A) ≡ copyBy S o n P c h size (newestCopy S o c n)
+        copyFrom says P c h shown (length A + 1) (fromList B) (through (metWith says P c) Nothing A) ≡ copyBy S o n P c h shown (newestCopy S o c n)
 
     -- no copy in the list
     copy-none :
@@ -137,14 +137,14 @@ module _ (says S : ℕ → Kind) (o n b P : ℕ) (pos : 0 < o) where
         Fails (copied says P c) A →
         Fails (copied says P c) B →
         Same A h B
-    unfolding copyFrom copyBy
+    unfolding copyFrom copyBy copyAt
     copy-none A h B l f e fa fb =
         rw (
           met-none says P c A fa,
           newest-none says S o n b (A ++ (h ∷ B)) l isCopy (fails-at (copied says P c) A h B fa (no-copy (says h) e) fb),
           some-records A h B l f e,
         )
-        (seek-none says P c size B (cutBy says true h nowhere) (length A + 1) fb)
+        (seek-none says P c shown B (cutBy says true h nowhere) (length A + 1) fb)
 
     -- the copy is above the header
     copy-above :
@@ -154,7 +154,7 @@ module _ (says S : ℕ → Kind) (o n b P : ℕ) (pos : 0 < o) where
         Fails (copied says P c) A →
         copied says P c q ≡ true →
         Same (A ++ (q ∷ A′)) h B
-    unfolding copyFrom copyBy
+    unfolding copyFrom copyBy copyAt
     copy-above A q A′ h B l f fa e =
         let l′ : Listed says S o n b (A ++ (q ∷ (A′ ++ (h ∷ B)))) = rw append-assoc at l in
         let d : ageOf S h < ageOf S q = above says S o n b (A ++ (q ∷ A′)) h B l q (in-at A q A′) in
@@ -180,7 +180,7 @@ module _ (says S : ℕ → Kind) (o n b P : ℕ) (pos : 0 < o) where
         Fails (copied says P c) B →
         copied says P c q ≡ true →
         Same A h (B ++ (q ∷ B′))
-    unfolding copyFrom copyBy
+    unfolding copyFrom copyBy copyAt
     copy-below A h B q B′ l f e fa fb eq =
         let l′ : Listed says S o n b ((A ++ (h ∷ B)) ++ (q ∷ B′)) = rw append-assoc l in
         let d : ageOf S q < ageOf S h = above says S o n b (A ++ (h ∷ B)) q B′ l′ h (in-at A h B) in
@@ -206,7 +206,7 @@ module _ (says S : ℕ → Kind) (o n b P : ℕ) (pos : 0 < o) where
           s,
           l′ .same q (in-at (A ++ (h ∷ B)) q B′),
         )
-        (seek-at says P c size B q B′ (cutBy says true h nowhere) (length A + 1) fb eq)
+        (seek-at says P c shown B q B′ (cutBy says true h nowhere) (length A + 1) fb eq)
 
     copy-parted :
         (A : List ℕ) (h : ℕ) (B : List ℕ) →
@@ -230,7 +230,7 @@ module _ (says S : ℕ → Kind) (o n b P : ℕ) (pos : 0 < o) where
         (by-test (eqb (length L) 0) _ (λ t. rw t) (λ t. rw t))
     chunk-parted L (at A h B f e) l =
         chunk-walk-at A h B l f e c
-        (copy-parted c numbered near (sizeOf S P o h n) A h B l f e (parted (copied says P c) A) (parted (copied says P c) B))
+        (copy-parted c numbered near (shownIn says P c (sizeOf S P o h n)) A h B l f e (parted (copied says P c) A) (parted (copied says P c) B))
 
 -- the added records of object o of a dump with few enough pages
 module _

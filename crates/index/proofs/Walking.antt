@@ -24,7 +24,7 @@ use Rattle.chunk.specs.declared.answer.Looked.{Looked}
 use Rattle.chunk.specs.declared.answer.Looked.the-variants as looked
 use Rattle.index.specs.Chains.{Trace, clean, broken, rec}
 use Rattle.index.specs.Held.{fromList}
-use Rattle.index.specs.Walks.{sizeVisits, chunkVisits, headless, behind, sizeReached, cutBy, metWith, reach, shownIn, found, isShown, seek, copyFrom, chunkFile, chunkReached, chunkWalk, sizeWalk}
+use Rattle.index.specs.Walks.{sizeVisits, chunkVisits, headless, behind, sizeReached, cutBy, metWith, reach, found, isShown, seek, copyFrom, chunkFile, chunkReached, chunkWalk, sizeWalk}
 use Rattle.index.specs.declared.walks.Met.{Met}
 use Rattle.index.specs.declared.walks.Met.the-variants.{Copy, Nothing}
 use Rattle.index.specs.declared.walks.Reached.{Reached}
@@ -86,18 +86,18 @@ module _ (says : ℕ → Kind) where
         through-at (metWith says P c) A Nothing q B
         ∙ rw (met-none A f, e) (through-idle (metWith says P c) B (Copy (record { 0 = q })) (λ x i. refl))
 
-    module _ (size : ℕ) where
+    module _ (shown : ℕ) where
       abbrev hole : ℕ → Looked
-      hole v = looked.Hole (shownIn says P c size) v
+      hole v = looked.Hole shown v
 
-      pub seek-none : (L : List ℕ) (cut v : ℕ) → Fails copied L → seek says P c size cut v (fromList L) ≡ hole (v + length L)
+      pub seek-none : (L : List ℕ) (cut v : ℕ) → Fails copied L → seek says P c shown cut v (fromList L) ≡ hole (v + length L)
       unfolding seek fromList
       seek-none [] cut v f = ap hole (omega arith)
       seek-none (q ∷ L) cut v f =
           rw (f q (inl refl)) (seek-none L (cutBy says false q cut) (v + 1) (λ x i. f x (inr i)) ∙ ap hole (omega arith))
 
       -- behind a cut that hides the chunk no copy is shown
-      seek-hidden : (L : List ℕ) (cut v : ℕ) → cut ≤ baseOf P c → seek says P c size cut v (fromList L) ≡ hole (v + length L)
+      seek-hidden : (L : List ℕ) (cut v : ℕ) → cut ≤ baseOf P c → seek says P c shown cut v (fromList L) ≡ hole (v + length L)
       unfolding seek fromList
       seek-hidden [] cut v h = ap hole (omega arith)
       seek-hidden (q ∷ L) cut v h =
@@ -111,9 +111,9 @@ module _ (says : ℕ → Kind) where
           (A : List ℕ) (q : ℕ) (B : List ℕ) (cut v : ℕ) →
           Fails copied A →
           copied q ≡ true →
-          seek says P c size cut v (fromList (A ++ (q ∷ B)))
+          seek says P c shown cut v (fromList (A ++ (q ∷ B)))
           ≡ pick (leb (through (cutBy says false) cut A) (baseOf P c)) (hole (v + (length A + 1 + length B)))
-          (found says P c size (through (cutBy says false) cut A) q (v + (length A + 1)))
+          (found says P c shown (through (cutBy says false) cut A) q (v + (length A + 1)))
       unfolding seek fromList through
       seek-at [] q B cut v f e =
           by-test (leb cut (baseOf P c)) _

@@ -95,8 +95,7 @@ module _ (says : ℕ → Kind) where
 
     -- page q is the copy of chunk c, where `cut` is the lowest cut of newer headers
     abbrev pub found : ℕ → ℕ → ℕ → ℕ → Looked
-    found size cut q v =
-        looked.Copy (record { 0 = q }) (min (countOf (says q)) (min (shownIn size) (cut - baseOf P c))) (shownIn size) v
+    found shown cut q v = looked.Copy (record { 0 = q }) (min (countOf (says q)) (min shown (cut - baseOf P c))) shown v
 
     -- whether page q is a copy of chunk c that the lowest cut of newer headers does not hide
     abbrev pub isShown : ℕ → ℕ → Bool
@@ -105,19 +104,20 @@ module _ (says : ℕ → Kind) where
     -- below the newest header, down to the first copy that is not hidden. What hides a copy hides all older ones too, so that behind a hidden
     -- copy there is none to be found; for a hole every record is visited
     unfoldable pub seek : ℕ → ℕ → ℕ → Trace → Looked
-    seek size cut v clean = looked.Hole (shownIn size) v
-    seek size cut v broken = looked.Refused IndexDamaged 0 0
-    seek size cut v (rec q t) = pick (isShown cut q) (found size cut q (v + 1)) (seek size (cutBy false q cut) (v + 1) t)
+    seek shown cut v clean = looked.Hole shown v
+    seek shown cut v broken = looked.Refused IndexDamaged 0 0
+    seek shown cut v (rec q t) = pick (isShown cut q) (found shown cut q (v + 1)) (seek shown (cutBy false q cut) (v + 1) t)
 
     -- the copy that was met above the newest header h, where nothing cuts, or else the copy below it
     unfoldable pub copyFrom : ℕ → ℕ → ℕ → Trace → Met → Looked
-    copyFrom h size v t (Copy q) = found size nowhere (q .0) v
-    copyFrom h size v t Nothing = seek size (cutBy true h nowhere) v t
+    copyFrom h shown v t (Copy q) = found shown nowhere (q .0) v
+    copyFrom h shown v t Nothing = seek shown (cutBy true h nowhere) v t
 
     -- chunk c of a live file of a size, which ends before it or not
     unfoldable pub chunkFile : ℕ → Met → Trace → File → Looked
     chunkFile size m t (file.Refused r v) = looked.Refused r v 0
-    chunkFile size m t (file.Header h v) = pick (leb size (baseOf P c)) (looked.Refused PastEnd v 0) (copyFrom (h .0) size v t m)
+    chunkFile size m t (file.Header h v) =
+        pick (leb size (baseOf P c)) (looked.Refused PastEnd v 0) (copyFrom (h .0) (shownIn size) v t m)
 
     -- chunk c by what was reached, and the chain behind that
     unfoldable pub chunkReached : Trace → Reached → Looked
