@@ -28,7 +28,7 @@ use Rattle.chunk.specs.declared.answer.Sized.{Sized}
 use Rattle.chunk.specs.declared.answer.Looked.{Looked}
 use Rattle.index.specs.Chains.{objects, top}
 use Rattle.index.specs.Held.{seen, recs, fromList}
-use Rattle.index.specs.Walks.{seenSays, sizeVisits, chunkVisits, headless, behind, sizeFile, sizeAt, sizeReached, cutBy, metWith, reach, shownIn, found, seek, copyFrom, chunkFile, chunkReached, chunkWalk, sizeWalk}
+use Rattle.index.specs.Walks.{seenSays, recordsIn, sizeVisits, chunkVisits, headless, behind, sizeFile, sizeAt, sizeReached, cutBy, metWith, reach, shownIn, found, seek, copyFrom, chunkFile, chunkReached, chunkWalk, sizeWalk}
 use Rattle.index.specs.declared.walks.Met.{Met}
 use Rattle.index.specs.declared.walks.Met.the-variants.{Copy, Nothing}
 use Rattle.index.specs.declared.walks.Reached.the-variants as reached
@@ -36,7 +36,7 @@ use Rattle.index.proofs.Records.{In, recs-of, recs-same}
 use Rattle.index.proofs.Through.{through, through-at, through-idle, through-same}
 use Rattle.index.proofs.Parting.{Fails, Parted, all, at, parted, fails-at, in-at, in-above, falls-same, recs-falls}
 use Rattle.index.proofs.Walking.{headed, copied, endBy, behind-at, reach-none, reach-at, met-none, met-at, seek-none, seek-at}
-use Rattle.index.proofs.Visiting.{size, size-list, size-visits, chunk-visits}
+use Rattle.index.proofs.Visiting.{length-list, size-visits, chunk-visits}
 use Rattle.index.proofs.Ruling.{Listed, listed, newest-none, newest-at, all-counted, since-at, end-at, cut-at, above, below}
 
 module _ (says S : ℕ → Kind) (o n b P : ℕ) (pos : 0 < o) where
@@ -269,11 +269,11 @@ module _
     chunk-seen P c numbered near = chunk-parted says S o n top P pos c numbered near R (parted (headed says) R) added-listed
 
     -- and no lookup visits more records than the object's added ones
-    added-size : size (fromList R) ≡ records S o n
-    added-size = size-list R ∙ sym (all-counted says S o n top R added-listed)
+    added-count : recordsIn (fromList R) ≡ records S o n
+    added-count = length-list R ∙ sym (all-counted says S o n top R added-listed)
 
     pub size-visits-seen : (P : ℕ) → sizeVisits (sizeWalk says P (fromList R)) ≤ records S o n
-    size-visits-seen P = rw (← added-size) (size-visits says P (fromList R))
+    size-visits-seen P = rw (← added-count) (size-visits says P (fromList R))
 
     pub chunk-visits-seen : (P c : ℕ) → chunkVisits (chunkWalk says P c (fromList R)) ≤ records S o n
-    chunk-visits-seen P c = rw (← added-size) (chunk-visits says P c (fromList R))
+    chunk-visits-seen P c = rw (← added-count) (chunk-visits says P c (fromList R))

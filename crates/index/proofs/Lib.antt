@@ -16,3 +16,4 @@ pub mod Visiting
 pub mod Bridging
 pub mod Entries
 pub mod Placing
+pub mod Turning

@@ -15,7 +15,6 @@ use Rattle.page.specs.Choice.{pick}
 use Rattle.page.specs.Counts.{isHeader, isData}
 use Rattle.page.proofs.Searching.{by-test}
 use Rattle.page.specs.declared.kind.Kind.{Kind}
-use Rattle.page.specs.declared.kind.Kind.the-variants.{Blank, Foreign, Damaged, Header, Data}
 use Rattle.chunk.specs.Gather.{gather}
 use Rattle.chunk.specs.Records.{ageOf, objectOf, isOf, headerOf, dataOf}
 use Rattle.chunk.specs.Newest.{later, newest, since}
@@ -29,7 +28,7 @@ use Rattle.index.proofs.Records.{In, recs-of}
 use Rattle.index.proofs.Inserting.{Falls, falls-in}
 use Rattle.index.proofs.Through.{through, through-at, through-idle, through-same, through-count, gather-recs}
 use Rattle.index.proofs.Parting.{Fails, in-above, in-at, in-below, falls-above, falls-below}
-use Rattle.index.proofs.Walking.{headed, endBy}
+use Rattle.index.proofs.Walking.{other-data, headed, endBy}
 
 -- two steps, each taken or not, may change places if both were taken
 pick-swap : {A : Type 0} (t u : Bool) (f g : A → A) (a : A) → f (g a) ≡ g (f a) → pick t (f (pick u (g a) a)) (pick u (g a) a) ≡ pick u (g (pick t (f a) a)) (pick t (f a) a)
@@ -42,14 +41,6 @@ pick-swap false false f g a e = refl
 pick-off : {A : Type 0} (t u : Bool) (x a : A) → u ≡ false → pick (t && u) x a ≡ a
 pick-off true u x a e = rw e
 pick-off false u x a e = refl
-
--- a record that is no header is data
-other-data : (k : Kind) (o : ℕ) → 0 < o → isOf o k ≡ true → isHeader k ≡ false → isData k ≡ true
-other-data Blank o h e f = let z = eqb-true 0 o e in absurd (omega arith)
-other-data Foreign o h e f = let z = eqb-true 0 o e in absurd (omega arith)
-other-data Damaged o h e f = let z = eqb-true 0 o e in absurd (omega arith)
-other-data (Header s i t p z m) o h e f = sym f
-other-data (Data s i c n) o h e f = refl
 
 -- the steps of the rules
 module _ (S : ℕ → Kind) (o : ℕ) where
@@ -205,7 +196,7 @@ module _ (says S : ℕ → Kind) (o n b : ℕ) where
         ∙ newer-part (λ p. dataOf o (S p)) (λ p. max (endOf P (S p))) (endBy says P) 0
         (λ x i y.
         let j = in-above A q B x i in
-        let d : isData (says x) ≡ true = other-data (says x) o pos (rw (l .same x j) at (l .own x j)) (f x i) in
+        let d : isData (says x) ≡ true = other-data o pos (says x) (eqb-true _ _ (rw (l .same x j) at (l .own x j))) (f x i) in
         rw (l .own x j, l .same x j, d))
 
     pub cut-at : (h : ℕ) → lowestCut S o h (ageOf S q) n ≡ through (λ x. cutBy says (eqb x h) x) nowhere A

@@ -15,23 +15,17 @@ use Rattle.chunk.specs.Cuts.{nowhere}
 use Rattle.chunk.specs.Lookups.{fileAt}
 use Rattle.index.specs.Chains.{Trace, clean, broken, rec}
 use Rattle.index.specs.Held.{fromList}
-use Rattle.index.specs.Walks.{sizeVisits, chunkVisits, behind, sizeAt, sizeReached, cutBy, metWith, reach, shownIn, isShown, seek, copyFrom, chunkFile, chunkReached, chunkWalk, sizeWalk}
+use Rattle.index.specs.Walks.{recordsIn, sizeVisits, chunkVisits, behind, sizeAt, sizeReached, cutBy, metWith, reach, shownIn, isShown, seek, copyFrom, chunkFile, chunkReached, chunkWalk, sizeWalk}
 use Rattle.index.specs.declared.walks.Met.{Met}
 use Rattle.index.specs.declared.walks.Met.the-variants.{Copy, Nothing}
 use Rattle.index.specs.declared.walks.Reached.{Reached}
 use Rattle.index.specs.declared.walks.Reached.the-variants.{Refused, Header}
 use Rattle.index.proofs.Walking.{endBy}
 
--- how many records a chain has
-unfoldable pub size : Trace → ℕ
-size clean = 0
-size broken = 0
-size (rec q t) = suc (size t)
-
-pub size-list : (L : List ℕ) → size (fromList L) ≡ length L
-unfolding size fromList
-size-list [] = refl
-size-list (q ∷ L) = ap suc (size-list L)
+pub length-list : (L : List ℕ) → recordsIn (fromList L) ≡ length L
+unfolding recordsIn fromList
+length-list [] = refl
+length-list (q ∷ L) = ap suc (length-list L)
 
 -- of so many records, with the rest behind the header
 abbrev pub Visited : ℕ → ℕ → Reached → Type 0
@@ -40,31 +34,31 @@ Visited all rest (Header h e m v) = v + rest ≡ all
 
 module _ (says : ℕ → Kind) (P : ℕ) where
   pub reach-visits :
-      (c : ℕ) (t : Trace) (end : ℕ) (m : Met) (v : ℕ) → Visited (v + size t) (size (behind says t)) (reach says P c end m v t)
-  unfolding reach behind size
+      (c : ℕ) (t : Trace) (end : ℕ) (m : Met) (v : ℕ) → Visited (v + recordsIn t) (recordsIn (behind says t)) (reach says P c end m v t)
+  unfolding reach behind recordsIn
   reach-visits c clean end m v = by-test (eqb v 0) _ (λ t. rw t zero-le) (λ t. rw t (omega arith))
   reach-visits c broken end m v = zero-le
   reach-visits c (rec q t) end m v =
       by-test (isHeader (says q)) _
       (λ s. rw s (omega arith))
       (λ s.
-      let e : v + 1 + size t ≡ v + suc (size t) = omega arith in
+      let e : v + 1 + recordsIn t ≡ v + suc (recordsIn t) = omega arith in
       rw (s, ← e) (reach-visits c t (endBy says P q end) (metWith says P c q m) (v + 1)))
 
-  pub size-visits : (t : Trace) → sizeVisits (sizeWalk says P t) ≤ size t
+  pub size-visits : (t : Trace) → sizeVisits (sizeWalk says P t) ≤ recordsIn t
   unfolding sizeWalk sizeReached fileAt
   size-visits t = go (reach says P 0 0 Nothing 0 t) (reach-visits 0 t 0 Nothing 0)
     where
-      go : (r : Reached) → Visited (0 + size t) (size (behind says t)) r → sizeVisits (sizeReached says r) ≤ size t
+      go : (r : Reached) → Visited (0 + recordsIn t) (recordsIn (behind says t)) r → sizeVisits (sizeReached says r) ≤ recordsIn t
       go (Refused r v) h = omega arith
       go (Header h e m v) i =
           let k = says (h .0) in
-          let le : v ≤ size t = omega arith in
+          let le : v ≤ recordsIn t = omega arith in
           by-test (isGone k) _ (λ s. rw s le) (λ s. rw s (by-test (isFile k) _ (λ u. rw u le) (λ u. rw u le)))
 
   module _ (c : ℕ) where
-    seek-visits : (t : Trace) (z cut v : ℕ) → chunkVisits (seek says P c z cut v t) ≤ v + size t
-    unfolding seek size
+    seek-visits : (t : Trace) (z cut v : ℕ) → chunkVisits (seek says P c z cut v t) ≤ v + recordsIn t
+    unfolding seek recordsIn
     seek-visits clean z cut v = omega arith
     seek-visits broken z cut v = zero-le
     seek-visits (rec q t) z cut v =
@@ -72,20 +66,20 @@ module _ (says : ℕ → Kind) (P : ℕ) where
         (λ s. rw s (omega arith))
         (λ s. let i = seek-visits t z (cutBy says false q cut) (v + 1) in rw s (omega arith))
 
-    pub chunk-visits : (t : Trace) → chunkVisits (chunkWalk says P c t) ≤ size t
+    pub chunk-visits : (t : Trace) → chunkVisits (chunkWalk says P c t) ≤ recordsIn t
     unfolding chunkWalk chunkReached chunkFile copyFrom fileAt
     chunk-visits t = go (reach says P c 0 Nothing 0 t) (reach-visits c t 0 Nothing 0)
       where
-        copy : (z h v : ℕ) (m : Met) → v + size (behind says t) ≡ 0 + size t → chunkVisits (copyFrom says P c h z v (behind says t) m) ≤ size t
+        copy : (z h v : ℕ) (m : Met) → v + recordsIn (behind says t) ≡ 0 + recordsIn t → chunkVisits (copyFrom says P c h z v (behind says t) m) ≤ recordsIn t
         copy z h v (Copy q) i = omega arith
         copy z h v Nothing i = let s = seek-visits (behind says t) z (cutBy says true h nowhere) v in omega arith
 
-        go : (r : Reached) → Visited (0 + size t) (size (behind says t)) r → chunkVisits (chunkReached says P c (behind says t) r) ≤ size t
+        go : (r : Reached) → Visited (0 + recordsIn t) (recordsIn (behind says t)) r → chunkVisits (chunkReached says P c (behind says t) r) ≤ recordsIn t
         go (Refused r v) h = omega arith
         go (Header h e m v) i =
             let k = says (h .0) in
             let z = sizeAt says (h .0) e in
-            let le : v ≤ size t = omega arith in
+            let le : v ≤ recordsIn t = omega arith in
             by-test (isGone k) _
             (λ s. rw s le)
             (λ s. rw s (by-test (isFile k) _

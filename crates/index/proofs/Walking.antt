@@ -11,10 +11,11 @@ use lib.ListN.{length}
 use lib.Dec.{eqb, ltb, leb}
 use borrow.Author.Tests.{lt-ltb, le-ltb, leb-true, leb-false}
 use Rattle.page.specs.Choice.{pick}
-use Rattle.page.specs.Counts.{isHeader}
+use Rattle.page.specs.Counts.{isHeader, isData}
 use Rattle.page.proofs.Searching.{by-test}
 use Rattle.page.specs.declared.kind.Kind.{Kind}
-use Rattle.chunk.specs.Records.{chunkOf, baseOf}
+use Rattle.page.specs.declared.kind.Kind.the-variants.{Blank, Foreign, Damaged, Header, Data}
+use Rattle.chunk.specs.Records.{objectOf, chunkOf, baseOf}
 use Rattle.chunk.specs.Cuts.{cutOf}
 use Rattle.chunk.specs.Sizes.{endOf}
 use Rattle.chunk.specs.Lookups.{fileAt}
@@ -32,6 +33,25 @@ use Rattle.index.specs.declared.walks.Reached.the-variants as reached
 use Rattle.index.proofs.Records.{In}
 use Rattle.index.proofs.Through.{through, through-at, through-idle}
 use Rattle.index.proofs.Parting.{Fails}
+
+-- a record is a header or data
+module _ (o : ℕ) (pos : 0 < o) where
+  none : {A : Type 0} → 0 ≡ o → A
+  none e = absurd (omega arith)
+
+  pub other-data : (k : Kind) → objectOf k ≡ o → isHeader k ≡ false → isData k ≡ true
+  other-data Blank e f = none e
+  other-data Foreign e f = none e
+  other-data Damaged e f = none e
+  other-data (Header s i t p z m) e f = sym f
+  other-data (Data s i c n) e f = refl
+
+  pub other-header : (k : Kind) → objectOf k ≡ o → isData k ≡ false → isHeader k ≡ true
+  other-header Blank e f = none e
+  other-header Foreign e f = none e
+  other-header Damaged e f = none e
+  other-header (Header s i t p z m) e f = refl
+  other-header (Data s i c n) e f = sym f
 
 module _ (says : ℕ → Kind) where
   abbrev pub headed : ℕ → Bool

@@ -1,6 +1,6 @@
 -- Lookups down the chain of an object, on any chain (document 01, "Index" for the visits, and the refusal table). A lookup visits records from
 -- the newest on, and meets the links that lead to them; v counts the records visited.
-use Prim.Native.Nat.{ℕ, _+_, _-_, max, min}
+use Prim.Native.Nat.{ℕ, suc, _+_, _-_, max, min}
 use mathlib.Core.Bool.{Bool, true, false, _&&_}
 use mathlib.Core.List.{List}
 use lib.ListN.{length}
@@ -25,8 +25,8 @@ use Rattle.chunk.specs.declared.answer.Sized.{Sized}
 use Rattle.chunk.specs.declared.answer.Sized.the-variants as sized
 use Rattle.chunk.specs.declared.answer.Looked.{Looked}
 use Rattle.chunk.specs.declared.answer.Looked.the-variants as looked
-use Rattle.index.specs.Cells.{cellsFor}
-use Rattle.index.specs.Chains.{objects, Trace, clean, broken, rec, chain}
+use Rattle.index.specs.Cells.{cellsFor, word, linkAt}
+use Rattle.index.specs.Chains.{objects, Trace, clean, broken, rec, trace, chain}
 use Rattle.index.specs.declared.walks.Met.{Met}
 use Rattle.index.specs.declared.walks.Met.the-variants.{Copy, Nothing}
 use Rattle.index.specs.declared.walks.Reached.{Reached}
@@ -35,6 +35,12 @@ use Rattle.index.specs.declared.walks.Reached.the-variants as reached
 -- what the pages say, with those not yet added read as blank
 abbrev pub seenSays : (ℕ → Kind) → (ℕ → Bool) → ℕ → Kind
 seenSays says added p = pick (added p) (says p) Blank
+
+-- how many records a chain has
+unfoldable pub recordsIn : Trace → ℕ
+recordsIn clean = 0
+recordsIn broken = 0
+recordsIn (rec q t) = suc (recordsIn t)
 
 -- the records that a lookup reports visiting
 abbrev pub sizeVisits : Sized → ℕ
@@ -49,6 +55,11 @@ chunkVisits (looked.Refused r v n) = v
 -- a chain that ends before a header was met: no record at all, or data records only
 abbrev pub headless : ℕ → Reached
 headless v = pick (eqb v 0) (reached.Refused NoObject 0) (reached.Refused NoHeader v)
+
+-- the first copy met of chunk c, with page q too, which has the chunk number k
+abbrev pub metBy : ℕ → ℕ → ℕ → Met → Met
+metBy c q k (Copy p) = Copy p
+metBy c q k Nothing = pick (eqb k c) (Copy (record { 0 = q })) Nothing
 
 -- the size of a live file
 abbrev pub sizeFile : ℕ → File → Sized
@@ -78,8 +89,7 @@ module _ (says : ℕ → Kind) where
   module _ (P c : ℕ) where
     -- the first copy met of chunk c, with page q too
     abbrev pub metWith : ℕ → Met → Met
-    metWith q (Copy p) = Copy p
-    metWith q Nothing = pick (eqb (chunkOf (says q)) c) (Copy (record { 0 = q })) Nothing
+    metWith q m = metBy c q (chunkOf (says q)) m
 
     -- down to the newest header, with the largest end of data and the first copy met so far
     unfoldable pub reach : ℕ → Met → ℕ → Trace → Reached
@@ -131,6 +141,14 @@ module _ (says : ℕ → Kind) where
   -- a size lookup; no copy has chunk number 0
   unfoldable pub sizeWalk : ℕ → Trace → Sized
   sizeWalk P t = sizeReached (reach P 0 0 Nothing 0 t)
+
+-- the chain of object o from the link w and below the age b, and from below page h, on the cells of n pages
+module _ (says : ℕ → Kind) (n : ℕ) (cells : List ℕ) (o : ℕ) where
+  abbrev pub under : ℕ → ℕ → Trace
+  under b w = trace n (objects says) (ageOf says) cells o b w
+
+  abbrev pub below : ℕ → Trace
+  below h = under (ageOf says h) (word cells (linkAt h))
 
 -- the lookups of object o on the cells of n pages
 module _ (says : ℕ → Kind) (P : ℕ) (cells : List ℕ) (o n : ℕ) where
