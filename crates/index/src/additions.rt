@@ -84,7 +84,15 @@ fn add_at(cells: &mut [u32], o: ObjectId, p: PageNumber, s: u32, at: usize) -> A
 }
 
 // Adds page p, a record of object o and of this age.
-fn add_record(dump: &[u8], l: Layout, pages: u32, cells: &mut [u32], o: ObjectId, p: PageNumber, age: u64) -> Added
+fn add_record(
+    dump: &[u8],
+    l: Layout,
+    pages: u32,
+    cells: &mut [u32],
+    o: ObjectId,
+    p: PageNumber,
+    age: u64,
+) -> Added
     requires { ⌜ pages ≤ 2 ^ 31 ⌝ }
     requires { ⌜ p .0 < pages ⌝ }
     requires { ⌜ cellsFor pages ≤ length (now cells) ⌝ }

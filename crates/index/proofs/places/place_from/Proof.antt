@@ -74,9 +74,10 @@ loop-again c =
     let f = l .before .before in
     let q = f .before .before .loop in
     let s = f .before .before .before .before .before in
-    let k = told _ _ _ _ _ _ _ (Record _ _) (sym (l .lead .given .1) ∙ f .follow .ensures) in
-    (omega (arith, k .1 .inside, c .link-at .ensures, s .pre),
-    q .inv .1 ∙ place-on _ _ _ _ _ _ (k .2) (omega (arith, k .0, t .if1 .left, s .pre)) ∙ rw (k .0, c .link-at .ensures) refl)
+    let k = told _ _ _ _ _ _ _ (Record _ _) (sym (l .lead .given .1) ∙ f .follow .ensures) in (
+      omega (arith, k .1 .inside, c .link-at .ensures, s .pre),
+      q .inv .1 ∙ place-on _ _ _ _ _ _ (k .2) (omega (arith, k .0, t .if1 .left, s .pre)) ∙ rw (k .0, c .link-at .ensures) refl,
+    )
 
 pub place-from-spec : {M : Type 1} → statement M
 place-from-spec =
