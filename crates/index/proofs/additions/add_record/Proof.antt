@@ -24,7 +24,7 @@ returns c =
     let s = l .before .before in
     let a = s .before .before .before .before in
     sym (at-refused _ _ _ _ _)
-    ∙ record-at _ _ _ _ _ _ _ (Refused _) (s .slot-of .ensures .0) (a .pre .1 .1 .1 .1 .0) (sym (k .place .given .1) ∙ l .place-of .ensures .0)
+    ∙ record-at _ _ _ _ _ _ _ (Refused _) (s .slot-of .ensures .0) (a .pre .own) (sym (k .place .given .1) ∙ l .place-of .ensures .0)
 
 returns-2 : tie.Need-returns-2
 returns-2 c =
@@ -34,7 +34,7 @@ returns-2 c =
     let s = l .before .before in
     let a = s .before .before .before .before in
     d .add-at .ensures
-    ∙ record-at _ _ _ _ _ _ _ (At _) (s .slot-of .ensures .0) (a .pre .1 .1 .1 .1 .0) (sym (k .place2 .given .1) ∙ l .place-of .ensures .0)
+    ∙ record-at _ _ _ _ _ _ _ (At _) (s .slot-of .ensures .0) (a .pre .own) (sym (k .place2 .given .1) ∙ l .place-of .ensures .0)
 
 pub add-record-spec : {M : Type 1} → statement M
 add-record-spec =
