@@ -4,3 +4,5 @@ pub mod Newest
 pub mod Cuts
 pub mod Sizes
 pub mod Lookups
+pub mod Scans
+pub mod Answers

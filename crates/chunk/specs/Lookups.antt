@@ -18,18 +18,22 @@ use Rattle.chunk.specs.declared.answer.Sized.the-variants as sized
 use Rattle.chunk.specs.declared.answer.Looked.{Looked}
 use Rattle.chunk.specs.declared.answer.Looked.the-variants as looked
 
+-- what an object is whose newest header h says k: deleted, no file, or a live file
+unfoldable pub fileAt : Kind → ℕ → ℕ → File
+fileAt k h v =
+    pick (isGone k) (file.Refused Deleted v)
+    (pick (isFile k) (file.Header (record { 0 = h }) v)
+    (file.Refused NotAFile v))
+
 module _ (says : ℕ → Kind) (o n : ℕ) where
   -- the records visited from the newest down to page p
   abbrev pub downTo : ℕ → ℕ
   downTo p = since says o (ageOf says p) n
 
-  -- by the newest header: none, deleted, no file, or the header of a live file
+  -- by its newest header, if it has one
   unfoldable pub fileBy : Option ℕ → File
   fileBy none = file.Refused NoHeader (records says o n)
-  fileBy (some h) =
-      pick (isGone (says h)) (file.Refused Deleted (downTo h))
-      (pick (isFile (says h)) (file.Header (record { 0 = h }) (downTo h))
-      (file.Refused NotAFile (downTo h)))
+  fileBy (some h) = fileAt (says h) h (downTo h)
 
   -- the live file that object o is, if it is one
   unfoldable pub fileOf : File
@@ -55,16 +59,20 @@ module _ (says : ℕ → Kind) (o n : ℕ) where
       validOf k shown cut = min (countOf k) (min shown (cut - baseOf P c))
 
       -- the copy q of a live file with newest header h: hidden, and so a hole, if a later header cuts at or below the chunk's begin
-      unfoldable pub copyBy : ℕ → ℕ → Option ℕ → Looked
-      copyBy h size none = looked.Hole (shownOf size) (records says o n)
-      copyBy h size (some q) =
-          pick (leb (lowestCut says o h (ageOf says q) n) (baseOf P c)) (looked.Hole (shownOf size) (records says o n))
-          (looked.Copy (record { 0 = q }) (validOf (says q) (shownOf size) (lowestCut says o h (ageOf says q) n)) (shownOf size)
+      unfoldable pub copyAt : ℕ → ℕ → ℕ → Looked
+      copyAt h shown q =
+          pick (leb (lowestCut says o h (ageOf says q) n) (baseOf P c)) (looked.Hole shown (records says o n))
+          (looked.Copy (record { 0 = q }) (validOf (says q) shown (lowestCut says o h (ageOf says q) n)) shown
           (since says o (min (ageOf says q) (ageOf says h)) n))
+
+      -- by the copy, if there is one
+      unfoldable pub copyBy : ℕ → ℕ → Option ℕ → Looked
+      copyBy h shown none = looked.Hole shown (records says o n)
+      copyBy h shown (some q) = copyAt h shown q
 
       -- chunk c of a live file of a size, which ends before it or not
       unfoldable pub chunkBy : ℕ → ℕ → ℕ → Looked
-      chunkBy h v size = pick (leb size (baseOf P c)) (looked.Refused PastEnd v 0) (copyBy h size (newestCopy says o c n))
+      chunkBy h v size = pick (leb size (baseOf P c)) (looked.Refused PastEnd v 0) (copyBy h (shownOf size) (newestCopy says o c n))
 
       unfoldable pub lookedBy : File → Looked
       lookedBy (file.Refused r v) = looked.Refused r v 0

@@ -5,4 +5,8 @@ pub mod Lengths
 pub mod Pages
 pub mod Sound
 pub mod Counting
+pub mod Blocks
+pub mod Leading
+pub mod Finding
 pub mod Within
+pub mod Marked

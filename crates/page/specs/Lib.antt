@@ -11,3 +11,5 @@ pub mod Headers
 pub mod Kinds
 pub mod Counts
 pub mod Asked
+pub mod Find
+pub mod Shelf

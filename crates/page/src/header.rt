@@ -29,7 +29,7 @@ pub enum Headed {
 }
 
 // Whether a page is a header.
-fn is_header(k: Kind) -> bool
+pub fn is_header(k: Kind) -> bool
     ensures { λ r. ⌜ r ≡ isHeader k ⌝ }
 {
     let Kind::Header {

@@ -39,7 +39,7 @@ impl Layout {
     // The most bytes that a dump has.
     pub const MOST_BYTES: usize = 1_073_741_824;
     // The bytes of a page's tags.
-    pub const TAG_BYTES: u16 = 16;
+    pub const TAG_BYTES: usize = 16;
     // The bytes of a header.
     pub const HEADER_BYTES: u16 = 480;
 
@@ -170,7 +170,7 @@ impl Layout {
         if self.data < Layout::HEADER_BYTES {
             return false;
         }
-        (self.tag as usize) + 16 <= (self.spare as usize)
+        (self.tag as usize) + Layout::TAG_BYTES <= (self.spare as usize)
     }
 
     // Whether a dump of this length divides into whole blocks of k pages.

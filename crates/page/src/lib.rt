@@ -1,6 +1,7 @@
 // The pages of a dump: layouts, tags, page kinds, header fields, counts and the finding of the layout.
 pub mod count;
 pub mod fields;
+pub mod find;
 pub mod header;
 pub mod kind;
 pub mod layout;

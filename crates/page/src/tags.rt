@@ -72,7 +72,7 @@ impl Tags {
         let d = l.data as usize;
         let t = l.tag as usize;
         let spare = &page[d..];
-        let e = t + 16;
+        let e = t + Layout::TAG_BYTES;
         Tags::parse(&spare[t..e])
     }
 

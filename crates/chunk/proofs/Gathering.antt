@@ -1,0 +1,110 @@
+-- What one page more makes of each gathering: all that a scan's loop needs to know of its definition.
+use Prim.Native.Nat.{ℕ, zero, suc, _+_, _<_, _≤_, max, min}
+use mathlib.Core.Bool.{Bool, true, false, _&&_}
+use mathlib.Core.Option.{Option, none, some}
+use mathlib.Core.Path.{_≡_, refl, ap, _∙_}
+use native.Mathlib.Numerals.{add-one}
+use native.Mathlib.Omega.{arith}
+use borrow.Author.Tests.{le-leb, lt-leb}
+use lib.Dec.{eqb, ltb, leb}
+use Rattle.page.specs.Choice.{pick}
+use Rattle.page.specs.Counts.{isHeader, isData}
+use Rattle.page.proofs.Searching.{by-test}
+use Rattle.page.specs.declared.kind.Kind.{Kind}
+use Rattle.page.specs.declared.number.PageNumber.{PageNumber}
+use Rattle.chunk.specs.Gather.{gather}
+use Rattle.chunk.specs.Records.{ageOf, isOf}
+use Rattle.chunk.specs.Newest.{later, newest, since}
+use Rattle.chunk.specs.Cuts.{nowhere, lowestCut}
+use Rattle.chunk.specs.Sizes.{dataEnd}
+use Rattle.chunk.specs.declared.scan.Newest.the-variants.{At, Nothing}
+use Rattle.chunk.specs.Scans.{laterIn, newestIn, endWith, cutWith}
+
+-- a test joined with none
+pub and-true : (b : Bool) → b && true ≡ b
+and-true true = refl
+and-true false = refl
+
+-- no page, and one page more
+pub gather-none : {A : Type 0} (f : ℕ → A → A) (a : A) → gather f a 0 ≡ a
+unfolding gather
+gather-none f a = refl
+
+pub gather-step : {A : Type 0} (f : ℕ → A → A) (a : A) (n : ℕ) → gather f a (n + 1) ≡ f n (gather f a n)
+unfolding gather
+gather-step f a n = rw add-one
+
+-- equal pages found have equal ages
+at-age : (p q : PageNumber) (a b : ℕ) → At p a ≡ At q b → a ≡ b
+at-age p q a b e = cc
+
+module _ (says : ℕ → Kind) where
+  pub newest-none : (test : Kind → Bool) → newest says test 0 ≡ none
+  unfolding newest gather
+  newest-none test = refl
+
+  pub newest-step : (test : Kind → Bool) (n : ℕ) → newest says test (n + 1) ≡ pick (test (says n)) (later says n (newest says test n)) (newest says test n)
+  unfolding newest
+  newest-step test n = gather-step _ _ n
+
+  -- a page that does not pass is passed over
+  pub newest-skip : (test : Kind → Bool) (n : ℕ) → test (says n) ≡ false → newest says test (n + 1) ≡ newest says test n
+  newest-skip test n t = newest-step test n ∙ rw t
+
+  pub newest-take : (test : Kind → Bool) (n : ℕ) → test (says n) ≡ true → newest says test (n + 1) ≡ later says n (newest says test n)
+  newest-take test n t = newest-step test n ∙ rw t
+
+  -- the newer of two pages, kept with its age
+  pub later-in : (p : ℕ) (r : Option ℕ) → laterIn (newestIn says r) p (ageOf says p) ≡ newestIn says (later says p r)
+  later-in p none = refl
+  later-in p (some q) = by-test (leb (ageOf says q) (ageOf says p)) _ (λ t. rw t) (λ t. rw t)
+
+  -- what a scan found, as a page
+  pub in-none : (r : Option ℕ) → newestIn says r ≡ Nothing → r ≡ none
+  in-none none e = refl
+  in-none (some q) e = let z : _≡_ {A = ℕ} 0 1 = cc in absurd (omega arith)
+
+  pub in-some : (r : Option ℕ) (p : PageNumber) (a : ℕ) → newestIn says r ≡ At p a → (r ≡ some (p .0)) × (ageOf says (p .0) ≡ a)
+  in-some none p a e = let z : _≡_ {A = ℕ} 0 1 = cc in absurd (omega arith)
+  in-some (some q) p a e = let h : q ≡ p .0 = cc in (ap some h, rw (← h) (at-age _ _ _ _ e))
+
+  pub since-none : (o x : ℕ) → since says o x 0 ≡ 0
+  unfolding since gather
+  since-none o x = refl
+
+  pub since-step : (o x n : ℕ) → since says o x (n + 1) ≡ pick (isOf o (says n) && leb x (ageOf says n)) (suc (since says o x n)) (since says o x n)
+  unfolding since
+  since-step o x n = gather-step _ _ n
+
+  pub since-skip : (o x n : ℕ) → isOf o (says n) ≡ false → since says o x (n + 1) ≡ since says o x n
+  since-skip o x n t = since-step o x n ∙ rw t
+
+  pub since-old : (o x n : ℕ) → ageOf says n < x → since says o x (n + 1) ≡ since says o x n
+  since-old o x n t = since-step o x n ∙ by-test (isOf o (says n)) _ (λ u. rw (u, lt-leb x (ageOf says n) t)) (λ u. rw u)
+
+  pub since-one : (o x n : ℕ) → isOf o (says n) ≡ true → x ≤ ageOf says n → since says o x (n + 1) ≡ since says o x n + 1
+  since-one o x n t h = since-step o x n ∙ rw (t, le-leb x (ageOf says n) h, ← add-one)
+
+  pub end-none : (P o x : ℕ) → dataEnd says P o x 0 ≡ 0
+  unfolding dataEnd gather
+  end-none P o x = refl
+
+  pub end-step : (P o x n : ℕ) → dataEnd says P o x (n + 1) ≡ endWith (dataEnd says P o x n) P o x n (says n)
+  unfolding dataEnd endWith
+  end-step P o x n = gather-step _ _ n
+
+  pub end-skip : (P o x n : ℕ) → isData (says n) ≡ false → dataEnd says P o x (n + 1) ≡ dataEnd says P o x n
+  unfolding endWith
+  end-skip P o x n t = end-step P o x n ∙ by-test (isOf o (says n)) _ (λ u. rw (u, t)) (λ u. rw u)
+
+  pub cut-none : (o h x : ℕ) → lowestCut says o h x 0 ≡ nowhere
+  unfolding lowestCut gather
+  cut-none o h x = refl
+
+  pub cut-step : (o h x n : ℕ) → lowestCut says o h x (n + 1) ≡ cutWith (lowestCut says o h x n) o h x n (says n)
+  unfolding lowestCut cutWith
+  cut-step o h x n = gather-step _ _ n
+
+  pub cut-skip : (o h x n : ℕ) → isHeader (says n) ≡ false → lowestCut says o h x (n + 1) ≡ lowestCut says o h x n
+  unfolding cutWith
+  cut-skip o h x n t = cut-step o h x n ∙ by-test (isOf o (says n)) _ (λ u. rw (u, t)) (λ u. rw u)

@@ -1,0 +1,62 @@
+-- The loop's invariant: the lowest cut of the pages passed.
+use Prim.Native.Nat.{_≤_, _-_}
+use mathlib.Core.Bool.{false}
+use mathlib.Core.Path.{_≡_, sym, _∙_}
+use native.Mathlib.Omega.{arith}
+use borrow.Author.Needs.{needs}
+use Rattle.page.specs.Counts.{isHeader}
+use Rattle.page.specs.Kinds.{kindAt}
+use Rattle.page.proofs.Sound.{else-header}
+use Rattle.chunk.specs.Cuts.{lowestCut}
+use Rattle.chunk.proofs.Gathering.{cut-none, cut-skip, cut-step}
+use Rattle.chunk.proofs.scan.lowest_cut.Statement.{statement}
+use Rattle.chunk.proofs.scan.lowest_cut.Tie as tie
+
+abbrev Inv-loop : tie.InvT-loop
+Inv-loop dump l pages o h age cut₀ i₀ cut i = (i ≤ pages) × (cut ≡ lowestCut (kindAt l dump) (o .0) (h .0) age i)
+
+abbrev μ-loop : tie.MeasureT-loop
+μ-loop dump l pages o h age cut₀ i₀ cut i = pages - i
+
+loop-holds : tie.Need-loop-holds Inv-loop μ-loop
+loop-holds c = (search needs, rw cut-none)
+
+loop-again : tie.Need-loop-again Inv-loop μ-loop
+loop-again c =
+    let k = c .before in
+    let q = k .before .before .loop in
+    let a = k .before .before .before .before .args in
+    let says = kindAt (a .l) (a .dump .now) in
+    let t : isHeader (says (q .i)) ≡ false = rw (← k .kind-at .ensures) (else-header (k .kind-at .result) (c .match .keys2)) in
+    (search needs, q .inv .1 ∙ sym (cut-skip says (a .o .0) (a .h .0) (a .age) (q .i) t))
+
+loop-again-2 : tie.Need-loop-again-2 Inv-loop μ-loop
+loop-again-2 c =
+    let m = c .before .before in
+    let k = m .before .before in
+    let q = k .before .before .loop in
+    let a = k .before .before .before .before .args in
+    let says = kindAt (a .l) (a .dump .now) in
+    (search needs, c .cut-with .ensures ∙ rw (q .inv .1, ← m .k .given .1, k .kind-at .ensures) (sym (cut-step says (a .o .0) (a .h .0) (a .age) (q .i))))
+
+returns : tie.Need-returns Inv-loop μ-loop
+returns c =
+    let e : c .before .loop .i ≡ c .before .before .before .args .pages = omega arith in
+    rw e at (c .before .loop .inv .1)
+
+pub lowest-cut-spec : {M : Type 1} → statement M
+lowest-cut-spec =
+    tie.close
+    (tie.spec
+    Inv-loop
+    μ-loop
+    loop-holds
+    (search needs)
+    (search needs)
+    (search needs)
+    (search needs)
+    loop-again
+    (search needs)
+    (search needs)
+    loop-again-2
+    returns)

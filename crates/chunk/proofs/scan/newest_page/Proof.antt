@@ -1,0 +1,76 @@
+-- The loop's invariant: the newest wanted page of those passed.
+use Prim.Native.Nat.{_≤_, _-_}
+use mathlib.Core.Bool.{true, false}
+use mathlib.Core.Path.{_≡_, sym, ap, _∙_}
+use native.Mathlib.Omega.{arith}
+use borrow.Author.Needs.{needs}
+use borrow.Author.Tests.{not-true, not-false}
+use Rattle.page.specs.Kinds.{kindAt}
+use Rattle.chunk.specs.Records.{ageOf}
+use Rattle.chunk.specs.Newest.{newest}
+use Rattle.chunk.specs.Scans.{wanted, newestIn}
+use Rattle.chunk.proofs.Gathering.{newest-none, newest-skip, newest-take, later-in}
+use Rattle.chunk.proofs.scan.newest_page.Statement.{statement}
+use Rattle.chunk.proofs.scan.newest_page.Tie as tie
+
+abbrev Inv-loop : tie.InvT-loop
+Inv-loop dump l pages o w best₀ i₀ best i = (i ≤ pages) × (best ≡ newestIn (kindAt l dump) (newest (kindAt l dump) (wanted (o .0) w) i))
+
+abbrev μ-loop : tie.MeasureT-loop
+μ-loop dump l pages o w best₀ i₀ best i = pages - i
+
+loop-holds : tie.Need-loop-holds Inv-loop μ-loop
+loop-holds c = (search needs, rw newest-none)
+
+loop-again : tie.Need-loop-again Inv-loop μ-loop
+loop-again c =
+    let k = c .before .before in
+    let q = k .before .before .loop in
+    let a = k .before .before .before .before .args in
+    let says = kindAt (a .l) (a .dump .now) in
+    let t : wanted (a .o .0) (a .w) (says (q .i)) ≡ false =
+    rw (← k .kind-at .ensures, ← c .before .is-wanted .ensures) (not-true (c .before .is-wanted .result) (c .if1 .taken))
+    in
+    (search needs, q .inv .1 ∙ ap (newestIn says) (sym (newest-skip says (wanted (a .o .0) (a .w)) (q .i) t)))
+
+loop-again-2 : tie.Need-loop-again-2 Inv-loop μ-loop
+loop-again-2 c =
+    let e = c .before .before .before in
+    let k = e .before .before in
+    let q = k .before .before .loop in
+    let a = k .before .before .before .before .args in
+    let says = kindAt (a .l) (a .dump .now) in
+    let test = wanted (a .o .0) (a .w) in
+    let t : test (says (q .i)) ≡ true =
+    rw (← k .kind-at .ensures, ← e .before .is-wanted .ensures) (not-false (e .before .is-wanted .result) (e .if1 .left))
+    in
+    let g : c .before .order-of .result ≡ ageOf says (q .i) = rw (← k .kind-at .ensures, ← c .before .before .sequence-of .ensures) (c .before .order-of .ensures) in (
+      search needs,
+      c .or-newer .ensures
+          ∙ rw (q .inv .1, g) (later-in says (q .i) (newest says test (q .i)))
+          ∙ ap (newestIn says) (sym (newest-take says test (q .i) t)),
+    )
+
+returns : tie.Need-returns Inv-loop μ-loop
+returns c =
+    let e : c .before .loop .i ≡ c .before .before .before .args .pages = omega arith in
+    rw e at (c .before .loop .inv .1)
+
+pub newest-page-spec : {M : Type 1} → statement M
+newest-page-spec =
+    tie.close
+    (tie.spec
+    Inv-loop
+    μ-loop
+    loop-holds
+    (search needs)
+    (search needs)
+    (search needs)
+    (search needs)
+    loop-again
+    (search needs)
+    (search needs)
+    (search needs)
+    (search needs)
+    loop-again-2
+    returns)

@@ -1,0 +1,130 @@
+-- Laws of finding the layout: a found layout fits and divides the dump, no candidate has a higher score and none before it as high a one,
+-- and the answer rests on what the tags say alone.
+use Prim.Native.Nat.{ℕ, _≤_, _<_}
+use mathlib.Core.Bool.{Bool, true, false, not}
+use mathlib.Core.List.{List}
+use mathlib.Core.Path.{_≡_, refl, sym, fun-ext}
+use native.Mathlib.Nat.{le-antisymm}
+use native.Mathlib.Omega.{arith}
+use lib.Dec.{eqb}
+use lib.ListN.{length}
+use borrow.Author.Tests.{eqb-true, eqb-false}
+use Rattle.page.specs.Choice.{pick}
+use Rattle.page.specs.Layouts.{layoutAt}
+use Rattle.page.specs.Lengths.{blockFits, lengthFits, wholeBlocks, pageCount, pageIn}
+use Rattle.page.specs.Pages.{pageAt}
+use Rattle.page.specs.Tags.{tagBytes, claimOn, claimAt}
+use Rattle.page.specs.Find.{scoreOf, markedOf, scoreFits, fittingScore, candidateScore, winnerOf, findOf}
+use Rattle.page.specs.declared.layout.Layout.{Layout}
+use Rattle.page.specs.declared.layout.Named.{Named}
+use Rattle.page.specs.declared.layout.Named.the-variants as named
+use Rattle.page.specs.declared.refusal.Refusal.the-variants.{BadLayout, BadLength, NoLayout}
+use Rattle.page.proofs.Searching.{pick-cases, by-test}
+use Rattle.page.proofs.Blocks.{Through}
+use Rattle.page.proofs.Leading.{leader, highest-bounds, won-named, won-refused}
+
+-- a candidate that does not divide the dump into whole blocks has no score
+pub score-undivided : (dump : List ℕ) (k c : ℕ) → wholeBlocks (layoutAt c) k (length dump) ≡ false → candidateScore dump k c ≡ 0
+unfolding candidateScore
+score-undivided dump k c e = rw e
+
+-- one that does has what its blocks score, where it fits, once they all are gone through
+pub score-divided :
+    (dump : List ℕ) (k c next score marked : ℕ) → wholeBlocks (layoutAt c) k (length dump) ≡ true →
+    Through (claimAt (layoutAt c) dump) k (pageCount (layoutAt c) (length dump)) next score marked → pageCount (layoutAt c) (length dump) ≤ next →
+    candidateScore dump k c ≡ pick (scoreFits score marked) score 0
+unfolding candidateScore fittingScore
+score-divided dump k c next score marked e t h =
+    let all = le-antisymm h (t .within) in
+    rw (e, all, t .scored, t .counted)
+
+-- what the pages of a candidate score, and whether it fits
+abbrev pub ownScore : List ℕ → ℕ → ℕ → ℕ
+ownScore dump k c = scoreOf (claimAt (layoutAt c) dump) k (pageCount (layoutAt c) (length dump))
+
+abbrev pub ownFits : List ℕ → ℕ → ℕ → Bool
+ownFits dump k c = scoreFits (ownScore dump k c) (markedOf (claimAt (layoutAt c) dump) (pageCount (layoutAt c) (length dump)))
+
+-- a candidate that divides the dump into whole blocks and fits, with its score
+pub record Fitting (dump : List ℕ) (k c : ℕ) : Type 0 where
+  pub divides : wholeBlocks (layoutAt c) k (length dump) ≡ true
+  pub fits : ownFits dump k c ≡ true
+  pub scores : candidateScore dump k c ≡ ownScore dump k c
+
+-- is one that has a score
+pub fitting : (dump : List ℕ) (k c : ℕ) → 0 < candidateScore dump k c → Fitting dump k c
+unfolding candidateScore fittingScore
+fitting dump k c h =
+    pick-cases (wholeBlocks (layoutAt c) k (length dump)) _ _ _ _ refl
+    (λ d z. pick-cases (ownFits dump k c) _ _ _ _ z
+    (λ f y. record { divides = d; fits = f; scores = sym y })
+    (λ f y. absurd (omega arith)))
+    (λ d z. absurd (omega arith))
+
+-- and has one
+pub fitting-scores : (dump : List ℕ) (k c : ℕ) → wholeBlocks (layoutAt c) k (length dump) ≡ true → ownFits dump k c ≡ true → candidateScore dump k c ≡ ownScore dump k c
+unfolding candidateScore fittingScore
+fitting-scores dump k c d f = rw (d, f)
+
+-- an answer that is neither of the first refusals is the winner
+past-refusals :
+    (dump : List ℕ) (k : ℕ) (r : Named) → (named.Refused BadLayout ≡ r → ⊥) → (named.Refused BadLength ≡ r → ⊥) → findOf dump k ≡ r → winnerOf (candidateScore dump k) ≡ r
+unfolding findOf
+past-refusals dump k r f g e =
+    pick-cases (not (blockFits k)) _ _ _ _ e (λ t z. absurd (f z)) (λ t z. pick-cases (not (lengthFits (length dump))) _ _ _ _ z (λ u y. absurd (g y)) (λ u y. y))
+
+-- a found layout is that of a candidate that fits; none has a higher score, and none before it as high a one
+pub record Found (dump : List ℕ) (k : ℕ) (l : Layout) : Type 0 where
+  pub number : ℕ
+  pub listed : number < 13
+  pub row : layoutAt number ≡ l
+  pub fits : Fitting dump k number
+  pub highest : (c : ℕ) → c < 13 → candidateScore dump k c ≤ candidateScore dump k number
+  pub first : (c : ℕ) → c < number → candidateScore dump k c < candidateScore dump k number
+
+pub found-is : (dump : List ℕ) (k : ℕ) (l : Layout) → findOf dump k ≡ named.Layout l → Found dump k l
+found-is dump k l e =
+    let w = past-refusals dump k (named.Layout l) (λ z. let n : _≡_ {A = ℕ} 0 1 = cc in omega arith) (λ z. let n : _≡_ {A = ℕ} 0 1 = cc in omega arith) e in
+    let score = candidateScore dump k in
+    let o = leader score 13 in
+    let t = o .leads in
+    by-test (eqb (o .best) 0) _
+    (λ z. let r = won-refused t (eqb-true (o .best) 0 z) in let n : _≡_ {A = ℕ} 0 1 = cc in absurd (omega arith))
+    (λ z.
+    let q = eqb-false (o .best) 0 z in
+    let some : 0 < o .best = omega arith in
+    let r = won-named t some in
+    let s = t .here some in
+    record {
+      number = o .found;
+      listed = t .within some;
+      row = cc;
+      fits = fitting dump k (o .found) (omega (arith, s));
+      highest = λ c less. let b = highest-bounds score 13 c less in omega (arith, s, t .top);
+      first = λ c less. let b = t .before c less in omega (arith, s);
+    })
+
+-- where NoLayout is given, no candidate has a score
+pub none-found : (dump : List ℕ) (k : ℕ) → findOf dump k ≡ named.Refused NoLayout → (c : ℕ) → c < 13 → candidateScore dump k c ≡ 0
+none-found dump k e c h =
+    let w = past-refusals dump k (named.Refused NoLayout) (λ z. let n : _≡_ {A = ℕ} 0 1 = cc in omega arith) (λ z. let n : _≡_ {A = ℕ} 0 1 = cc in omega arith) e in
+    let o = leader (candidateScore dump k) 13 in
+    let b = highest-bounds (candidateScore dump k) 13 c h in
+    by-test (eqb (o .best) 0) _
+    (λ z. let q = eqb-true (o .best) 0 z in omega (arith, o .leads .top))
+    (λ z. let q = eqb-false (o .best) 0 z in let r = won-named (o .leads) (omega arith) in let n : _≡_ {A = ℕ} 0 1 = cc in absurd (omega arith))
+
+-- pages of the same tag bytes say the same, for two dumps of one length
+same-tags : (l : Layout) (a b : List ℕ) (i : ℕ) → length a ≡ length b → (pageIn l (length a) i ≡ true → tagBytes l (pageAt l a i) ≡ tagBytes l (pageAt l b i)) → claimAt l a i ≡ claimAt l b i
+unfolding claimAt claimOn
+same-tags l a b i e f = by-test (pageIn l (length a) i) _ (λ t. rw (← e, t, f t)) (λ t. rw (← e, t))
+
+-- finding reads tags alone: two dumps of one length with the same tag bytes have the same answer
+pub finding-reads-tags :
+    (a b : List ℕ) (k : ℕ) → length a ≡ length b →
+    ((c i : ℕ) → pageIn (layoutAt c) (length a) i ≡ true → tagBytes (layoutAt c) (pageAt (layoutAt c) a i) ≡ tagBytes (layoutAt c) (pageAt (layoutAt c) b i)) →
+    findOf a k ≡ findOf b k
+unfolding findOf candidateScore
+finding-reads-tags a b k e f =
+    let s : candidateScore a k ≡ candidateScore b k = fun-ext (λ c. rw (e, fun-ext (λ i. same-tags (layoutAt c) a b i e (f c i)))) in
+    rw (e, s)
