@@ -6,3 +6,4 @@ pub mod Places
 pub mod Additions
 pub mod Held
 pub mod Walks
+pub mod Requests
