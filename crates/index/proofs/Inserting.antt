@@ -57,7 +57,7 @@ module _ (n : ℕ) (obj age : ℕ → ℕ) (c : List ℕ) (o : ℕ) where
       h
 
 -- a record in a list that falls is older than the bound
-falls-in : (age : ℕ → ℕ) (p : ℕ) (L : List ℕ) (b : ℕ) → Falls age b L → In p L → age p < b
+pub falls-in : (age : ℕ → ℕ) (p : ℕ) (L : List ℕ) (b : ℕ) → Falls age b L → In p L → age p < b
 falls-in age p [] b f i = absurd i
 falls-in age p (q ∷ L) b f (inl e) = rw e (f .0)
 falls-in age p (q ∷ L) b f (inr i) = let k = falls-in age p L (age q) (f .1) i in omega (arith, f .0)

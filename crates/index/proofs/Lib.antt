@@ -10,3 +10,4 @@ pub mod Lending
 pub mod Ordering
 pub mod Entries
 pub mod Placing
+pub mod Kept
