@@ -21,7 +21,7 @@ use Rattle.index.specs.Slots.{slot, firstIn, first, used}
 use Rattle.index.specs.Chains.{Trace, chain, trace, top}
 use Rattle.index.specs.Places.{placeOf}
 use Rattle.index.specs.Additions.{Outcome, outcome, refused, emptied, addAt, addTo}
-use Rattle.index.specs.Held.{seen, with, recs, fromList, Held}
+use Rattle.index.specs.Held.{seen, noneAdded, with, recs, fromList, Held}
 use Rattle.index.specs.declared.additions.Added.{Added}
 use Rattle.index.specs.declared.additions.Added.the-variants.{Done, Refused}
 use Rattle.index.specs.declared.places.Place.the-variants as place
@@ -167,14 +167,11 @@ module _
 
 -- a start makes the index hold no page
 module _ (n : ℕ) (obj age : ℕ → ℕ) (pos : 0 < n) (c : List ℕ) (room : cellsFor n ≤ length c) where
-  abbrev none : ℕ → Bool
-  none p = false
-
   zero-at : (i : ℕ) → i < cellsFor n → word (emptied n c) i ≡ 0
   zero-at i h =
       List·getD-append (replicate (cellsFor n) 0) (drop (cellsFor n) c) 0 i (rw length-replicate h) ∙ getD-replicate (cellsFor n) i 0 0 h
 
-  pub start-holds : Held n obj age none (emptied n c)
+  pub start-holds : Held n obj age noneAdded (emptied n c)
   unfolding chain fromList
   start-holds = record {
     room = simp (length-append, length-replicate, length-drop) (omega arith);
@@ -184,7 +181,7 @@ module _ (n : ℕ) (obj age : ℕ → ℕ) (pos : 0 < n) (c : List ℕ) (room : 
         let k : keys (emptied n c) (slot n (keys (emptied n c)) o) ≡ 0 = zero-at _ (omega (arith, s)) in
         ap (trace n obj age (emptied n c) o top) (first-none n (emptied n c) o _ refl (λ e. absurd (omega arith)))
         ∙ trace-end n obj age o (emptied n c) top 0 (omega arith)
-        ∙ ap fromList (sym (recs-none (seen obj none) age o n (λ x e. absurd (omega arith))));
+        ∙ ap fromList (sym (recs-none (seen obj noneAdded) age o n (λ x e. absurd (omega arith))));
     homes = λ j jn k. absurd (k (zero-at (keyAt j) (omega arith)));
-    spare = rw (count-same none (used (keys (emptied n c))) n (λ i l. ap (λ (v : ℕ). not (eqb v 0)) (zero-at (keyAt i) (omega arith)))) (le-refl _);
+    spare = rw (count-same noneAdded (used (keys (emptied n c))) n (λ i l. ap (λ (v : ℕ). not (eqb v 0)) (zero-at (keyAt i) (omega arith)))) (le-refl _);
   }

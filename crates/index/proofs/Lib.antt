@@ -18,3 +18,4 @@ pub mod Entries
 pub mod Placing
 pub mod Turning
 pub mod Demanding
+pub mod Kept
