@@ -33,9 +33,9 @@ use Rattle.index.specs.Cells.{cellsFor, word, keys, linked, claimed, isM
 use Rattle.index.specs.Chains.{objects, chain}
 use Rattle.index.specs.Places.{placeOf}
 use Rattle.index.specs.Additions.{Outcome, outcome, refused, emptied, startIn, startOf, addOther, addAt, addRecord, addTo, addIn, addOf}
-use Rattle.index.specs.Held.{with, seen, recs, fromList, Held}
+use Rattle.index.specs.Held.{noneAdded, with, seen, recs, fromList, Held}
 use Rattle.index.specs.Walks.{seenSays, sizeWalk, chunkWalk, sizeIn, chunkIn, sizeFrom, chunkFrom}
-use Rattle.index.specs.Requests.{Request, start, add, size, chunk, read, part, Answer, addition, aSize, aChunk, readAnswer, partAnswer, answerOn, wordsAfter, answersOn, wordsOf, unlessRefused, sizeSeen, chunkSeen, answerBy, nothing, addedAfter, answersBy, addedOf}
+use Rattle.index.specs.Requests.{Request, start, add, size, chunk, read, part, Answer, addition, aSize, aChunk, readAnswer, partAnswer, answerOn, wordsAfter, answersOn, wordsOf, unlessRefused, sizeSeen, chunkSeen, answerBy, addedAfter, answersBy, addedOf}
 use Rattle.index.specs.declared.additions.Added.{Added}
 use Rattle.index.specs.declared.additions.Added.the-variants.{Done, Refused}
 use Rattle.index.specs.declared.places.Place.{Place}
@@ -124,9 +124,10 @@ module _ (l : Layout) (dump : List ℕ) (k₀ n : ℕ) (accepted : openedOf l k�
       slice-held h = held-lent n obj age some c (take w c) (λ i k. getD-take w c i 0 (omega arith)) done (rw slice-length h) g
 
       back : (d : List ℕ) (a : ℕ → Bool) → length d ≡ length (take w c) → Held n obj age a d → Held n obj age a (d ++ drop w c) × (length (d ++ drop w c) ≡ m)
-      back d a e q =
-          (held-lent n obj age some d (d ++ drop w c) (λ i k. List·getD-append d (drop w c) 0 i (omega (arith, q .room))) a (simp length-append (omega (arith, q .room))) q,
-          simp (length-append, length-drop) (omega (arith, slice-length)))
+      back d a e q = (
+        held-lent n obj age some d (d ++ drop w c) (λ i k. List·getD-append d (drop w c) 0 i (omega (arith, q .room))) a (simp length-append (omega (arith, q .room))) q,
+        simp (length-append, length-drop) (omega (arith, slice-length)),
+      )
 
     answer-to : (b : Bool) → answerTo b ≡ pick b (Refused AlreadyAdded) Done
     answer-to true = refl
@@ -143,11 +144,12 @@ module _ (l : Layout) (dump : List ℕ) (k₀ n : ℕ) (accepted : openedOf l k�
         (λ t. rw t (refl, unchanged w))
         (λ t.
         let h : cellsFor n ≤ length (take w c) = rw (slice-length w) (ltb-false _ _ t) in
-        rw t
-        (refl,
-        back w (emptied n (take w c)) nothing
-        (simp (length-append, length-replicate, length-drop) (omega arith))
-        (start-holds n obj age some (take w c) h)))))
+        rw t (
+          refl,
+          back w (emptied n (take w c)) noneAdded
+              (simp (length-append, length-replicate, length-drop) (omega arith))
+              (start-holds n obj age some (take w c) h),
+        ))))
 
     step-add : (k w p : ℕ) → Step m c done (add k w p)
     unfolding answerOn wordsAfter answerBy addedAfter addOf addIn

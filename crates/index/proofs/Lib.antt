@@ -19,3 +19,4 @@ pub mod Placing
 pub mod Turning
 pub mod Demanding
 pub mod Kept
+pub mod Demanded

@@ -7,3 +7,4 @@ pub mod Additions
 pub mod Held
 pub mod Walks
 pub mod Requests
+pub mod Demand

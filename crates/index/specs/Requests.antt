@@ -19,7 +19,7 @@ use Rattle.chunk.specs.declared.answer.Looked.{Looked}
 use Rattle.chunk.specs.declared.answer.Looked.the-variants as looked
 use Rattle.index.specs.Cells.{cellsFor}
 use Rattle.index.specs.Additions.{startOf, addOf}
-use Rattle.index.specs.Held.{with}
+use Rattle.index.specs.Held.{noneAdded, with}
 use Rattle.index.specs.Walks.{seenSays, sizeFrom, chunkFrom}
 use Rattle.index.specs.declared.additions.Added.{Added}
 use Rattle.index.specs.declared.additions.Added.the-variants.{Done, Refused}
@@ -40,10 +40,6 @@ pub data Answer : Type 0 where
   aChunk : Looked → Answer
   aRead : Looked → List ℕ → Answer
   aPart : List ℕ → Answer
-
--- no page
-abbrev pub nothing : ℕ → Bool
-nothing p = false
 
 module _ (l : Layout) (dump : List ℕ) where
   -- what a read and a borrowed part give of a chunk lookup
@@ -112,7 +108,7 @@ module _ (l : Layout) (dump : List ℕ) where
 
     -- the pages added: an accepted start forgets all; an addition to which no refusal ordered before IndexDamaged applies adds its page
     unfoldable pub addedAfter : (ℕ → Bool) → Request → ℕ → Bool
-    addedAfter done (start k w) = unlessRefused (λ r. done) (λ n. nothing) k w
+    addedAfter done (start k w) = unlessRefused (λ r. done) (λ n. noneAdded) k w
     addedAfter done (add k w p) = unlessRefused (λ r. done) (λ n. pick (leb n p) done (with p done)) k w
     addedAfter done (size k w o) = done
     addedAfter done (chunk k w o c) = done
