@@ -15,16 +15,19 @@ use Rattle.page.specs.Search.{count, more}
 use Rattle.page.proofs.Searching.{by-test, count-none, count-le}
 use Rattle.page.specs.declared.kind.Kind.{Kind}
 use Rattle.page.specs.declared.refusal.Refusal.the-variants.{NoObject, NoHeader, IndexDamaged}
+use Rattle.chunk.specs.Records.{ageOf}
 use Rattle.chunk.specs.declared.answer.Looked.the-variants as looked
 use Rattle.index.specs.Cells.{word, linkAt}
-use Rattle.index.specs.Chains.{Trace, clean, broken, rec, by, leadOf, traceBy, trace}
-use Rattle.index.specs.Walks.{recordsIn, cutBy, metWith, reach, found, isShown, seek}
+use Rattle.index.specs.Chains.{objects, Trace, clean, broken, rec, by, leadOf, traceBy, trace}
+use Rattle.index.specs.Walks.{recordsIn, behind, cutBy, metWith, reach, found, isShown, seek, under, below}
 use Rattle.index.specs.declared.chains.Lead.{Lead}
 use Rattle.index.specs.declared.chains.Lead.the-variants.{End, Damaged, Record}
 use Rattle.index.specs.declared.walks.Met.{Met}
+use Rattle.index.specs.declared.walks.Met.the-variants.{Nothing}
+use Rattle.index.specs.declared.walks.Reached.{Reached}
 use Rattle.index.specs.declared.walks.Reached.the-variants as reached
 use Rattle.index.proofs.Counts.{count-suc}
-use Rattle.index.proofs.Links.{Known, known}
+use Rattle.index.proofs.Links.{Known, known, Told, told}
 use Rattle.index.proofs.Walking.{endBy}
 
 -- down to the newest header
@@ -130,3 +133,36 @@ module _ (n : ℕ) (obj age : ℕ → ℕ) (c : List ℕ) (o : ℕ) where
   pub few : (b w : ℕ) → recordsIn (trace n obj age c o b w) ≤ n
   unfolding trace
   few b w = le-trans (few-older b b w) (count-le (λ p. ltb (age p) b) n)
+
+-- where a walk down to the newest header lands: at a page of the dump, with the chain below that page behind it
+module _ (says : ℕ → Kind) (n : ℕ) (cells : List ℕ) (o P c : ℕ) where
+  abbrev pub Lands : Trace → Reached → Type 0
+  Lands rest (reached.Refused r v) = Unit {0}
+  Lands rest (reached.Header h e m v) = (h .0 < n) × (rest ≡ below says n cells o (h .0))
+
+  abbrev Landed : ℕ → ℕ → Type 0
+  Landed b w = (end : ℕ) (m : Met) (v : ℕ) → Lands (behind says (under says n cells o b w)) (reach says P c end m v (under says n cells o b w))
+
+  -- by where the next link leads, if it holds from each older record on
+  lands-on : (b w : ℕ) → ((q : ℕ) → ageOf says q < b → Landed (ageOf says q) (word cells (linkAt q))) → Landed b w
+  unfolding reach behind
+  lands-on b w on end m v = go (leadOf n (objects says) (ageOf says) o b w) (told n (objects says) (ageOf says) o cells b w _ refl)
+    where
+      go :
+          (l : Lead) →
+          Told n (objects says) (ageOf says) o cells b w l →
+          Lands (behind says (under says n cells o b w)) (reach says P c end m v (under says n cells o b w))
+      go End k = rw (k .0) (by-test (eqb v 0) _ (λ t. rw t tt) (λ t. rw t tt))
+      go Damaged k = rw k tt
+      go (Record q a) k =
+          rw (k .2)
+          (by-test (isHeader (says (q .0))) _
+          (λ t. rw t (k .1 .inside, refl))
+          (λ t. rw t (on (q .0) (k .1 .older) (endBy says P (q .0) end) (metWith says P c (q .0) m) (v + 1))))
+
+  lands-by : (f b w : ℕ) → b ≤ f → Landed b w
+  lands-by zero b w h = lands-on b w (λ q k. absurd (omega arith))
+  lands-by (suc f) b w h = lands-on b w (λ q k. lands-by f (ageOf says q) (word cells (linkAt q)) (omega arith))
+
+  pub lands : (b w : ℕ) → Lands (behind says (under says n cells o b w)) (reach says P c 0 Nothing 0 (under says n cells o b w))
+  lands b w = lands-by b b w (le-refl b) 0 Nothing 0
