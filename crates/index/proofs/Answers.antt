@@ -10,8 +10,8 @@ use Rattle.page.specs.declared.refusal.Refusal.{Refusal}
 use Rattle.page.specs.declared.refusal.Refusal.the-variants.{ShortIndex, BadPage, AlreadyAdded}
 use Rattle.page.specs.declared.layout.Opened.the-variants.{Pages}
 use Rattle.index.specs.Cells.{cellsFor, linkAt, firstAt, word, keys, isMarked, last, linked, claimed}
-use Rattle.index.specs.Slots.{slot}
-use Rattle.index.specs.Chains.{chain}
+use Rattle.index.specs.Slots.{slot, firstIn, first}
+use Rattle.index.specs.Chains.{top, trace, chain}
 use Rattle.index.specs.Places.{placeOf}
 use Rattle.index.specs.Additions.{Outcome, outcome, refused, emptied, startIn, addOther, addAt, addRecord, addTo}
 use Rattle.index.specs.declared.additions.Added.the-variants.{Done}
@@ -70,6 +70,10 @@ module _ (n : ℕ) (obj age : ℕ → ℕ) (c : List ℕ) (p : ℕ) where
 
   -- a record goes by its place in its object's chain
   pub record-at :
-      (s : ℕ) → s ≡ slot n (keys c) (obj p) → addRecord n obj age c p ≡ addAt c p (obj p) s (placeOf age p (chain n obj age c (obj p)) (firstAt s))
-  unfolding addRecord
-  record-at s e = rw e refl
+      (s o : ℕ) (r : Place) →
+      s ≡ slot n (keys c) o →
+      o ≡ obj p →
+      r ≡ placeOf age p (trace n obj age c o top (firstIn c s o)) (firstAt s) →
+      addAt c p o s r ≡ addRecord n obj age c p
+  unfolding addRecord chain first
+  record-at s o r e f g = rw (g, e, f) refl

@@ -24,7 +24,7 @@ use Rattle.index.proofs.Links.{trace-end, frame}
 use Rattle.index.proofs.Records.{In, recs-of, recs-same, recs-add}
 use Rattle.index.proofs.Inserting.{Member, spot, spot-form, word-at, word-own, word-other, insert-trace}
 use Rattle.index.proofs.Counts.{count-same, count-more}
-use Rattle.index.proofs.Probing.{slot-lt, slot-same, slot-fill}
+use Rattle.index.proofs.Probing.{slot-lt, slot-same, slot-fill, first-own, first-none}
 
 -- what the cells hold, but for how many slots are used
 pub record Sound (n : ℕ) (obj age : ℕ → ℕ) (added : ℕ → Bool) (c : List ℕ) : Type 0 where
@@ -32,16 +32,6 @@ pub record Sound (n : ℕ) (obj age : ℕ → ℕ) (added : ℕ → Bool) (c : L
   pub marks : (p : ℕ) → p < n → isMarked c p ≡ added p
   pub chains : (o : ℕ) → 0 < o → chain n obj age c o ≡ fromList (recs (seen obj added) age o n)
   pub homes : (s : ℕ) → s < n → (keys c s ≡ 0 → ⊥) → slot n (keys c) (keys c s) ≡ s
-
--- where an object's chain starts, if s is its slot
-module _ (n : ℕ) (c : List ℕ) (o s : ℕ) (at : slot n (keys c) o ≡ s) where
-  pub first-own : keys c s ≡ o → first n c o ≡ word c (firstAt s)
-  unfolding first firstIn
-  first-own k = rw at (simp (eq-eqb (keys c s) o k))
-
-  pub first-none : (keys c s ≡ o → ⊥) → first n c o ≡ 0
-  unfolding first firstIn
-  first-none k = rw at (simp (ne-eqb (keys c s) o k))
 
 -- an added page's link is not 0
 marked-some : (w : ℕ) → 0 < marked w

@@ -17,11 +17,11 @@ use Rattle.page.specs.Choice.{pick}
 use Rattle.page.specs.Search.{count}
 use Rattle.page.specs.declared.refusal.Refusal.the-variants.{AlreadyAdded}
 use Rattle.index.specs.Cells.{cellsFor, word, linkAt, keyAt, firstAt, keys, isMarked, last, linked, claimed}
-use Rattle.index.specs.Slots.{slot, first, used}
+use Rattle.index.specs.Slots.{slot, firstIn, first, used}
 use Rattle.index.specs.Chains.{Trace, chain, trace, top}
 use Rattle.index.specs.Places.{placeOf}
 use Rattle.index.specs.Additions.{Outcome, outcome, refused, emptied, addAt, addTo}
-use Rattle.index.specs.Held.{seen, with, recs, fromList, Held}
+use Rattle.index.specs.Held.{seen, noneAdded, with, recs, fromList, Held}
 use Rattle.index.specs.declared.additions.Added.{Added}
 use Rattle.index.specs.declared.additions.Added.the-variants.{Done, Refused}
 use Rattle.index.specs.declared.places.Place.the-variants as place
@@ -29,8 +29,8 @@ use Rattle.index.proofs.Links.{trace-end}
 use Rattle.index.proofs.Records.{In, recs-in, recs-none}
 use Rattle.index.proofs.Inserting.{spot, place-spot, place-met, trace-falls}
 use Rattle.index.proofs.Counts.{count-miss, count-same, count-more}
-use Rattle.index.proofs.Probing.{slot-lt, slot-serves}
-use Rattle.index.proofs.Holding.{Sound, Owned, first-none, with-itself, with-other, out, link-key, link-sound, claim-own, claim-free, mark-key, mark-sound}
+use Rattle.index.proofs.Probing.{slot-lt, slot-serves, first-none}
+use Rattle.index.proofs.Holding.{Sound, Owned, with-itself, with-other, out, link-key, link-sound, claim-own, claim-free, mark-key, mark-sound}
 use Rattle.index.proofs.Answers.{other-marked, other-new, at-refused, at-new, add-other, add-record, record-at}
 
 -- what an addition to an index answers where a page has been added or not
@@ -64,24 +64,27 @@ module _
     sound : Sound n obj age added c
     sound = record { room = g .room; marks = g .marks; chains = g .chains; homes = g .homes }
 
+    -- the chain of its object
+    from : 0 < o → trace n obj age c o top (firstIn c s o) ≡ fromList L
+    unfolding chain first
+    from pos = g .chains o pos
+
     -- a page that comes again
     module _ (there : added p ≡ true) where
       marked-there : isMarked c p ≡ true
       marked-there = g .marks p pn ∙ there
 
-      met : 0 < o → placeOf age p (chain n obj age c o) (firstAt s) ≡ place.Refused AlreadyAdded
-      unfolding chain
+      met : 0 < o → placeOf age p (trace n obj age c o top (firstIn c s o)) (firstAt s) ≡ place.Refused AlreadyAdded
       met pos =
-          ap (λ (t : Trace). placeOf age p t (firstAt s)) (g .chains o pos)
-          ∙ place-met age p L top (firstAt s) (trace-falls n obj age c o L top (first n c o) (g .chains o pos))
+          ap (λ (t : Trace). placeOf age p t (firstAt s)) (from pos)
+          ∙ place-met age p L top (firstAt s) (trace-falls n obj age c o L top (firstIn c s o) (from pos))
           (recs-in (seen obj added) age o n p pn (simp there))
 
       again : Dec (o ≡ 0) → addTo n obj age c p ≡ refused AlreadyAdded c
       again (yes z) = add-other n obj age c p (g .room) pn z ∙ other-marked c p marked-there
       again (no z) =
           add-record n obj age c p (g .room) pn z
-          ∙ record-at n obj age c p s refl
-          ∙ ap (addAt c p o s) (met (omega arith))
+          ∙ sym (record-at n obj age c p s o (place.Refused AlreadyAdded) refl refl (sym (met (omega arith))))
           ∙ at-refused c p o s AlreadyAdded
 
       -- it is one of the added pages as before
@@ -133,13 +136,15 @@ module _
         abbrev C : List ℕ
         C = linked c₁ p (spot age p L (firstAt s))
 
+        free-place : placeOf age p (trace n obj age c o top (firstIn c s o)) (firstAt s) ≡ place.At (spot age p L (firstAt s))
+        free-place =
+            ap (λ (t : Trace). placeOf age p t (firstAt s)) (from pos)
+            ∙ place-spot age p L (firstAt s) (out n obj age inj old added p pn fresh pos)
+
         link-answer : addTo n obj age c p ≡ outcome Done C
         link-answer =
             add-record n obj age c p (g .room) pn (λ z. absurd (omega arith))
-            ∙ record-at n obj age c p s refl
-            ∙ ap (addAt c p o s)
-            (ap (λ (t : Trace). placeOf age p t (firstAt s)) (g .chains o pos)
-            ∙ place-spot age p L (firstAt s) (out n obj age inj old added p pn fresh pos))
+            ∙ sym (record-at n obj age c p s o (place.At (spot age p L (firstAt s))) refl refl (sym free-place))
             ∙ at-new c p o s (spot age p L (firstAt s)) unmarked
 
         link-held : Held n obj age (with p added) C
@@ -162,14 +167,11 @@ module _
 
 -- a start makes the index hold no page
 module _ (n : ℕ) (obj age : ℕ → ℕ) (pos : 0 < n) (c : List ℕ) (room : cellsFor n ≤ length c) where
-  abbrev none : ℕ → Bool
-  none p = false
-
   zero-at : (i : ℕ) → i < cellsFor n → word (emptied n c) i ≡ 0
   zero-at i h =
       List·getD-append (replicate (cellsFor n) 0) (drop (cellsFor n) c) 0 i (rw length-replicate h) ∙ getD-replicate (cellsFor n) i 0 0 h
 
-  pub start-holds : Held n obj age none (emptied n c)
+  pub start-holds : Held n obj age noneAdded (emptied n c)
   unfolding chain fromList
   start-holds = record {
     room = simp (length-append, length-replicate, length-drop) (omega arith);
@@ -179,7 +181,7 @@ module _ (n : ℕ) (obj age : ℕ → ℕ) (pos : 0 < n) (c : List ℕ) (room : 
         let k : keys (emptied n c) (slot n (keys (emptied n c)) o) ≡ 0 = zero-at _ (omega (arith, s)) in
         ap (trace n obj age (emptied n c) o top) (first-none n (emptied n c) o _ refl (λ e. absurd (omega arith)))
         ∙ trace-end n obj age o (emptied n c) top 0 (omega arith)
-        ∙ ap fromList (sym (recs-none (seen obj none) age o n (λ x e. absurd (omega arith))));
+        ∙ ap fromList (sym (recs-none (seen obj noneAdded) age o n (λ x e. absurd (omega arith))));
     homes = λ j jn k. absurd (k (zero-at (keyAt j) (omega arith)));
-    spare = rw (count-same none (used (keys (emptied n c))) n (λ i l. ap (λ (v : ℕ). not (eqb v 0)) (zero-at (keyAt i) (omega arith)))) (le-refl _);
+    spare = rw (count-same noneAdded (used (keys (emptied n c))) n (λ i l. ap (λ (v : ℕ). not (eqb v 0)) (zero-at (keyAt i) (omega arith)))) (le-refl _);
   }

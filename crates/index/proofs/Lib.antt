@@ -17,3 +17,4 @@ pub mod Bridging
 pub mod Entries
 pub mod Placing
 pub mod Turning
+pub mod Kept

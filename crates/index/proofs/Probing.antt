@@ -3,6 +3,7 @@
 -- found there still.
 use Prim.Native.Nat.{ℕ, zero, suc, _+_, _-_, _%_, _≤_, _<_}
 use mathlib.Core.Bool.{Bool, true, false, not, _||_}
+use mathlib.Core.List.{List}
 use mathlib.Core.Logic.{_≢_}
 use mathlib.Core.Path.{_≡_, refl, sym, ap, _∙_}
 use native.Mathlib.Nat.{not-suc-le-zero, mod-lt, le-refl}
@@ -12,7 +13,8 @@ use lib.Dec.{eqb}
 use borrow.Author.Tests.{eqb-true, eqb-false, eq-eqb, ne-eqb}
 use Rattle.page.specs.Choice.{pick}
 use Rattle.page.specs.Search.{count}
-use Rattle.index.specs.Slots.{serves, down, slot, foundOr, used}
+use Rattle.index.specs.Cells.{word, keys, firstAt}
+use Rattle.index.specs.Slots.{serves, down, slot, foundOr, firstIn, first, used}
 use Rattle.index.specs.declared.slots.Found.{Found}
 use Rattle.index.specs.declared.slots.Found.the-variants.{Slot, Nothing}
 use Rattle.index.proofs.Counts.{count-all}
@@ -160,3 +162,22 @@ module _ (key key′ : ℕ → ℕ) (o s : ℕ) (free : key s ≡ 0) (others : (
             down-fill (o % n + 1) (λ j q z. let y : _≡_ {A = ℕ} 0 1 = cc in absurd (omega arith)) ∙ e,
             down-fill n (λ j q z. let y : _≡_ {A = ℕ} 0 1 = cc in absurd (omega arith)) ∙ f,
           ) refl
+
+-- the link to an object's first record, if s is its slot
+module _ (c : List ℕ) (s o : ℕ) where
+  pub first-in-own : keys c s ≡ o → firstIn c s o ≡ word c (firstAt s)
+  unfolding firstIn
+  first-in-own k = simp (eq-eqb (keys c s) o k)
+
+  pub first-in-none : (keys c s ≡ o → ⊥) → firstIn c s o ≡ 0
+  unfolding firstIn
+  first-in-none k = simp (ne-eqb (keys c s) o k)
+
+module _ (n : ℕ) (c : List ℕ) (o s : ℕ) (at : slot n (keys c) o ≡ s) where
+  pub first-own : keys c s ≡ o → first n c o ≡ word c (firstAt s)
+  unfolding first
+  first-own k = rw at (first-in-own c s o k)
+
+  pub first-none : (keys c s ≡ o → ⊥) → first n c o ≡ 0
+  unfolding first
+  first-none k = rw at (first-in-none c s o k)

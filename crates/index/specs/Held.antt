@@ -2,7 +2,7 @@
 -- Everything above speaks of this predicate, and not of cells.
 use Prim.Native.Nat.{ℕ, zero, suc, _≤_, _<_}
 use mathlib.Core.Path.{_≡_}
-use mathlib.Core.Bool.{Bool, _||_}
+use mathlib.Core.Bool.{Bool, false, _||_}
 use mathlib.Core.List.{List, [], _∷_}
 use lib.ListN.{length}
 use lib.Dec.{eqb, leb}
@@ -15,6 +15,10 @@ use Rattle.index.specs.Chains.{Trace, clean, rec, chain}
 -- the pages not yet added read as blank: they are no records
 abbrev pub seen : (ℕ → ℕ) → (ℕ → Bool) → ℕ → ℕ
 seen obj added p = pick (added p) (obj p) 0
+
+-- no page has been added
+abbrev pub noneAdded : ℕ → Bool
+noneAdded p = false
 
 -- page p added too
 abbrev pub with : ℕ → (ℕ → Bool) → ℕ → Bool

@@ -8,6 +8,7 @@ ghost use Rattle.page.specs.declared.layout.Opened.the-variants as opened;
 ghost use Rattle.chunk.specs.Records.{ageOf};
 ghost use Rattle.index.specs.Cells.{cellsFor, linkAt};
 ghost use Rattle.index.specs.Chains.{objects};
+ghost use Rattle.index.specs.Places.{Recorded};
 ghost use Rattle.index.specs.Additions.{outcome, startIn, startOf, addOther, addAt, addRecord, addTo, addOf};
 use crate::cells::LAST;
 use crate::cells::cells_for;
@@ -93,12 +94,7 @@ fn add_record(
     p: PageNumber,
     age: u64,
 ) -> Added
-    requires { ⌜ pages ≤ 2 ^ 31 ⌝ }
-    requires { ⌜ p .0 < pages ⌝ }
-    requires { ⌜ cellsFor pages ≤ length (now cells) ⌝ }
-    requires { ⌜ 0 < o .0 ⌝ }
-    requires { ⌜ o .0 ≡ objects (kindAt l (now dump)) (p .0) ⌝ }
-    requires { ⌜ age ≡ ageOf (kindAt l (now dump)) (p .0) ⌝ }
+    requires { ⌜ Recorded (kindAt l (now dump)) pages (now cells) (o .0) (p .0) age ⌝ }
     ensures { λ r. ⌜ outcome r (now (cells .exit)) ≡ addRecord pages (objects (kindAt l (now (dump .entry)))) (ageOf (kindAt l (now (dump .entry)))) (now (cells .entry)) (p .0) ⌝ }
 {
     let s = slot_of(cells, o, pages);

@@ -1,8 +1,8 @@
 // What a page is to the index.
 ghost use mathlib.Core.Path.{_≡_};
 ghost use Rattle.page.specs.Kinds.{kindAt};
-ghost use Rattle.chunk.specs.Records.{orderOf};
 ghost use Rattle.index.specs.Entries.{entryOf};
+use chunk::record::order_of;
 use page::kind::Kind;
 use page::kind::kind_at;
 use page::layout::Layout;
@@ -13,13 +13,6 @@ use page::number::PageNumber;
 pub enum Entry {
     Record(ObjectId, u64),
     Other,
-}
-
-// The place of a record in the order: by sequence, then by page.
-fn order_of(sequence: u32, p: PageNumber) -> u64
-    ensures { λ r. ⌜ r ≡ orderOf sequence (p .0) ⌝ }
-{
-    (sequence as u64) * 4_294_967_296 + (p.0 as u64)
 }
 
 // What page p of the dump is; a page that is no record is passed over.

@@ -1,12 +1,11 @@
 // Where the link to a page goes in the chain of its object, and putting the page in there.
 ghost use mathlib.Core.Path.{_≡_};
-ghost use Prim.Native.Nat.{_≤_, _<_, _^_};
+ghost use Prim.Native.Nat.{_<_, _^_};
 ghost use lib.ListN.{length};
 ghost use Rattle.page.specs.Kinds.{kindAt};
-ghost use Rattle.chunk.specs.Records.{ageOf};
-ghost use Rattle.index.specs.Cells.{cellsFor, word, linkAt, firstAt, isMarked, linked};
+ghost use Rattle.index.specs.Cells.{word, linkAt, firstAt, isMarked, linked};
 ghost use Rattle.index.specs.Slots.{firstIn};
-ghost use Rattle.index.specs.Places.{Within, placeFrom};
+ghost use Rattle.index.specs.Places.{Recorded, Within, placeFrom};
 use crate::cells::LINKS;
 use crate::cells::first_at;
 use crate::cells::key_at;
@@ -38,9 +37,7 @@ fn place_from(
     age: u64,
     from: usize,
 ) -> Place
-    requires { ⌜ 0 < o .0 ⌝ }
-    requires { ⌜ age ≡ ageOf (kindAt l (now dump)) (p .0) ⌝ }
-    requires { ⌜ cellsFor pages ≤ length (now cells) ⌝ }
+    requires { ⌜ Recorded (kindAt l (now dump)) pages (now cells) (o .0) (p .0) age ⌝ }
     requires { ⌜ from < length (now cells) ⌝ }
     ensures { λ r. ⌜ r ≡ placeFrom (kindAt l (now (dump .entry))) pages (now (cells .entry)) (o .0) (p .0) (word (now (cells .entry)) from) from ⌝ }
     ensures { λ r. ⌜ Within (length (now (cells .entry))) r ⌝ }
@@ -81,9 +78,7 @@ pub(crate) fn place_of(
     age: u64,
     s: u32,
 ) -> Place
-    requires { ⌜ 0 < o .0 ⌝ }
-    requires { ⌜ age ≡ ageOf (kindAt l (now dump)) (p .0) ⌝ }
-    requires { ⌜ cellsFor pages ≤ length (now cells) ⌝ }
+    requires { ⌜ Recorded (kindAt l (now dump)) pages (now cells) (o .0) (p .0) age ⌝ }
     requires { ⌜ s < pages ⌝ }
     ensures { λ r. ⌜ r ≡ placeFrom (kindAt l (now (dump .entry))) pages (now (cells .entry)) (o .0) (p .0) (firstIn (now (cells .entry)) s (o .0)) (firstAt s) ⌝ }
     ensures { λ r. ⌜ Within (length (now (cells .entry))) r ⌝ }

@@ -48,7 +48,7 @@ returns-3 c =
     let q = f .before .before .loop in
     let s = f .before .before .before .before .before in
     let k = told _ _ _ _ _ _ _ (Record _ _) (sym (l .lead .given .1) ∙ f .follow .ensures) in
-    (sym (q .inv .1 ∙ place-itself _ _ _ _ _ _ (k .2) (omega (arith, k .0, t .if1 .taken, s .pre)) (c .if2 .taken)), tt)
+    (sym (q .inv .1 ∙ place-itself _ _ _ _ _ _ (k .2) (omega (arith, k .0, t .if1 .taken, s .pre .0 .aged)) (c .if2 .taken)), tt)
 
 returns-4 : tie.Need-returns-4 Inv-loop μ-loop
 returns-4 c =
@@ -58,7 +58,7 @@ returns-4 c =
     let q = f .before .before .loop in
     let s = f .before .before .before .before .before in
     let k = told _ _ _ _ _ _ _ (Record _ _) (sym (l .lead .given .1) ∙ f .follow .ensures) in
-    (sym (q .inv .1 ∙ place-here _ _ _ _ _ _ (k .2) (omega (arith, k .0, t .if1 .taken, s .pre)) (c .if2 .left)), q .inv .0)
+    (sym (q .inv .1 ∙ place-here _ _ _ _ _ _ (k .2) (omega (arith, k .0, t .if1 .taken, s .pre .0 .aged)) (c .if2 .left)), q .inv .0)
 
 loop-less : tie.Need-loop-less Inv-loop μ-loop
 loop-less c =
@@ -75,8 +75,8 @@ loop-again c =
     let q = f .before .before .loop in
     let s = f .before .before .before .before .before in
     let k = told _ _ _ _ _ _ _ (Record _ _) (sym (l .lead .given .1) ∙ f .follow .ensures) in (
-      omega (arith, k .1 .inside, c .link-at .ensures, s .pre),
-      q .inv .1 ∙ place-on _ _ _ _ _ _ (k .2) (omega (arith, k .0, t .if1 .left, s .pre)) ∙ rw (k .0, c .link-at .ensures) refl,
+      omega (arith, k .1 .inside, c .link-at .ensures, s .pre .0 .room),
+      q .inv .1 ∙ place-on _ _ _ _ _ _ (k .2) (omega (arith, k .0, t .if1 .left, s .pre .0 .aged)) ∙ rw (k .0, c .link-at .ensures) refl,
     )
 
 pub place-from-spec : {M : Type 1} → statement M
