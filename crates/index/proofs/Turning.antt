@@ -8,18 +8,22 @@ use mathlib.Core.Path.{_≡_, refl, sym, ap, _∙_}
 use native.Mathlib.Nat.{not-suc-le-zero, le-refl, le-trans}
 use native.Mathlib.Decide.{ℕ-discrete}
 use native.Mathlib.Omega.{arith}
-use lib.Dec.{eqb, ltb}
+use lib.Dec.{eqb, ltb, leb}
 use borrow.Author.Tests.{eq-eqb, ne-eqb, lt-ltb, le-ltb, ltb-true}
+use Rattle.page.specs.Choice.{pick}
 use Rattle.page.specs.Counts.{isHeader}
 use Rattle.page.specs.Search.{count, more}
 use Rattle.page.proofs.Searching.{by-test, count-none, count-le}
+use Rattle.page.specs.declared.number.PageNumber.{PageNumber}
 use Rattle.page.specs.declared.kind.Kind.{Kind}
-use Rattle.page.specs.declared.refusal.Refusal.the-variants.{NoObject, NoHeader, IndexDamaged}
-use Rattle.chunk.specs.Records.{ageOf}
+use Rattle.page.specs.declared.refusal.Refusal.the-variants.{NoObject, NoHeader, Deleted, NotAFile, PastEnd, IndexDamaged}
+use Rattle.chunk.specs.Records.{ageOf, isGone, isFile, baseOf}
+use Rattle.chunk.specs.Lookups.{fileAt}
+use Rattle.chunk.specs.declared.answer.File.the-variants as file
 use Rattle.chunk.specs.declared.answer.Looked.the-variants as looked
 use Rattle.index.specs.Cells.{word, linkAt}
 use Rattle.index.specs.Chains.{objects, Trace, clean, broken, rec, by, leadOf, traceBy, trace}
-use Rattle.index.specs.Walks.{recordsIn, behind, cutBy, metWith, reach, found, isShown, seek, under, below}
+use Rattle.index.specs.Walks.{recordsIn, behind, cutBy, metWith, reach, shownIn, found, isShown, seek, copyFrom, chunkFile, under, below}
 use Rattle.index.specs.declared.chains.Lead.{Lead}
 use Rattle.index.specs.declared.chains.Lead.the-variants.{End, Damaged, Record}
 use Rattle.index.specs.declared.walks.Met.{Met}
@@ -166,3 +170,21 @@ module _ (says : ℕ → Kind) (n : ℕ) (cells : List ℕ) (o P c : ℕ) where
 
   pub lands : (b w : ℕ) → Lands (behind says (under says n cells o b w)) (reach says P c 0 Nothing 0 (under says n cells o b w))
   lands b w = lands-by b b w (le-refl b) 0 Nothing 0
+
+-- a chunk of a live file
+pub chunk-live :
+    (says : ℕ → Kind) (P c size : ℕ) (m : Met) (t : Trace) (k : Kind) (h v : ℕ) (g : PageNumber) (u : ℕ) →
+    fileAt k h v ≡ file.Header g u →
+    chunkFile says P c size m t (fileAt k h v)
+    ≡ pick (leb size (baseOf P c)) (looked.Refused PastEnd v 0) (copyFrom says P c h (shownIn says P c size) v t m)
+unfolding fileAt chunkFile
+chunk-live says P c size m t k h v g u e = go (isGone k) (isFile k) e
+  where
+    go :
+        (a b : Bool) →
+        pick a (file.Refused Deleted v) (pick b (file.Header (record { 0 = h }) v) (file.Refused NotAFile v)) ≡ file.Header g u →
+        chunkFile says P c size m t (pick a (file.Refused Deleted v) (pick b (file.Header (record { 0 = h }) v) (file.Refused NotAFile v)))
+        ≡ pick (leb size (baseOf P c)) (looked.Refused PastEnd v 0) (copyFrom says P c h (shownIn says P c size) v t m)
+    go true b e = let z : _≡_ {A = ℕ} 0 1 = cc in absurd (omega arith)
+    go false true e = refl
+    go false false e = let z : _≡_ {A = ℕ} 0 1 = cc in absurd (omega arith)
