@@ -12,10 +12,12 @@ use Rattle.page.specs.Kinds.{kindAt}
 use Rattle.page.specs.Lengths.{pageCount}
 use Rattle.page.specs.declared.layout.Layout.{Layout}
 use Rattle.chunk.specs.Records.{ageOf}
+use Rattle.chunk.specs.Newest.{records}
 use Rattle.index.specs.Additions.{startOf}
 use Rattle.index.specs.Chains.{objects, Trace, clean, broken, rec, chain, top}
 use Rattle.index.specs.Held.{noneAdded}
-use Rattle.index.specs.Requests.{Request, answersOn, wordsOf, answersBy, addedOf}
+use Rattle.index.specs.Walks.{seenSays, sizeVisits, chunkVisits}
+use Rattle.index.specs.Requests.{Request, sizeSeen, chunkSeen, answersOn, wordsOf, answersBy, addedOf}
 use Rattle.index.specs.declared.additions.Added.the-variants.{Done}
 
 -- page p is one of the records of a chain
@@ -42,10 +44,17 @@ module _ (l : Layout) (dump c : List ℕ) (rs : List Request) where
   abbrev pub chainAfter : ℕ → Trace
   chainAfter o = chain (pageCount l (length dump)) (objects (kindAt l dump)) (ageOf (kindAt l dump)) (wordsOf l dump c rs) o
 
+  -- how many added records an object has
+  abbrev pub addedRecords : ℕ → ℕ
+  addedRecords o = records (seenSays (kindAt l dump) isAdded) o (pageCount l (length dump))
+
   pub record Demand3 : Type 0 where
     -- every answer is the paper's: demand 2 on the dump with the pages not yet added read as blank, refusal, visits and bytes included;
     -- a page's second accepted addition, and no other, is AlreadyAdded; IndexDamaged is never given
     pub answers : answersOn l dump c rs ≡ answersBy l dump (length c) noneAdded rs
+    -- a lookup after the list visits no more records than the object's added ones
+    pub size-visits : (o : ℕ) → sizeVisits (sizeSeen l dump (length c) isAdded o (pageCount l (length dump))) ≤ addedRecords o
+    pub chunk-visits : (o q : ℕ) → chunkVisits (chunkSeen l dump (length c) isAdded o q (pageCount l (length dump))) ≤ addedRecords o
     -- each object's chain holds only that object's added records
     pub only : (o p : ℕ) → 0 < o → OnChain p (chainAfter o) → (p < pageCount l (length dump)) × (objects (kindAt l dump) p ≡ o) × (isAdded p ≡ true)
     -- and all of them
