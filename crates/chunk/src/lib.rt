@@ -3,3 +3,4 @@ pub mod answer;
 pub mod record;
 pub mod scan;
 pub mod lookup;
+pub mod read;
