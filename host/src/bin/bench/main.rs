@@ -4,8 +4,10 @@
 //!     cargo run --release --bin bench -- [MIB] [ROUNDS]
 //!
 //! The dump is written to a file of the system's temporary folder, mapped,
-//! and read once before anything is timed. The two take turns, each with its
-//! best and its median time.
+//! and read once before anything is timed. The two take turns, each going
+//! first every other time. Shown are best and median of each, the ratio of the
+//! bests, and the median of the ratios of neighbouring turns. `touch` reads
+//! one word of each page: the least that a scan costs.
 
 mod dump;
 mod plain;
@@ -58,8 +60,9 @@ fn measure(dump: &[u8], rounds: usize) {
     );
     println!(
         "{:8} {:>12} {:>12} {:>12} {:>12} {:>7} {:>7}",
-        "", "library", "plain", "library", "plain", "best", "median"
+        "", "library", "plain", "library", "plain", "best", "turns"
     );
+    timing::alone("touch", rounds, || plain::touch(dump, layout.number));
     timing::compare(
         "find",
         rounds,

@@ -15,12 +15,20 @@ pub fn compare<T: PartialEq + Debug>(
     assert_eq!(library(), plain(), "{name}: the two differ");
     let mut library_times = Vec::new();
     let mut plain_times = Vec::new();
-    for _ in 0..rounds {
-        library_times.push(time(&library));
-        plain_times.push(time(&plain));
+    for round in 0..rounds {
+        if round % 2 == 0 {
+            library_times.push(time(&library));
+            plain_times.push(time(&plain));
+        } else {
+            plain_times.push(time(&plain));
+            library_times.push(time(&library));
+        }
     }
-    let (a, b) = (best_and_median(library_times), best_and_median(plain_times));
     let ratio = |x: Duration, y: Duration| x.as_secs_f64() / y.as_secs_f64();
+    let turns = library_times.iter().zip(&plain_times);
+    let mut paired: Vec<f64> = turns.map(|(&x, &y)| ratio(x, y)).collect();
+    paired.sort_by(f64::total_cmp);
+    let (a, b) = (best_and_median(library_times), best_and_median(plain_times));
     println!(
         "{name:8} {:>12} {:>12} {:>12} {:>12} {:>7.2} {:>7.2}",
         micros(a.0),
@@ -28,7 +36,19 @@ pub fn compare<T: PartialEq + Debug>(
         micros(a.1),
         micros(b.1),
         ratio(a.0, b.0),
-        ratio(a.1, b.1)
+        paired[rounds / 2]
+    );
+}
+
+/// Prints the times of something that has nothing to be compared with.
+pub fn alone<T>(name: &str, rounds: usize, work: impl Fn() -> T) {
+    let times = (0..rounds).map(|_| time(&work)).collect();
+    let (best, median) = best_and_median(times);
+    println!(
+        "{name:8} {:>12} {:>12} {:>12}",
+        micros(best),
+        "",
+        micros(median)
     );
 }
 
