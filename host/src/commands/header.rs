@@ -50,6 +50,15 @@ impl<'a> Header<'a> {
         }
     }
 
+    /// The fields on one line, those that are bytes whole and in hex.
+    pub fn line(&self) -> String {
+        let fields = self.fields().map(|(name, field)| match field {
+            Field::Number(number) => format!("{name}={number}"),
+            Field::Text(bytes) | Field::Bytes(bytes) => format!("{name}={}", hex(bytes)),
+        });
+        fields.join(" ")
+    }
+
     /// The fields with their names, in the order of document 01's table.
     pub fn fields(&self) -> [(&'static str, Field<'a>); 23] {
         let n = &self.numbers;

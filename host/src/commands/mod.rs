@@ -1,7 +1,7 @@
 //! The commands, a file for each.
 
 mod find;
-mod header;
+pub mod header;
 mod pages;
 
 use std::ffi::OsStr;
