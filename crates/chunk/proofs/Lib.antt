@@ -1,2 +1,6 @@
 pub mod Gathering
 pub mod Looking
+pub mod Laying
+pub mod Marked
+pub mod Meaning
+pub mod Holes
