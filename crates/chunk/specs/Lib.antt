@@ -7,3 +7,4 @@ pub mod Lookups
 pub mod Scans
 pub mod Answers
 pub mod Live
+pub mod Lists
