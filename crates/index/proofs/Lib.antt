@@ -18,3 +18,4 @@ pub mod Entries
 pub mod Placing
 pub mod Turning
 pub mod Kept
+pub mod Looking
