@@ -1,15 +1,13 @@
 -- Lookups by an index that holds exactly the added pages answer what the rules answer where pages not added read as blank, refusals and
 -- visits included, and visit no more records than the object's added ones.
 use Prim.Native.Nat.{ℕ, _-_, _*_, _/_, _≤_, _<_, zero-le}
-use mathlib.Core.Bool.{Bool, true, false}
+use mathlib.Core.Bool.{Bool, false}
 use mathlib.Core.List.{List}
-use mathlib.Core.Path.{_≡_, refl, sym, ap, _∙_}
+use mathlib.Core.Path.{_≡_, refl}
 use native.Mathlib.Nat.{mul-le-mul-right, div-mul-le-self}
 use native.Mathlib.Omega.{arith}
 use lib.ListN.{length}
-use lib.Dec.{ltb}
 use borrow.Author.Tests.{le-ltb}
-use Rattle.page.specs.Choice.{pick}
 use Rattle.page.specs.Kinds.{kindAt}
 use Rattle.page.specs.Layouts.{pageLen}
 use Rattle.page.specs.Lengths.{mostBytes, openedOf}
@@ -27,7 +25,7 @@ use Rattle.chunk.specs.Cuts.{nowhere}
 use Rattle.chunk.specs.Lookups.{sizedOf, lookedOf}
 use Rattle.index.specs.Chains.{objects, top}
 use Rattle.index.specs.Held.{Held}
-use Rattle.index.specs.Walks.{seenSays, sizeVisits, chunkVisits, sizeWalk, chunkWalk, sizeIn, chunkIn, sizeFrom, chunkFrom}
+use Rattle.index.specs.Walks.{seenSays, sizeVisits, chunkVisits, sizeIn, chunkIn, sizeFrom, chunkFrom}
 use Rattle.index.proofs.Bridging.{size-seen, chunk-seen, size-visits-seen, chunk-visits-seen}
 use Rattle.index.proofs.Ordering.{pages-most, ages-below}
 
