@@ -20,3 +20,4 @@ pub mod Turning
 pub mod Demanding
 pub mod Kept
 pub mod Demanded
+pub mod Looking
