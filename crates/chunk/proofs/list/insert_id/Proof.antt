@@ -21,41 +21,11 @@ returns : tie.Need-returns Inv-loop μ-loop
 unfolding inserted
 returns c = rw (le-ltb _ _ (c .if1 .taken))
 
-loop-holds : tie.Need-loop-holds Inv-loop μ-loop
-loop-holds c = search needs
-
-sub-x : tie.Need-sub-x Inv-loop μ-loop
-sub-x c = search needs
-
-mul-x : tie.Need-mul-x Inv-loop μ-loop
-mul-x c = search needs
-
-slice-read-x : tie.Need-slice-read-x Inv-loop μ-loop
-slice-read-x c = search needs
-
-mul-words : tie.Need-mul-words Inv-loop μ-loop
-mul-words c = search needs
-
-slice-write-words : tie.Need-slice-write-words Inv-loop μ-loop
-slice-write-words c = search needs
-
-sub-j : tie.Need-sub-j Inv-loop μ-loop
-sub-j c = search needs
-
-loop-less : tie.Need-loop-less Inv-loop μ-loop
-loop-less c = search needs
-
 loop-again : tie.Need-loop-again Inv-loop μ-loop
 loop-again c =
     let q = c .before .before .before .loop in
     let a = c .before .before .before .before .before .args in
     (search needs, simp length-set (search needs), sym (shift-on (a .o .0) (q .words) (q .j) (q .j - 1) (omega arith) (c .if2 .left)) ∙ q .inv .2)
-
-mul-words-2 : tie.Need-mul-words-2 Inv-loop μ-loop
-mul-words-2 c = search needs
-
-slice-write-words-2 : tie.Need-slice-write-words-2 Inv-loop μ-loop
-slice-write-words-2 c = search needs
 
 same-length : tie.Need-same-length Inv-loop μ-loop
 same-length c = simp length-set (search needs)
@@ -80,16 +50,16 @@ insert-id-spec =
     Inv-loop
     μ-loop
     returns
-    loop-holds
-    sub-x
-    mul-x
-    slice-read-x
-    mul-words
-    slice-write-words
-    sub-j
-    loop-less
+    (search needs)
+    (search needs)
+    (search needs)
+    (search needs)
+    (search needs)
+    (search needs)
+    (search needs)
+    (search needs)
     loop-again
-    mul-words-2
-    slice-write-words-2
+    (search needs)
+    (search needs)
     same-length
     returns-2)
