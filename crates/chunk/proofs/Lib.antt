@@ -1,2 +1,5 @@
 pub mod Gathering
 pub mod Looking
+pub mod Laying
+pub mod Ascending
+pub mod Living

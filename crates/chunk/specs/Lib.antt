@@ -6,3 +6,5 @@ pub mod Sizes
 pub mod Lookups
 pub mod Scans
 pub mod Answers
+pub mod Live
+pub mod Lists

@@ -3,3 +3,4 @@ pub mod answer;
 pub mod lookup;
 pub mod record;
 pub mod scan;
+pub mod read;

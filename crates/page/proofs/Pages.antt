@@ -4,7 +4,7 @@ use mathlib.Core.Bool.{true}
 use mathlib.Core.List.{List}
 use mathlib.Core.Path.{_≡_}
 use lib.ListN.{length, take, drop, length-drop}
-use lib.Seq.{take-all, length-take-le}
+use lib.Seq.{take-all, take-take, length-take-le}
 use native.Mathlib.Omega.{arith}
 use Rattle.page.specs.Layouts.{pageLen}
 use Rattle.page.specs.Lengths.{pageIn}
@@ -20,3 +20,8 @@ suffix s d = take-all (length s - d) (drop d s) (simp length-drop (omega arith))
 pub page-length : (l : Layout) (dump : List ℕ) (i : ℕ) → pageIn l (length dump) i ≡ true → length (pageAt l dump i) ≡ pageLen l
 unfolding pageAt
 page-length l dump i h = let w = page-within l (length dump) i h in length-take-le _ _ (simp length-drop (omega arith))
+
+-- the first bytes of a page are the dump's from where the page begins
+pub page-front : (l : Layout) (dump : List ℕ) (i v : ℕ) → v ≤ pageLen l → take v (pageAt l dump i) ≡ take v (drop (i * pageLen l) dump)
+unfolding pageAt
+page-front l dump i v h = take-take v (pageLen l) (drop (i * pageLen l) dump) h
