@@ -5,11 +5,10 @@
 -- goes behind them; else that word is behind the id in the new list too, and the rest is as if it had not been there.
 use Prim.Native.Nat.{ℕ, zero, suc, _+_, _≤_, _<_}
 use mathlib.Core.Bool.{Bool, true, false}
-use mathlib.Core.List.{List, [], _∷_, _++_, append-assoc}
+use mathlib.Core.List.{List, [], _∷_, _++_}
 use mathlib.Core.Logic.{_⊎_, inl, inr, ⊎-elim}
 use mathlib.Core.Path.{_≡_, refl, sym, ap, ap₂, _∙_}
 use native.Mathlib.Nat.{le-refl, not-suc-le-zero, le-of-suc-le-suc}
-use native.Mathlib.Numerals.{add-one}
 use native.Mathlib.Omega.{arith}
 use borrow.Author.Tests.{ltb-true, ltb-false, lt-ltb, le-ltb}
 use lib.Dec.{ltb}
@@ -53,6 +52,21 @@ same-members b (x ∷ L) (y ∷ M) a c f g =
 -- ids in front of words leave the length
 pub front-length : (ids words : List ℕ) → length ids ≤ length words → length (inFront ids words) ≡ length words
 front-length ids words h = simp (length-append, length-drop) (omega arith)
+
+-- an id put among the first j words: it stays at the end where nothing is before it, or a word below it; else that word moves up
+module _ (o : ℕ) (words : List ℕ) (j : ℕ) where
+  pub shift-first : j ≡ 0 → shifted words j o ≡ set words j o
+  unfolding shifted
+  shift-first e = rw e
+
+  module _ (i : ℕ) (next : j ≡ suc i) where
+    pub shift-stop : getD words i 0 < o → shifted words j o ≡ set words j o
+    unfolding shifted
+    shift-stop h = rw (next, lt-ltb _ _ h)
+
+    pub shift-on : o ≤ getD words i 0 → shifted words j o ≡ shifted (set words j (getD words i 0)) i o
+    unfolding shifted
+    shift-on h = rw (next, le-ltb _ _ h)
 
 module _ (o : ℕ) where
   -- the id that was put in is there

@@ -7,8 +7,8 @@
 -- Likewise no two pages are the first record of one object, and every object of a record has a first: as many pages are first records as
 -- the records have distinct ids.
 use Prim.Native.Nat.{ℕ, zero, suc, _+_, _≤_, _<_, zero-le}
-use mathlib.Core.Bool.{Bool, true, false, not, _&&_}
-use mathlib.Core.List.{List, [], _∷_}
+use mathlib.Core.Bool.{Bool, true, false, not, _&&_, _||_}
+use mathlib.Core.List.{List, []}
 use mathlib.Core.Logic.{_⊎_, inl, inr, ⊎-elim}
 use mathlib.Core.Option.{Option, none, some}
 use mathlib.Core.Path.{_≡_, refl, sym, ap, _∙_}
@@ -22,18 +22,28 @@ use Rattle.page.specs.Choice.{pick}
 use Rattle.page.specs.Search.{count, more}
 use Rattle.page.specs.Counts.{isHeader}
 use Rattle.page.specs.declared.kind.Kind.{Kind}
+use Rattle.page.specs.declared.kind.Kind.the-variants.{Header}
+use Rattle.page.specs.declared.number.ObjectId.{ObjectId}
 use Rattle.page.proofs.Searching.{by-test, pick-cases, count-none, count-step}
 use Rattle.chunk.specs.Gather.{gather}
-use Rattle.chunk.specs.Records.{ageOf, objectOf, isOf, headerOf, isGone}
+use Rattle.chunk.specs.Records.{ageOf, isOf, headerOf, isGone}
 use Rattle.chunk.specs.Newest.{later, newest, newestHeader, records}
 use Rattle.chunk.specs.Live.{ascend, idsOf, isAt, objectAt, livePage, liveIds, liveCount, objectPage, objectCount}
+use Rattle.chunk.specs.Lists.{inFront, inserted}
 use Rattle.chunk.proofs.Gathering.{gather-step, newest-none, newest-step, since-none, since-skip, since-one}
-use Rattle.chunk.proofs.Ascending.{In, Ascends, ascend-new, ascend-kept, ascend-back, ascend-ascends, ascend-length}
+use Rattle.chunk.proofs.Ascending.{In, Ascends, ascend-new, ascend-kept, ascend-back, ascend-ascends, ascend-length, insert-front}
 
 -- both tests of two hold
 both : (a b : Bool) → a && b ≡ true → (a ≡ true) × (b ≡ true)
 both true b e = (refl, e)
 both false b e = let z : _≡_ {A = ℕ} 0 1 = cc in absurd (omega arith)
+
+-- one that does not pass, and one that does
+pub count-skip : (test : ℕ → Bool) (n : ℕ) → test n ≡ false → count test (n + 1) ≡ count test n
+count-skip test n t = count-step test n ∙ rw t
+
+pub count-take : (test : ℕ → Bool) (n : ℕ) → test n ≡ true → count test (n + 1) ≡ count test n + 1
+count-take test n t = count-step test n ∙ rw t
 
 more-keeps : (b : Bool) (m : ℕ) → m ≤ more b m
 more-keeps true m = omega arith
@@ -106,6 +116,18 @@ module _ (test : ℕ → Bool) (id : ℕ → ℕ) where
       (ascend-back (id n) x (idsOf test id n) (rw (ids-take n t) at j)))
       (λ t. wider (ids-of x n (rw (ids-skip n t) at j)))
 
+  -- the id of one more, put among those in front of words, where it has room
+  pub ids-written :
+      (words words₀ : List ℕ) (m n : ℕ) →
+      Ascends 0 (idsOf test id n) →
+      test n ≡ true →
+      m ≡ count test n →
+      m < length words₀ →
+      words ≡ inFront (idsOf test id n) words₀ →
+      inserted words m (id n) ≡ inFront (idsOf test id (n + 1)) words₀
+  ids-written words words₀ m n a t e h w =
+      rw (w, ids-take n t) (insert-front (id n) (idsOf test id n) words₀ m a (e ∙ sym (ids-length n)) h)
+
   module _ (apart : (p q : ℕ) → test p ≡ true → test q ≡ true → id p ≡ id q → p ≡ q) where
     -- no id is there twice, where no two that pass have the same
     pub ids-ascend : (n : ℕ) → Ascends 0 (idsOf test id n)
@@ -150,6 +172,16 @@ module _ (says : ℕ → Kind) where
       pub header : ℕ
       pub newest-header : newestHeader says o n ≡ some header
       pub kept : isGone (says header) ≡ false
+
+    -- a page that is no header is not live, and a header by its parent and its object's newest header
+    pub live-other : (p : ℕ) → isHeader (says p) ≡ false → livePage says n p ≡ false
+    live-other p e = rw e
+
+    pub live-header :
+        (p s t z : ℕ) (o q : ObjectId) (m : Bool) →
+        says p ≡ Header s o t q z m →
+        livePage says n p ≡ (not (eqb (q .0) 3 || eqb (q .0) 4) && isAt p (newestHeader says (o .0) n))
+    live-header p s t z o q m e = rw e
 
     -- a live page is the newest header of its object, and that is live
     live-page : (p : ℕ) → livePage says n p ≡ true → (newestHeader says (objectAt says p) n ≡ some p) × (isGone (says p) ≡ false)

@@ -1,6 +1,7 @@
 // What a file held last, from the dump alone: newest records, sizes, cuts, chunks and the live list.
 pub mod answer;
+pub mod list;
 pub mod lookup;
+pub mod read;
 pub mod record;
 pub mod scan;
-pub mod read;
