@@ -3,3 +3,6 @@ pub mod Looking
 pub mod Laying
 pub mod Ascending
 pub mod Living
+pub mod Marked
+pub mod Meaning
+pub mod Holes

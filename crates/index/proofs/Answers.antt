@@ -1,19 +1,18 @@
 -- What a start and an addition answer and store, case by case, for the code and for the laws of what the cells hold.
 use Prim.Native.Nat.{ℕ, _≤_, _<_}
-use mathlib.Core.Bool.{Bool, true, false}
+use mathlib.Core.Bool.{true, false}
 use mathlib.Core.List.{List}
-use mathlib.Core.Path.{_≡_, refl, sym, ap, _∙_}
+use mathlib.Core.Path.{_≡_, refl}
 use lib.ListN.{length, set}
-use lib.Dec.{leb, ltb, eqb}
 use borrow.Author.Tests.{lt-ltb, le-ltb, le-leb, lt-leb, eq-eqb, ne-eqb}
 use Rattle.page.specs.declared.refusal.Refusal.{Refusal}
 use Rattle.page.specs.declared.refusal.Refusal.the-variants.{ShortIndex, BadPage, AlreadyAdded}
 use Rattle.page.specs.declared.layout.Opened.the-variants.{Pages}
-use Rattle.index.specs.Cells.{cellsFor, linkAt, firstAt, word, keys, isMarked, last, linked, claimed}
+use Rattle.index.specs.Cells.{cellsFor, linkAt, firstAt, keys, isMarked, last, linked, claimed}
 use Rattle.index.specs.Slots.{slot, firstIn, first}
 use Rattle.index.specs.Chains.{top, trace, chain}
 use Rattle.index.specs.Places.{placeOf}
-use Rattle.index.specs.Additions.{Outcome, outcome, refused, emptied, startIn, addOther, addAt, addRecord, addTo}
+use Rattle.index.specs.Additions.{outcome, refused, emptied, startIn, addOther, addAt, addRecord, addTo}
 use Rattle.index.specs.declared.additions.Added.the-variants.{Done}
 use Rattle.index.specs.declared.places.Place.{Place}
 use Rattle.index.specs.declared.places.Place.the-variants.{At}

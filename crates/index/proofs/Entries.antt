@@ -1,6 +1,6 @@
 -- Laws of what a page is to the index, by its object and its age.
 use Prim.Native.Nat.{ℕ}
-use mathlib.Core.Bool.{true, false}
+use mathlib.Core.Bool.{false}
 use mathlib.Core.Path.{_≡_, refl}
 use native.Mathlib.Omega.{arith}
 use Rattle.page.specs.Counts.{isHeader, isData}

@@ -2,9 +2,9 @@
 -- with the page inserted; the links it changes are the page's own and one of its object's, so every other chain stays. A free slot that
 -- becomes an object's hides no other, and the object had no record. A page that is no record changes its own link alone, which no chain
 -- reads.
-use Prim.Native.Nat.{ℕ, zero, suc, _+_, _*_, _≤_, _<_}
-use mathlib.Core.Bool.{Bool, true, false, not, _||_}
-use mathlib.Core.List.{List, [], _∷_}
+use Prim.Native.Nat.{ℕ, suc, _≤_, _<_}
+use mathlib.Core.Bool.{Bool, true, false, not}
+use mathlib.Core.List.{List}
 use mathlib.Core.Logic.{_≢_, _⊎_, inl, inr, ⊎-elim}
 use mathlib.Core.Path.{_≡_, refl, sym, ap, _∙_}
 use native.Mathlib.Nat.{le-refl}
@@ -19,11 +19,11 @@ use Rattle.page.specs.Search.{count}
 use Rattle.index.specs.Cells.{cellsFor, word, linkAt, keyAt, firstAt, keys, isMarked, last, linkTo, marked, linked, claimed}
 use Rattle.index.specs.Slots.{serves, slot, firstIn, first, used}
 use Rattle.index.specs.Chains.{trace, chain, top}
-use Rattle.index.specs.Held.{seen, with, insert, recs, fromList}
+use Rattle.index.specs.Held.{seen, with, recs, fromList}
 use Rattle.index.proofs.Links.{trace-end, frame}
 use Rattle.index.proofs.Records.{In, recs-of, recs-same, recs-add}
-use Rattle.index.proofs.Inserting.{Member, spot, spot-form, word-at, word-own, word-other, insert-trace}
-use Rattle.index.proofs.Counts.{count-same, count-more}
+use Rattle.index.proofs.Inserting.{spot, spot-form, word-at, word-own, word-other, insert-trace}
+use Rattle.index.proofs.Counts.{count-more}
 use Rattle.index.proofs.Probing.{slot-lt, slot-same, slot-fill, first-own, first-none}
 
 -- what the cells hold, but for how many slots are used

@@ -15,10 +15,9 @@ use borrow.Author.Tests.{leb-true, leb-false, lt-ltb, le-ltb, le-leb, lt-leb, eq
 use Rattle.page.specs.Choice.{pick}
 use Rattle.page.specs.declared.refusal.Refusal.the-variants.{AlreadyAdded}
 use Rattle.index.specs.Cells.{cellsFor, word, linkAt, linkTo, marked, linked}
-use Rattle.index.specs.Chains.{Trace, rec, trace}
+use Rattle.index.specs.Chains.{rec, trace}
 use Rattle.index.specs.Places.{placeOf}
 use Rattle.index.specs.Held.{insert, fromList}
-use Rattle.index.specs.declared.places.Place.{Place}
 use Rattle.index.specs.declared.places.Place.the-variants.{At, Refused}
 use Rattle.index.proofs.Links.{Leads, trace-record, trace-end, trace-inverse, trace-clean, frame}
 use Rattle.index.proofs.Records.{In}

@@ -2,31 +2,29 @@
 -- never IndexDamaged; and the cells it leaves hold that page too. A record that was added is in its object's chain, so that it is met there;
 -- one that was not has a place in it, for the chain has no damaged link. A slot is free for a new object, since no more slots are used
 -- than pages were added, and this page was not.
-use Prim.Native.Nat.{ℕ, zero, suc, _≤_, _<_}
+use Prim.Native.Nat.{ℕ, suc, _≤_, _<_}
 use mathlib.Core.Bool.{Bool, true, false, not, _||_}
-use mathlib.Core.List.{List, [], _++_}
-use mathlib.Core.Logic.{_≢_, ⊎-elim}
-use mathlib.Core.Path.{_≡_, refl, sym, ap, _∙_, subst, fun-ext}
+use mathlib.Core.List.{List}
+use mathlib.Core.Path.{_≡_, refl, sym, ap, _∙_, fun-ext}
 use native.Mathlib.Nat.{le-refl}
 use native.Mathlib.Decide.{ℕ-discrete}
 use native.Mathlib.Omega.{arith}
 use lib.ListN.{length, set, drop, replicate, getD-replicate, List·getD-append, length-replicate, length-append, length-drop}
 use lib.Dec.{eqb}
 use borrow.Author.Tests.{eqb-true, ne-eqb}
-use Rattle.page.specs.Choice.{pick}
 use Rattle.page.specs.Search.{count}
 use Rattle.page.specs.declared.refusal.Refusal.the-variants.{AlreadyAdded}
 use Rattle.index.specs.Cells.{cellsFor, word, linkAt, keyAt, firstAt, keys, isMarked, last, linked, claimed}
 use Rattle.index.specs.Slots.{slot, firstIn, first, used}
 use Rattle.index.specs.Chains.{Trace, chain, trace, top}
 use Rattle.index.specs.Places.{placeOf}
-use Rattle.index.specs.Additions.{Outcome, outcome, refused, emptied, addAt, addTo}
+use Rattle.index.specs.Additions.{Outcome, outcome, refused, emptied, addTo}
 use Rattle.index.specs.Held.{seen, noneAdded, with, recs, fromList, Held}
 use Rattle.index.specs.declared.additions.Added.{Added}
 use Rattle.index.specs.declared.additions.Added.the-variants.{Done, Refused}
 use Rattle.index.specs.declared.places.Place.the-variants as place
 use Rattle.index.proofs.Links.{trace-end}
-use Rattle.index.proofs.Records.{In, recs-in, recs-none}
+use Rattle.index.proofs.Records.{recs-in, recs-none}
 use Rattle.index.proofs.Inserting.{spot, place-spot, place-met, trace-falls}
 use Rattle.index.proofs.Counts.{count-miss, count-same, count-more}
 use Rattle.index.proofs.Probing.{slot-lt, slot-serves, first-none}

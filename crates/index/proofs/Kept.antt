@@ -4,9 +4,7 @@
 use Prim.Native.Nat.{ℕ, _≤_, _<_}
 use mathlib.Core.Bool.{Bool, true, false}
 use mathlib.Core.List.{List, _∷_, _++_}
-use mathlib.Core.Logic.{inl, inr}
-use mathlib.Core.Path.{_≡_, refl, sym, ap, _∙_}
-use native.Mathlib.Nat.{le-refl}
+use mathlib.Core.Path.{_≡_, refl, sym, _∙_}
 use native.Mathlib.Omega.{arith}
 use lib.ListN.{length, take, drop}
 use lib.Seq.{length-take-le}
@@ -25,7 +23,7 @@ use Rattle.index.specs.Slots.{slot}
 use Rattle.index.specs.Chains.{objects, top, chain}
 use Rattle.index.specs.Places.{placeOf}
 use Rattle.index.specs.Additions.{Outcome, startIn, startOf, addOther, addAt, addRecord, addTo, addIn, addOf}
-use Rattle.index.specs.Held.{seen, noneAdded, with, recs, fromList, Held}
+use Rattle.index.specs.Held.{seen, noneAdded, with, recs, Held}
 use Rattle.index.specs.declared.additions.Added.the-variants.{Done, Refused}
 use Rattle.index.specs.declared.places.Place.{Place}
 use Rattle.index.specs.declared.places.Place.the-variants as place

@@ -21,3 +21,4 @@ pub mod Listing
 pub mod Demanding
 pub mod Kept
 pub mod Demanded
+pub mod Looking

@@ -1,10 +1,10 @@
 -- Laws of chains, on any cells. `trace-eq` is the one equation of a chain: a step is taken only to a page whose age is below the bound, so
 -- that as many steps as the bound says are always enough, and nothing but this equation looks at their number. A chain reads only the links
 -- of its own object's pages below its bound (`frame`), and ages fall along it.
-use Prim.Native.Nat.{ℕ, zero, suc, _+_, _-_, _≤_, _<_}
+use Prim.Native.Nat.{ℕ, zero, suc, _-_, _≤_, _<_}
 use mathlib.Core.Bool.{Bool, true, false}
 use mathlib.Core.List.{List}
-use mathlib.Core.Path.{_≡_, refl, sym, ap, _∙_}
+use mathlib.Core.Path.{_≡_, refl, ap, _∙_}
 use native.Mathlib.Nat.{le-refl, le-of-suc-le-suc, not-suc-le-zero, le-trans}
 use native.Mathlib.Omega.{arith}
 use lib.Dec.{ltb, eqb}

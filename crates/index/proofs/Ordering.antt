@@ -1,9 +1,9 @@
 -- The records of a dump are in a strict order: by sequence, then by page. A page number is below 2^32, so that two ages are equal only if the
 -- pages are; and no record's sequence is so large that its age reaches the top.
-use Prim.Native.Nat.{ℕ, _+_, _*_, _≤_, _<_}
-use mathlib.Core.Bool.{Bool, true, false}
+use Prim.Native.Nat.{ℕ, _≤_, _<_}
+use mathlib.Core.Bool.{true, false}
 use mathlib.Core.List.{List}
-use mathlib.Core.Path.{_≡_, refl, ap}
+use mathlib.Core.Path.{_≡_, refl}
 use native.Mathlib.Omega.{arith}
 use lib.ListN.{length}
 use Rattle.page.specs.Counts.{isHeader}
@@ -19,7 +19,7 @@ use Rattle.page.proofs.Within.{header-within, data-within}
 use Rattle.chunk.specs.Records.{objectOf, sequenceOf, orderOf, ageOf}
 use Rattle.index.specs.Chains.{objects, top}
 use Rattle.index.specs.Entries.{entryOf}
-use Rattle.index.specs.declared.entry.Entry.the-variants.{Record, Other}
+use Rattle.index.specs.declared.entry.Entry.the-variants.{Record}
 
 -- a test comes out one way only
 pub never : {A : Type 0} → false ≡ true → A

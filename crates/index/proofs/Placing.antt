@@ -1,7 +1,6 @@
 -- The place of a page in a chain, one record at a time: what a walk along the chain learns from each link.
 use Prim.Native.Nat.{ℕ, _≤_, _<_}
 use mathlib.Core.Path.{_≡_, refl}
-use lib.Dec.{leb, eqb}
 use borrow.Author.Tests.{le-leb, lt-leb, eq-eqb, ne-eqb}
 use Rattle.page.specs.declared.refusal.Refusal.the-variants.{IndexDamaged, AlreadyAdded}
 use Rattle.index.specs.Cells.{linkAt}

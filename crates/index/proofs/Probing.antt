@@ -10,7 +10,7 @@ use native.Mathlib.Nat.{not-suc-le-zero, mod-lt, le-refl}
 use native.Mathlib.Decide.{ℕ-discrete}
 use native.Mathlib.Omega.{arith}
 use lib.Dec.{eqb}
-use borrow.Author.Tests.{eqb-true, eqb-false, eq-eqb, ne-eqb}
+use borrow.Author.Tests.{eq-eqb, ne-eqb}
 use Rattle.page.specs.Choice.{pick}
 use Rattle.page.specs.Search.{count}
 use Rattle.index.specs.Cells.{word, keys, firstAt}

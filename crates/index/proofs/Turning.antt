@@ -8,23 +8,30 @@ use mathlib.Core.Path.{_≡_, refl, sym, ap, _∙_}
 use native.Mathlib.Nat.{not-suc-le-zero, le-refl, le-trans}
 use native.Mathlib.Decide.{ℕ-discrete}
 use native.Mathlib.Omega.{arith}
-use lib.Dec.{eqb, ltb}
+use lib.Dec.{eqb, ltb, leb}
 use borrow.Author.Tests.{eq-eqb, ne-eqb, lt-ltb, le-ltb, ltb-true}
+use Rattle.page.specs.Choice.{pick}
 use Rattle.page.specs.Counts.{isHeader}
 use Rattle.page.specs.Search.{count, more}
 use Rattle.page.proofs.Searching.{by-test, count-none, count-le}
+use Rattle.page.specs.declared.number.PageNumber.{PageNumber}
 use Rattle.page.specs.declared.kind.Kind.{Kind}
-use Rattle.page.specs.declared.refusal.Refusal.the-variants.{NoObject, NoHeader, IndexDamaged}
+use Rattle.page.specs.declared.refusal.Refusal.the-variants.{NoObject, NoHeader, Deleted, NotAFile, PastEnd, IndexDamaged}
+use Rattle.chunk.specs.Records.{ageOf, isGone, isFile, baseOf}
+use Rattle.chunk.specs.Lookups.{fileAt}
+use Rattle.chunk.specs.declared.answer.File.the-variants as file
 use Rattle.chunk.specs.declared.answer.Looked.the-variants as looked
 use Rattle.index.specs.Cells.{word, linkAt}
-use Rattle.index.specs.Chains.{Trace, clean, broken, rec, by, leadOf, traceBy, trace}
-use Rattle.index.specs.Walks.{recordsIn, cutBy, metWith, reach, found, isShown, seek}
+use Rattle.index.specs.Chains.{objects, Trace, clean, broken, rec, by, leadOf, traceBy, trace}
+use Rattle.index.specs.Walks.{recordsIn, behind, cutBy, metWith, reach, shownIn, found, isShown, seek, copyFrom, chunkFile, under, below}
 use Rattle.index.specs.declared.chains.Lead.{Lead}
 use Rattle.index.specs.declared.chains.Lead.the-variants.{End, Damaged, Record}
 use Rattle.index.specs.declared.walks.Met.{Met}
+use Rattle.index.specs.declared.walks.Met.the-variants.{Nothing}
+use Rattle.index.specs.declared.walks.Reached.{Reached}
 use Rattle.index.specs.declared.walks.Reached.the-variants as reached
 use Rattle.index.proofs.Counts.{count-suc}
-use Rattle.index.proofs.Links.{Known, known}
+use Rattle.index.proofs.Links.{Known, known, Told, told}
 use Rattle.index.proofs.Walking.{endBy}
 
 -- down to the newest header
@@ -130,3 +137,54 @@ module _ (n : ℕ) (obj age : ℕ → ℕ) (c : List ℕ) (o : ℕ) where
   pub few : (b w : ℕ) → recordsIn (trace n obj age c o b w) ≤ n
   unfolding trace
   few b w = le-trans (few-older b b w) (count-le (λ p. ltb (age p) b) n)
+
+-- where a walk down to the newest header lands: at a page of the dump, with the chain below that page behind it
+module _ (says : ℕ → Kind) (n : ℕ) (cells : List ℕ) (o P c : ℕ) where
+  abbrev pub Lands : Trace → Reached → Type 0
+  Lands rest (reached.Refused r v) = Unit {0}
+  Lands rest (reached.Header h e m v) = (h .0 < n) × (rest ≡ below says n cells o (h .0))
+
+  abbrev Landed : ℕ → ℕ → Type 0
+  Landed b w = (end : ℕ) (m : Met) (v : ℕ) → Lands (behind says (under says n cells o b w)) (reach says P c end m v (under says n cells o b w))
+
+  -- by where the next link leads, if it holds from each older record on
+  lands-on : (b w : ℕ) → ((q : ℕ) → ageOf says q < b → Landed (ageOf says q) (word cells (linkAt q))) → Landed b w
+  unfolding reach behind
+  lands-on b w on end m v = go (leadOf n (objects says) (ageOf says) o b w) (told n (objects says) (ageOf says) o cells b w _ refl)
+    where
+      go :
+          (l : Lead) →
+          Told n (objects says) (ageOf says) o cells b w l →
+          Lands (behind says (under says n cells o b w)) (reach says P c end m v (under says n cells o b w))
+      go End k = rw (k .0) (by-test (eqb v 0) _ (λ t. rw t tt) (λ t. rw t tt))
+      go Damaged k = rw k tt
+      go (Record q a) k =
+          rw (k .2)
+          (by-test (isHeader (says (q .0))) _
+          (λ t. rw t (k .1 .inside, refl))
+          (λ t. rw t (on (q .0) (k .1 .older) (endBy says P (q .0) end) (metWith says P c (q .0) m) (v + 1))))
+
+  lands-by : (f b w : ℕ) → b ≤ f → Landed b w
+  lands-by zero b w h = lands-on b w (λ q k. absurd (omega arith))
+  lands-by (suc f) b w h = lands-on b w (λ q k. lands-by f (ageOf says q) (word cells (linkAt q)) (omega arith))
+
+  pub lands : (b w : ℕ) → Lands (behind says (under says n cells o b w)) (reach says P c 0 Nothing 0 (under says n cells o b w))
+  lands b w = lands-by b b w (le-refl b) 0 Nothing 0
+
+-- a chunk of a live file
+pub chunk-live :
+    (says : ℕ → Kind) (P c size : ℕ) (m : Met) (t : Trace) (k : Kind) (h v : ℕ) (g : PageNumber) (u : ℕ) →
+    fileAt k h v ≡ file.Header g u →
+    chunkFile says P c size m t (fileAt k h v)
+    ≡ pick (leb size (baseOf P c)) (looked.Refused PastEnd v 0) (copyFrom says P c h (shownIn says P c size) v t m)
+unfolding fileAt chunkFile
+chunk-live says P c size m t k h v g u e = go (isGone k) (isFile k) e
+  where
+    go :
+        (a b : Bool) →
+        pick a (file.Refused Deleted v) (pick b (file.Header (record { 0 = h }) v) (file.Refused NotAFile v)) ≡ file.Header g u →
+        chunkFile says P c size m t (pick a (file.Refused Deleted v) (pick b (file.Header (record { 0 = h }) v) (file.Refused NotAFile v)))
+        ≡ pick (leb size (baseOf P c)) (looked.Refused PastEnd v 0) (copyFrom says P c h (shownIn says P c size) v t m)
+    go true b e = let z : _≡_ {A = ℕ} 0 1 = cc in absurd (omega arith)
+    go false true e = refl
+    go false false e = let z : _≡_ {A = ℕ} 0 1 = cc in absurd (omega arith)

@@ -1,6 +1,5 @@
 -- What starting an index and adding a page answer and store, on any cells (document 01, "Index" and the refusal table).
 use Prim.Native.Nat.{ℕ}
-use mathlib.Core.Bool.{Bool}
 use mathlib.Core.List.{List, _++_}
 use lib.ListN.{length, set, drop, replicate}
 use lib.Dec.{eqb, leb, ltb}

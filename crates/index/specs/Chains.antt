@@ -1,7 +1,6 @@
 -- The chain of an object, on any cells: what the links say (document 01, "Index").
 -- There are n pages; `obj` gives the object of a page, 0 for one that is no record, and `age` its place in the order of records.
 use Prim.Native.Nat.{ℕ, zero, suc, _-_}
-use mathlib.Core.Bool.{Bool}
 use mathlib.Core.List.{List}
 use lib.Dec.{eqb, ltb}
 use Rattle.page.specs.Choice.{pick}

@@ -4,6 +4,7 @@ mod cells;
 pub mod chains;
 pub mod entry;
 pub mod list;
+pub mod lookups;
 pub mod places;
 pub mod slots;
 pub mod walks;

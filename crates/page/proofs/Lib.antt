@@ -4,6 +4,8 @@ pub mod Layouts
 pub mod Lengths
 pub mod Pages
 pub mod Sound
+pub mod Texts
+pub mod Naming
 pub mod Counting
 pub mod Blocks
 pub mod Leading

@@ -1,8 +1,6 @@
 -- The test and the two stores are those of the definition.
-use mathlib.Core.Path.{_≡_, refl, sym, ap, _∙_}
+use mathlib.Core.Path.{sym, _∙_}
 use borrow.Author.Needs.{needs}
-use Rattle.index.specs.Additions.{outcome}
-use Rattle.index.specs.declared.additions.Added.the-variants.{Done}
 use Rattle.index.proofs.Answers.{at-marked, at-new}
 use Rattle.index.proofs.additions.add_at.Statement.{statement}
 use Rattle.index.proofs.additions.add_at.Tie as tie

@@ -1,5 +1,5 @@
 -- The tests come in the definition's order. What the page is to the index says its object and its age.
-use mathlib.Core.Path.{_≡_, refl, sym, ap, _∙_}
+use mathlib.Core.Path.{sym, _∙_}
 use native.Mathlib.Omega.{arith}
 use borrow.Author.Needs.{needs}
 use Rattle.index.specs.declared.entry.Entry.the-variants.{Record, Other}

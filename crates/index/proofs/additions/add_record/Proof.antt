@@ -1,8 +1,6 @@
 -- The object's slot and the page's place in its chain are those of the definition; each arm is a case of it.
-use Prim.Native.Nat.{_<_}
-use mathlib.Core.Path.{_≡_, refl, sym, ap, _∙_}
+use mathlib.Core.Path.{sym, _∙_}
 use native.Mathlib.Omega.{arith}
-use lib.ListN.{length}
 use borrow.Author.Needs.{needs}
 use Rattle.index.specs.declared.places.Place.the-variants.{At, Refused}
 use Rattle.index.proofs.Answers.{at-refused, record-at}

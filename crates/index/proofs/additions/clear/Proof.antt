@@ -1,7 +1,7 @@
 -- The loop's invariant: the words passed are 0, and the others are as they came.
 use Prim.Native.Nat.{_≤_, _-_}
 use mathlib.Core.List.{_++_}
-use mathlib.Core.Path.{_≡_, refl, ap, _∙_}
+use mathlib.Core.Path.{_≡_, refl}
 use native.Mathlib.Omega.{arith}
 use lib.ListN.{length, replicate, drop, length-set}
 use borrow.Author.Fill.{fill-none, fill-more}

@@ -1,5 +1,5 @@
 -- Each arm of the match is a case of the definition.
-use mathlib.Core.Path.{_≡_, refl, sym, ap, _∙_}
+use mathlib.Core.Path.{refl}
 use borrow.Author.Needs.{needs}
 use Rattle.index.specs.Additions.{startOf, startIn}
 use Rattle.index.proofs.additions.start.Statement.{statement}

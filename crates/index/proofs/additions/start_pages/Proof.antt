@@ -1,5 +1,5 @@
 -- The test is that of the definition, and so is what is stored.
-use mathlib.Core.Path.{_≡_, refl, sym, ap, _∙_}
+use mathlib.Core.Path.{sym}
 use borrow.Author.Needs.{needs}
 use Rattle.index.proofs.Answers.{start-short, start-done}
 use Rattle.index.proofs.additions.start_pages.Statement.{statement}

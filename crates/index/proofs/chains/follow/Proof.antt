@@ -1,6 +1,6 @@
 -- The tests come in the definition's order. A page that is no record has object 0, and so is not a record of o.
 use Prim.Native.Nat.{_-_}
-use mathlib.Core.Path.{_≡_, refl, sym, ap, _∙_}
+use mathlib.Core.Path.{sym, ap, _∙_}
 use native.Mathlib.Omega.{arith}
 use borrow.Author.Needs.{needs}
 use Rattle.index.specs.declared.entry.Entry.the-variants.{Record, Other}

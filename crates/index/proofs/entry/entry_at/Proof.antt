@@ -1,5 +1,5 @@
 -- A header and a data page are the two records; what both `let .. else` leave is neither.
-use mathlib.Core.Path.{_≡_, refl}
+use mathlib.Core.Path.{refl}
 use borrow.Author.Needs.{needs}
 use Rattle.page.proofs.Sound.{else-header, else-data}
 use Rattle.index.specs.Entries.{entryOf}

@@ -1,5 +1,5 @@
 -- The word is that of the page's link.
-use mathlib.Core.Path.{_≡_, refl}
+use mathlib.Core.Path.{refl}
 use borrow.Author.Needs.{needs}
 use Rattle.index.proofs.places.is_marked.Statement.{statement}
 use Rattle.index.proofs.places.is_marked.Tie as tie

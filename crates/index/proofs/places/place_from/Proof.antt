@@ -1,14 +1,14 @@
 -- The loop's invariant: the place in the chain from the first link on is the place in the chain from here on. Each turn goes on to an older
 -- record, so that the bound falls.
-use Prim.Native.Nat.{_≤_, _<_}
+use Prim.Native.Nat.{_<_}
 use mathlib.Core.List.{[]}
-use mathlib.Core.Path.{_≡_, refl, sym, ap, _∙_}
+use mathlib.Core.Path.{_≡_, refl, sym, _∙_}
 use native.Mathlib.Omega.{arith}
 use lib.ListN.{length}
 use borrow.Author.Needs.{needs}
 use Rattle.page.specs.Kinds.{kindAt}
 use Rattle.index.specs.Cells.{word}
-use Rattle.index.specs.Chains.{objects, top, trace}
+use Rattle.index.specs.Chains.{objects, trace}
 use Rattle.index.specs.Places.{placeOf, placeFrom}
 use Rattle.index.specs.declared.chains.Lead.the-variants.{End, Damaged, Record}
 use Rattle.chunk.specs.Records.{ageOf}

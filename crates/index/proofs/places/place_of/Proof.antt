@@ -1,5 +1,5 @@
 -- Where the slot is not the object's, the chain is empty and the link goes to its front.
-use mathlib.Core.Path.{_≡_, refl, sym, ap, _∙_}
+use mathlib.Core.Path.{sym}
 use native.Mathlib.Omega.{arith}
 use borrow.Author.Needs.{needs}
 use Rattle.index.proofs.Links.{trace-end}

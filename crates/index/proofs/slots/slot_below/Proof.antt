@@ -1,6 +1,6 @@
 -- The loop's invariant: the search from the first slot on answers as the search from here on.
 use Prim.Native.Nat.{_≤_}
-use mathlib.Core.Path.{_≡_, refl, sym, ap, _∙_}
+use mathlib.Core.Path.{_≡_, refl, sym, _∙_}
 use native.Mathlib.Omega.{arith}
 use Rattle.index.specs.Cells.{keys}
 use Rattle.index.specs.Slots.{down}

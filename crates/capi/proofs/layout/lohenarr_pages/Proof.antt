@@ -1,0 +1,9 @@
+use borrow.Author.Needs.{needs}
+use Rattle.capi.proofs.layout.lohenarr_pages.Statement.{statement}
+use Rattle.capi.proofs.layout.lohenarr_pages.Tie as tie
+
+returns : tie.Need-returns
+returns c = rw (c .pages-answer .ensures, c .before .opened .ensures, c .before .before .layout-at .ensures)
+
+pub lohenarr-pages-spec : {M : Type 1} → statement M
+lohenarr-pages-spec = tie.close (tie.spec (search needs) (search needs) (search needs) returns)

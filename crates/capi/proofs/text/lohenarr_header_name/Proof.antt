@@ -1,0 +1,14 @@
+use borrow.Author.Needs.{needs}
+use Rattle.page.specs.Layouts.{layoutAt}
+use Rattle.page.specs.declared.fields.Text.the-variants.{Name}
+use Rattle.capi.proofs.Places.{text-here}
+use Rattle.capi.proofs.text.lohenarr_header_name.Statement.{statement}
+use Rattle.capi.proofs.text.lohenarr_header_name.Tie as tie
+
+returns : tie.Need-returns
+returns c =
+    let a = c .before .before .args in
+    (c .text-answer .ensures, rw (c .text-answer .ensures) (text-here Name (layoutAt (a .layout)) (a .k) (a .dump .now) (a .page)))
+
+pub lohenarr-header-name-spec : {M : Type 1} → statement M
+lohenarr-header-name-spec = tie.close (tie.spec (search needs) returns)

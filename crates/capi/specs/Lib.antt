@@ -1,0 +1,4 @@
+pub mod Layouts
+pub mod Counts
+pub mod Kinds
+pub mod Headers

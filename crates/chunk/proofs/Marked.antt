@@ -1,0 +1,30 @@
+-- The twelve marked cases, computed from the definitions. W's kinds are known page by page from the crate of pages, so that no byte is looked at here.
+use mathlib.Core.List.{List, map}
+use mathlib.Core.Path.{_≡_, refl, ap, _∙_, fun-ext}
+use lib.ListN.{length, getD}
+use Rattle.page.specs.Numbers.{badObject, badChunk}
+use Rattle.page.specs.Kinds.{kindAt}
+use Rattle.page.specs.Lengths.{openedOf}
+use Rattle.page.specs.Shelf.{shelfLayout, shelf, shelfKinds, pageCases, kindIn}
+use Rattle.page.specs.declared.kind.Kind.{Kind}
+use Rattle.page.specs.declared.kind.Kind.the-variants.{Blank}
+use Rattle.page.specs.declared.layout.Opened.the-variants.{Pages}
+use Rattle.page.proofs.Marked as pages
+use Rattle.chunk.specs.Gather.{gather}
+use Rattle.chunk.specs.Newest.{newest, since}
+use Rattle.chunk.specs.Cuts.{cutOf, lowestCut}
+use Rattle.chunk.specs.Sizes.{dataEnd, sizeOf}
+use Rattle.chunk.specs.Lookups.{fileAt, fileBy, fileOf, sizedBy, sizedOf, copyAt, copyBy, chunkBy, lookedBy, lookedOf}
+use Rattle.chunk.specs.Answers.{sizeOn, chunkOn}
+use Rattle.chunk.specs.Shelf.{answers, expected}
+
+-- what W's pages say
+says-shelf : kindAt shelfLayout shelf ≡ (λ i. getD shelfKinds i Blank)
+says-shelf = fun-ext pages.shelf-kind
+
+opened : openedOf shelfLayout 4 (length shelf) ≡ Pages 8
+opened = rw (pages.marked .shelf-length) (pages.marked .shelf-opened)
+
+pub marked-cases : answers ≡ expected
+unfolding answers expected sizeOn chunkOn sizedOf sizedBy lookedOf lookedBy chunkBy copyBy copyAt fileOf fileBy fileAt sizeOf dataEnd lowestCut cutOf since newest gather badObject badChunk shelfKinds
+marked-cases = rw (opened, says-shelf, pages.marked .page-cases)

@@ -1,0 +1,181 @@
+-- What the definitions mean, in the paper's own terms: the newest is the one that none is newer than; a header cuts, or hides a copy, exactly
+-- when the paper says so; a copy that is found has valid bytes.
+use Prim.Native.Nat.{ℕ, zero, suc, _+_, _-_, _*_, _≤_, _<_, min, max}
+use mathlib.Core.Bool.{Bool, true, false, not, _&&_, _||_}
+use mathlib.Core.Option.{Option, none, some}
+use mathlib.Core.Path.{_≡_, refl, sym, ap, _∙_}
+use mathlib.Core.Logic.{_⊎_, inl, inr, ⊎-elim}
+use native.Mathlib.Nat.{not-suc-le-zero, le-of-suc-le-suc, eq-or-lt-of-le, le-refl, le-max-left, le-trans}
+use native.Mathlib.Omega.{arith}
+use lib.Dec.{eqb, ltb, leb}
+use borrow.Author.Tests.{leb-true, leb-false, ltb-true, ltb-false, lt-ltb, le-leb, lt-leb}
+use Rattle.page.specs.Choice.{pick}
+use Rattle.page.specs.Counts.{isHeader}
+use Rattle.page.specs.declared.kind.Kind.{Kind}
+use Rattle.page.specs.declared.kind.Kind.the-variants.{Header}
+use Rattle.page.specs.declared.number.ObjectId.{ObjectId}
+use Rattle.page.proofs.Searching.{by-test, pick-cases}
+use Rattle.page.proofs.Layouts.{and-left, and-right}
+use Rattle.chunk.specs.Gather.{gather}
+use Rattle.chunk.specs.Records.{orderOf, ageOf, headerOf, fileSize, isGone, isFile}
+use Rattle.chunk.specs.Newest.{later, newest}
+use Rattle.chunk.specs.Cuts.{nowhere, isShrink, cutOf, lowestCut}
+use Rattle.chunk.specs.Sizes.{sizeOf, dataEnd}
+
+-- a record of a lower sequence is older, on whatever page it stands; of one sequence the lower page is older
+pub order-by-sequence : (s t p q : ℕ) → s < t → p < 4294967296 → orderOf s p < orderOf t q
+order-by-sequence s t p q h k = omega arith
+
+pub order-by-page : (s p q : ℕ) → p < q → orderOf s p < orderOf s q
+order-by-page s p q h = omega arith
+
+-- what a page is that a search for the newest found: it passes, and none that passes is newer
+pub record IsNewest (says : ℕ → Kind) (test : Kind → Bool) (n p : ℕ) : Type 0 where
+  pub below : p < n
+  pub passes : test (says p) ≡ true
+  pub newest : (q : ℕ) → q < n → test (says q) ≡ true → ageOf says q ≤ ageOf says p
+
+module _ (says : ℕ → Kind) (test : Kind → Bool) where
+  newest-suc : (n : ℕ) → newest says test (suc n) ≡ pick (test (says n)) (later says n (newest says test n)) (newest says test n)
+  unfolding newest gather
+  newest-suc n = refl
+
+  -- a search that finds nothing: no page passes
+  pub newest-missing : (n : ℕ) → newest says test n ≡ none → (q : ℕ) → q < n → test (says q) ≡ false
+  newest-missing zero e q h = absurd (not-suc-le-zero h)
+  newest-missing (suc n) e q h =
+      pick-cases (test (says n)) _ _ none _ (sym (newest-suc n) ∙ e)
+      (λ t k. absurd (no-later (newest says test n) k))
+      (λ t k.
+      ⊎-elim
+      (λ (i : q ≡ n). rw i t)
+      (λ i. newest-missing n k q i)
+      (eq-or-lt-of-le (le-of-suc-le-suc h)))
+    where
+      no-later : (r : Option ℕ) → later says n r ≡ none → ⊥
+      no-later none k = let z : _≡_ {A = ℕ} 0 1 = cc in omega arith
+      no-later (some x) k = pick-cases (leb (ageOf says x) (ageOf says n)) _ _ none _ k (λ _ j. let z : _≡_ {A = ℕ} 0 1 = cc in omega arith) (λ _ j. let z : _≡_ {A = ℕ} 0 1 = cc in omega arith)
+
+  newest-zero : newest says test 0 ≡ none
+  unfolding newest gather
+  newest-zero = refl
+
+  -- a search that finds a page: the newest that passes
+  pub newest-found : (n p : ℕ) → newest says test n ≡ some p → IsNewest says test n p
+  newest-found zero p e = absurd (never (sym newest-zero ∙ e))
+    where
+      never : none ≡ some p → ⊥
+      never k = let z : _≡_ {A = ℕ} 0 1 = cc in omega arith
+  newest-found (suc n) p e =
+      pick-cases (test (says n)) _ _ (some p) _ (sym (newest-suc n) ∙ e)
+      (λ t k. taken t (newest says test n) refl k (λ x i. newest-found n x i))
+      (λ t k.
+      let f = newest-found n p k in
+      record {
+        below = omega (arith, f .below);
+        passes = f .passes;
+        newest = λ q h u. ⊎-elim (λ (i : q ≡ n). absurd (both t (rw i at u))) (λ i. f .newest q i u) (eq-or-lt-of-le (le-of-suc-le-suc h));
+      })
+    where
+      both : test (says n) ≡ false → test (says n) ≡ true → ⊥
+      both a b = let z : _≡_ {A = ℕ} 0 1 = cc in omega arith
+
+      last : p ≡ n → test (says n) ≡ true → ((q : ℕ) → q < n → test (says q) ≡ true → ageOf says q ≤ ageOf says n) → IsNewest says test (suc n) p
+      last i t f =
+          rw i record {
+            below = le-refl _;
+            passes = t;
+            newest = λ q h u. ⊎-elim (λ (j : q ≡ n). rw j (le-refl _)) (λ j. f q j u) (eq-or-lt-of-le (le-of-suc-le-suc h));
+          }
+
+      taken :
+          test (says n) ≡ true → (r : Option ℕ) → newest says test n ≡ r → later says n r ≡ some p →
+          ((x : ℕ) → newest says test n ≡ some x → IsNewest says test n x) → IsNewest says test (suc n) p
+      taken t none i k ih =
+          let j : p ≡ n = cc in
+          last j t (λ q h u. let m = newest-missing n i q h in absurd (let z : _≡_ {A = ℕ} 0 1 = cc in omega arith))
+      taken t (some x) i k ih =
+          let f = ih x i in
+          pick-cases (leb (ageOf says x) (ageOf says n)) _ _ (some p) _ k
+          (λ b c. let j : p ≡ n = cc in last j t (λ q h u. le-trans (f .newest q h u) (leb-true _ _ b)))
+          (λ b c.
+          let j : p ≡ x = cc in
+          let o : ageOf says n < ageOf says x = leb-false _ _ b in
+          rw j record {
+            below = omega (arith, f .below);
+            passes = f .passes;
+            newest = λ q h u. ⊎-elim (λ (y : q ≡ n). rw y (omega arith)) (λ y. f .newest q y u) (eq-or-lt-of-le (le-of-suc-le-suc h));
+          })
+
+-- an old header of a plain file, neither shrink-marked nor deleted, cuts nowhere
+pub plain-header-cuts-nowhere : (k : Kind) → isGone k ≡ false → isShrink k ≡ false → cutOf false k ≡ nowhere
+unfolding cutOf
+plain-header-cuts-nowhere k g m = rw (g, m) (by-test (isFile k) _ (λ t. rw t) (λ t. rw t))
+
+-- a header under parent 3 or 4 cuts at 0, whatever its type, and the newest or not
+pub gone-header-cuts-at-0 : (b : Bool) (k : Kind) → isGone k ≡ true → cutOf b k ≡ 0
+unfolding cutOf
+gone-header-cuts-at-0 b k g = rw g
+
+-- the size never falls below the newest header's
+pub size-at-least : (says : ℕ → Kind) (P o h n : ℕ) → fileSize (says h) ≤ sizeOf says P o h n
+unfolding sizeOf
+size-at-least says P o h n = le-max-left (fileSize (says h)) (dataEnd says P o (ageOf says h) n)
+
+-- a header that hides what begins at base: one of object o, newer than x, that cuts at or below base
+pub record Hides (says : ℕ → Kind) (o h x n base p : ℕ) : Type 0 where
+  pub below : p < n
+  pub header : headerOf o (says p) ≡ true
+  pub newer : x < ageOf says p
+  pub cuts : cutOf (eqb p h) (says p) ≤ base
+
+module _ (says : ℕ → Kind) (o h x base : ℕ) where
+  abbrev later-header : ℕ → Bool
+  later-header p = headerOf o (says p) && ltb x (ageOf says p)
+
+  cut-suc : (n : ℕ) → lowestCut says o h x (suc n) ≡ pick (later-header n) (min (cutOf (eqb n h) (says n)) (lowestCut says o h x n)) (lowestCut says o h x n)
+  unfolding lowestCut gather
+  cut-suc n = refl
+
+  cut-taken : (n : ℕ) → later-header n ≡ true → lowestCut says o h x (suc n) ≡ min (cutOf (eqb n h) (says n)) (lowestCut says o h x n)
+  cut-taken n t = cut-suc n ∙ rw t
+
+  cut-passed : (n : ℕ) → later-header n ≡ false → lowestCut says o h x (suc n) ≡ lowestCut says o h x n
+  cut-passed n t = cut-suc n ∙ rw t
+
+  cut-zero : lowestCut says o h x 0 ≡ nowhere
+  unfolding lowestCut gather
+  cut-zero = refl
+
+  -- the lowest later cut is at or below base exactly when a header hides what begins there
+  pub lowest-cut-hides : (n : ℕ) (P : Type 0) → base < nowhere → lowestCut says o h x n ≤ base → ((p : ℕ) → Hides says o h x n base p → P) → P
+  lowest-cut-hides zero P b c f = absurd (omega (arith, cut-zero))
+  lowest-cut-hides (suc n) P b c f =
+      by-test (later-header n) P
+      (λ t.
+      by-test (leb (cutOf (eqb n h) (says n)) base) P
+      (λ u.
+      f n record {
+        below = le-refl _;
+        header = and-left (headerOf o (says n)) _ t;
+        newer = ltb-true _ _ (and-right (headerOf o (says n)) _ t);
+        cuts = leb-true _ _ u;
+      })
+      (λ u. lowest-cut-hides n P b (omega (arith, cut-taken n t, leb-false (cutOf (eqb n h) (says n)) base u)) (λ p g. f p (more p g))))
+      (λ t. lowest-cut-hides n P b (omega (arith, cut-passed n t)) (λ p g. f p (more p g)))
+    where
+      more : (p : ℕ) → Hides says o h x n base p → Hides says o h x (suc n) base p
+      more p g = record { below = omega (arith, g .below); header = g .header; newer = g .newer; cuts = g .cuts }
+
+  pub hides-lowest-cut : (n p : ℕ) → Hides says o h x n base p → lowestCut says o h x n ≤ base
+  hides-lowest-cut zero p g = absurd (not-suc-le-zero (g .below))
+  hides-lowest-cut (suc n) p g =
+      ⊎-elim
+      (λ (i : p ≡ n).
+      let t : later-header n ≡ true = rw (← i, g .header) (lt-ltb _ _ (g .newer)) in
+      let k : cutOf (eqb n h) (says n) ≤ base = rw (← i) (g .cuts) in
+      omega (arith, cut-taken n t))
+      (λ i.
+      let r = hides-lowest-cut n p record { below = i; header = g .header; newer = g .newer; cuts = g .cuts } in
+      by-test (later-header n) _ (λ t. omega (arith, cut-taken n t)) (λ t. omega (arith, cut-passed n t)))
+      (eq-or-lt-of-le (le-of-suc-le-suc (g .below)))

@@ -1,0 +1,56 @@
+-- The twelve marked cases of document 01, as one table: what the definitions say, and what the paper says.
+use Prim.Native.Nat.{ℕ}
+use mathlib.Core.Bool.{Bool, true, false, _||_}
+use mathlib.Core.List.{List, [], _∷_, _++_, map}
+use lib.Dec.{eqb}
+use lib.ListN.{getD}
+use Rattle.page.specs.Choice.{pick}
+use Rattle.page.specs.Kinds.{kindAt}
+use Rattle.page.specs.Shelf.{shelfLayout, shelf, pageCases, kindIn, PageCase}
+use Rattle.page.specs.declared.kind.Kind.{Kind}
+use Rattle.page.specs.declared.kind.Kind.the-variants.{Blank}
+use Rattle.page.specs.declared.refusal.Refusal.the-variants.{PastEnd, NoObject}
+use Rattle.chunk.specs.Lookups.{sizedOf, lookedOf}
+use Rattle.chunk.specs.Answers.{sizeOn, chunkOn}
+use Rattle.chunk.specs.declared.answer.Sized.{Sized}
+use Rattle.chunk.specs.declared.answer.Sized.the-variants as sized
+use Rattle.chunk.specs.declared.answer.Looked.{Looked}
+use Rattle.chunk.specs.declared.answer.Looked.the-variants as looked
+
+-- an answer of a marked case: a size, a chunk or the kind of a page
+pub data Answer : Type 0 where
+  size : Sized → Answer
+  chunk : Looked → Answer
+  kind : Kind → Answer
+
+-- page p read as blank
+abbrev pub without : ℕ → (ℕ → Kind) → ℕ → Kind
+without p says i = pick (eqb i p) Blank (says i)
+
+-- by the definitions: cases 1 to 5 on W, 6 and 7 on W without pages, 8 to 11 on single pages, 12
+unfoldable pub answers : List Answer
+answers =
+    size (sizeOn shelfLayout 4 shelf 257) ∷
+    chunk (chunkOn shelfLayout 4 shelf 257 1) ∷
+    chunk (chunkOn shelfLayout 4 shelf 257 2) ∷
+    chunk (chunkOn shelfLayout 4 shelf 257 3) ∷
+    chunk (chunkOn shelfLayout 4 shelf 257 4) ∷
+    chunk (lookedOf (without 5 (kindAt shelfLayout shelf)) 257 8 512 1) ∷
+    size (sizedOf (without 6 (without 5 (kindAt shelfLayout shelf))) 257 8 512) ∷
+    chunk (lookedOf (without 6 (without 5 (kindAt shelfLayout shelf))) 257 8 512 2) ∷
+    size (sizeOn shelfLayout 4 shelf 258) ∷
+    map kind (map kindIn pageCases)
+
+-- by the paper
+unfoldable pub expected : List Answer
+expected =
+    size (sized.Size 1034 3) ∷
+    chunk (looked.Copy (record { 0 = 5 }) 300 512 3) ∷
+    chunk (looked.Hole 512 7) ∷
+    chunk (looked.Copy (record { 0 = 6 }) 10 10 3) ∷
+    chunk (looked.Refused PastEnd 3 0) ∷
+    chunk (looked.Copy (record { 0 = 1 }) 300 512 5) ∷
+    size (sized.Size 300 1) ∷
+    chunk (looked.Refused PastEnd 1 0) ∷
+    size (sized.Refused NoObject 0) ∷
+    map kind (map (λ c. c .kind) pageCases)

@@ -1,0 +1,107 @@
+//! A generated dump: one long file among many short ones, in blocks that
+//! were written in another order than they stand.
+
+use std::fs::File;
+use std::io;
+use std::os::unix::fs::FileExt;
+use std::path::Path;
+
+const DATA: usize = 2048;
+const PAGE: usize = DATA + 64;
+const BLOCK: usize = super::BLOCK as usize * PAGE;
+const LONG: u32 = 257;
+const SHORT: u32 = 1000;
+
+/// Writes a dump of 2048/64/0 with at most so many MiB.
+pub fn write(path: &Path, mib: usize) -> io::Result<()> {
+    let file = File::create(path)?;
+    let blocks = (mib << 20) / BLOCK;
+    let mut log = Log::new();
+    let mut bytes = vec![0; BLOCK];
+    for written in 0..blocks {
+        let sequence = 0x1000 + written as u32;
+        let unused = written * 20 / blocks == 19;
+        for page in bytes.chunks_exact_mut(PAGE) {
+            if unused {
+                page.fill(0xFF);
+            } else {
+                log.page(page, sequence);
+            }
+        }
+        let place = (written * stride(blocks) % blocks) * BLOCK;
+        file.write_all_at(&bytes, place as u64)?;
+    }
+    Ok(())
+}
+
+/// A step that visits every one of n places once.
+fn stride(n: usize) -> usize {
+    let shares = |mut a: usize, mut b: usize| {
+        while b != 0 {
+            (a, b) = (b, a % b);
+        }
+        a > 1
+    };
+    (n * 5 / 8..)
+        .find(|&step| step > 0 && !shares(step, n))
+        .unwrap_or(1)
+}
+
+/// What has been written so far.
+struct Log {
+    seed: u64,
+    chunks: Vec<u32>,
+}
+
+impl Log {
+    fn new() -> Log {
+        let chunks = vec![0; SHORT as usize + 1];
+        Log { seed: 1, chunks }
+    }
+
+    /// xorshift64
+    fn random(&mut self) -> u64 {
+        self.seed ^= self.seed << 13;
+        self.seed ^= self.seed >> 7;
+        self.seed ^= self.seed << 17;
+        self.seed
+    }
+
+    /// The next page: mostly data of the long file, then of a short one, then a header; a few that are none.
+    fn page(&mut self, page: &mut [u8], sequence: u32) {
+        let chance = self.random() % 1000;
+        let short = 1 + (self.random() % u64::from(SHORT)) as usize;
+        let which = if !(600..980).contains(&chance) {
+            0
+        } else {
+            short
+        };
+        let object = LONG + which as u32;
+        for eight in page[..DATA].chunks_exact_mut(8) {
+            eight.copy_from_slice(&self.random().to_le_bytes());
+        }
+        let tags = match chance {
+            0..=899 => {
+                self.chunks[which] += 1;
+                [sequence, object, self.chunks[which], DATA as u32]
+            }
+            900..=989 => {
+                let size = self.chunks[which] * DATA as u32;
+                put(page, 0, &[1, 1]);
+                put(page, 0x124, &[size]);
+                put(page, 0x1DC, &[0]);
+                [sequence, 1 << 28 | object, 1 << 31 | 1, 0]
+            }
+            990..=994 => [sequence, object, 1, DATA as u32 + 1],
+            _ => [7, 7, 7, 7],
+        };
+        page[DATA..].fill(0xFF);
+        put(page, DATA, &tags);
+    }
+}
+
+fn put(page: &mut [u8], at: usize, words: &[u32]) {
+    for (i, word) in words.iter().enumerate() {
+        page[at + 4 * i..at + 4 * i + 4].copy_from_slice(&word.to_le_bytes());
+    }
+}

@@ -1,0 +1,206 @@
+//! The calls of the proved library: each answer, each declaration, and one
+//! safe wrapper for it. They are those of `crates/capi` and of
+//! `include/lohenarr.h`; a test compares the three.
+//!
+//! Every call takes any bytes and numbers. A layout is its number in the
+//! table. An answer begins with the refusal's number, 0 where nothing is
+//! refused, and its other fields count only then.
+
+use std::fmt;
+
+/// An answer of the library.
+pub trait Answer: Sized {
+    fn refusal(&self) -> u32;
+
+    /// The answer, or the number of its refusal.
+    fn given(self) -> Result<Self, u32> {
+        match self.refusal() {
+            0 => Ok(self),
+            number => Err(number),
+        }
+    }
+}
+
+macro_rules! answers {
+    ($($name:ident)*) => {
+        $(impl Answer for $name {
+            fn refusal(&self) -> u32 {
+                self.refusal
+            }
+        })*
+    };
+}
+
+answers! { LayoutAnswer PagesAnswer CountsAnswer KindAnswer HeaderAnswer PartAnswer }
+
+/// A layout with its number in the table; beside a refusal the number is 13.
+#[repr(C)]
+#[derive(Clone, Copy, Debug, PartialEq, Eq)]
+pub struct LayoutAnswer {
+    pub refusal: u32,
+    pub number: u32,
+    pub data: u32,
+    pub spare: u32,
+    pub tag: u32,
+}
+
+impl fmt::Display for LayoutAnswer {
+    fn fmt(&self, f: &mut fmt::Formatter<'_>) -> fmt::Result {
+        write!(f, "{}/{}/{}", self.data, self.spare, self.tag)
+    }
+}
+
+#[repr(C)]
+#[derive(Clone, Copy, Debug, PartialEq, Eq)]
+pub struct PagesAnswer {
+    pub refusal: u32,
+    pub pages: u32,
+}
+
+#[repr(C)]
+#[derive(Clone, Copy, Debug, PartialEq, Eq)]
+pub struct CountsAnswer {
+    pub refusal: u32,
+    pub blank: u32,
+    pub foreign: u32,
+    pub damaged: u32,
+    pub headers: u32,
+    pub data: u32,
+}
+
+/// What a page is, by `kind`; fields that its kind lacks are 0.
+#[repr(C)]
+#[derive(Clone, Copy, Debug, PartialEq, Eq)]
+pub struct KindAnswer {
+    pub refusal: u32,
+    pub kind: u32,
+    pub sequence: u32,
+    pub object: u32,
+    pub page_type: u32,
+    pub parent: u32,
+    pub size: u32,
+    pub shrink: u32,
+    pub chunk: u32,
+    pub count: u32,
+}
+
+impl KindAnswer {
+    pub const BLANK: u32 = 1;
+    pub const FOREIGN: u32 = 2;
+    pub const DAMAGED: u32 = 3;
+    pub const HEADER: u32 = 4;
+    pub const DATA: u32 = 5;
+}
+
+/// The header fields that are numbers, in the order of document 01's table.
+#[repr(C)]
+#[derive(Clone, Copy, Debug, PartialEq, Eq)]
+pub struct HeaderAnswer {
+    pub refusal: u32,
+    pub page_type: u32,
+    pub parent: u32,
+    pub unused1: u32,
+    pub unused2: u32,
+    pub mode: u32,
+    pub uid: u32,
+    pub gid: u32,
+    pub accessed: u32,
+    pub modified: u32,
+    pub created: u32,
+    pub file_size: u32,
+    pub equivalent_id: u32,
+    pub rdev: u32,
+    pub win_created: u64,
+    pub win_accessed: u64,
+    pub win_modified: u64,
+    pub inband_shadow: u32,
+    pub inband_shrink: u32,
+    pub shadowed_id: u32,
+    pub shrink: u32,
+}
+
+/// A part of the dump; beside a refusal it is empty.
+#[repr(C)]
+#[derive(Clone, Copy, Debug, PartialEq, Eq)]
+pub struct PartAnswer {
+    pub refusal: u32,
+    pub offset: usize,
+    pub length: usize,
+}
+
+impl PartAnswer {
+    /// The bytes of the part, in the dump that the call was given.
+    pub fn of(self, dump: &[u8]) -> &[u8] {
+        &dump[self.offset..self.offset + self.length]
+    }
+}
+
+#[rustfmt::skip]
+extern "C" {
+    fn lohenarr_most_bytes() -> usize;
+    fn lohenarr_layout(number: u32) -> LayoutAnswer;
+    fn lohenarr_layout_sized(data: u32, spare: u32, tag: u32) -> LayoutAnswer;
+    fn lohenarr_find(dump: *const u8, len: usize, k: u32) -> LayoutAnswer;
+    fn lohenarr_pages(dump: *const u8, len: usize, layout: u32, k: u32) -> PagesAnswer;
+    fn lohenarr_counts(dump: *const u8, len: usize, layout: u32, k: u32) -> CountsAnswer;
+    fn lohenarr_kind(dump: *const u8, len: usize, layout: u32, k: u32, page: u32) -> KindAnswer;
+    fn lohenarr_header(dump: *const u8, len: usize, layout: u32, k: u32, page: u32) -> HeaderAnswer;
+    fn lohenarr_header_name(dump: *const u8, len: usize, layout: u32, k: u32, page: u32) -> PartAnswer;
+    fn lohenarr_header_alias(dump: *const u8, len: usize, layout: u32, k: u32, page: u32) -> PartAnswer;
+    fn lohenarr_header_reserved(dump: *const u8, len: usize, layout: u32, k: u32, page: u32) -> PartAnswer;
+}
+
+/// The most bytes that a dump has.
+pub fn most_bytes() -> usize {
+    unsafe { lohenarr_most_bytes() }
+}
+
+/// The layout with a number in the table.
+pub fn layout(number: u32) -> LayoutAnswer {
+    unsafe { lohenarr_layout(number) }
+}
+
+/// The layout with these sizes and this tag offset.
+pub fn layout_sized(data: u32, spare: u32, tag: u32) -> LayoutAnswer {
+    unsafe { lohenarr_layout_sized(data, spare, tag) }
+}
+
+/// The layout of a dump in blocks of k pages.
+pub fn find(dump: &[u8], k: u32) -> LayoutAnswer {
+    unsafe { lohenarr_find(dump.as_ptr(), dump.len(), k) }
+}
+
+/// The page count of a dump.
+pub fn pages(dump: &[u8], layout: u32, k: u32) -> PagesAnswer {
+    unsafe { lohenarr_pages(dump.as_ptr(), dump.len(), layout, k) }
+}
+
+/// How many pages of a dump are of each kind.
+pub fn counts(dump: &[u8], layout: u32, k: u32) -> CountsAnswer {
+    unsafe { lohenarr_counts(dump.as_ptr(), dump.len(), layout, k) }
+}
+
+/// The kind of a page.
+pub fn kind(dump: &[u8], layout: u32, k: u32, page: u32) -> KindAnswer {
+    unsafe { lohenarr_kind(dump.as_ptr(), dump.len(), layout, k, page) }
+}
+
+/// The header fields of a page that are numbers.
+pub fn header(dump: &[u8], layout: u32, k: u32, page: u32) -> HeaderAnswer {
+    unsafe { lohenarr_header(dump.as_ptr(), dump.len(), layout, k, page) }
+}
+
+/// The name in a header, as a part of the dump.
+pub fn header_name(dump: &[u8], layout: u32, k: u32, page: u32) -> PartAnswer {
+    unsafe { lohenarr_header_name(dump.as_ptr(), dump.len(), layout, k, page) }
+}
+
+/// The alias in a header, as a part of the dump.
+pub fn header_alias(dump: &[u8], layout: u32, k: u32, page: u32) -> PartAnswer {
+    unsafe { lohenarr_header_alias(dump.as_ptr(), dump.len(), layout, k, page) }
+}
+
+/// The reserved bytes of a header, as a part of the dump.
+pub fn header_reserved(dump: &[u8], layout: u32, k: u32, page: u32) -> PartAnswer {
+    unsafe { lohenarr_header_reserved(dump.as_ptr(), dump.len(), layout, k, page) }
+}

@@ -1,0 +1,70 @@
+//! `include/lohenarr.h`, compiled and called from C on the shelf dump W.
+
+use std::env;
+use std::fs::{self, File};
+use std::mem::{offset_of, size_of};
+use std::path::{Path, PathBuf};
+use std::process::Command;
+
+use lohenarr::ffi::*;
+
+const HOST: &str = env!("CARGO_MANIFEST_DIR");
+
+/// Compiles the C program, with every warning an error.
+fn compiled() -> PathBuf {
+    let folder = Path::new(env!("CARGO_TARGET_TMPDIR"));
+    fs::create_dir_all(folder).unwrap();
+    let program = folder.join("calls");
+    let compiler = env::var_os("CC").unwrap_or_else(|| "cc".into());
+    let status = Command::new(compiler)
+        .args(["-std=c11", "-Wall", "-Wextra", "-Wpedantic", "-Werror"])
+        .args(["-I", "../include", "-o"])
+        .arg(&program)
+        .args(["tests/c/calls.c", "../target/staticlib/libcapi.a"])
+        .current_dir(HOST)
+        .status()
+        .expect("a C compiler is there, as Rust's linker needs one");
+    assert!(status.success(), "the C program compiles");
+    program
+}
+
+/// The lines that the C program prints of fields and sizes, as Rust has them.
+fn places() -> String {
+    let fields = [
+        ("layout_answer.tag", offset_of!(LayoutAnswer, tag)),
+        ("kind_answer.count", offset_of!(KindAnswer, count)),
+        ("header_answer.rdev", offset_of!(HeaderAnswer, rdev)),
+        (
+            "header_answer.win_created",
+            offset_of!(HeaderAnswer, win_created),
+        ),
+        ("header_answer.shrink", offset_of!(HeaderAnswer, shrink)),
+        ("part_answer.length", offset_of!(PartAnswer, length)),
+    ];
+    let lines = fields.map(|(field, offset)| format!("lohenarr_{field} {offset}\n"));
+    let sizes = [
+        size_of::<LayoutAnswer>(),
+        size_of::<PagesAnswer>(),
+        size_of::<CountsAnswer>(),
+        size_of::<KindAnswer>(),
+        size_of::<HeaderAnswer>(),
+        size_of::<PartAnswer>(),
+    ];
+    let sizes = sizes.map(|size| format!(" {size}"));
+    format!("{}sizes{}\n", lines.concat(), sizes.concat())
+}
+
+#[test]
+fn c_calls_the_library() {
+    let answers = "\
+layout 0: 6 512/16/0
+counts 0: 1 0 0 3 4
+header 0: 612 0
+name 0: 1594+256
+refused 14
+";
+    let shelf = File::open(Path::new(HOST).join("tests/data/W")).unwrap();
+    let output = Command::new(compiled()).stdin(shelf).output().unwrap();
+    let printed = String::from_utf8(output.stdout).unwrap();
+    assert_eq!(printed, format!("{answers}{}", places()));
+}

@@ -1,0 +1,167 @@
+//! The arguments of random requests: mostly sensible, sometimes at a limit or
+//! beyond it.
+
+use super::dump::Dump;
+use super::rng::Rng;
+use crate::second::index::Lent;
+use crate::second::layout::{opened, table, Layout, Named};
+use crate::second::page::{LAST_CHUNK, LAST_OBJECT};
+use crate::second::script::Request;
+use crate::second::wrong::Wrong;
+
+/// Beyond 32 bits: a number that must not be cut down to one in range.
+const WIDE: u64 = 1 << 32;
+
+/// A list of requests in the making.
+pub struct Asker<'a> {
+    pub rng: &'a mut Rng,
+    pub dump: &'a Dump,
+    /// Layout and page count of the last accepted start.
+    pub started: Option<(Layout, usize)>,
+    pub list: Vec<Request>,
+}
+
+impl Asker<'_> {
+    /// A layout of the table, by number or by sizes.
+    pub fn named(&mut self, layout: Layout) -> Named {
+        let number = table().iter().position(|&l| l == layout);
+        match number {
+            Some(number) if self.rng.chance(50) => Named::Number(number as u64),
+            _ => layout.into(),
+        }
+    }
+
+    /// A layout that the table does not have.
+    pub fn bad_layout(&mut self) -> Named {
+        let bad = [
+            Named::Number(13),
+            Named::Number(u64::from(u32::MAX)),
+            Named::Number(WIDE),
+            Named::Sizes(512, 16, 2),
+            Named::Sizes(512, 16, 30),
+            Named::Sizes(2048, 64, 1),
+            Named::Sizes(2048, 128, 0),
+            Named::Sizes(4096, 64, 0),
+            Named::Sizes(0, 0, 0),
+            Named::Sizes(2048 + WIDE, 64, 0),
+        ];
+        self.rng.pick(&bad)
+    }
+
+    /// Mostly the dump's own layout.
+    pub fn any_layout(&mut self) -> Named {
+        match self.rng.below(60) {
+            0 => self.bad_layout(),
+            1 | 2 => {
+                let other = self.rng.pick(&table());
+                self.named(other)
+            }
+            _ if self.dump.bytes.is_empty() => self.bad_layout(),
+            _ => self.named(self.dump.layout),
+        }
+    }
+
+    /// Mostly the dump's own K.
+    pub fn k(&mut self) -> u64 {
+        let k = self.dump.k;
+        match self.rng.below(30) {
+            0 => self.rng.pick(&[0, 257, 300, WIDE + k, u64::from(u32::MAX)]),
+            1 => self.rng.pick(&[1, 2, 3, 4, 8, 255, 256, k + 1, 2 * k]),
+            _ => k,
+        }
+    }
+
+    pub fn pages(&self) -> u64 {
+        (self.dump.bytes.len() / self.dump.layout.page()) as u64
+    }
+
+    /// A page number: mostly in the dump.
+    pub fn page(&mut self) -> u64 {
+        let pages = self.pages();
+        match self.rng.below(12) {
+            0 => self.rng.pick(&[pages, pages + 1, 0xFFFF_FFFF, WIDE]),
+            _ => self.rng.below(pages + 1).min(pages.saturating_sub(1)),
+        }
+    }
+
+    /// An object id: mostly one of the dump's.
+    pub fn object(&mut self) -> u64 {
+        let crowd = self.dump.ids.len() > 5;
+        let known = match self.rng.chance(if crowd { 10 } else { 75 }) {
+            true => self.dump.ids[0],
+            false => self.rng.pick(&self.dump.ids),
+        };
+        match self.rng.below(24) {
+            0 => self
+                .rng
+                .pick(&[0, 0, LAST_OBJECT, LAST_OBJECT + 1, 0xFFFF_FFFF]),
+            1 => {
+                let near = known + self.pages().max(1);
+                let any = self.rng.between(1, 600);
+                self.rng
+                    .pick(&[near, known + WIDE, known ^ 1, any, 1 << 28 | known])
+            }
+            _ => known,
+        }
+    }
+
+    /// A chunk number: mostly within the dump's files or just past them.
+    pub fn chunk(&mut self) -> u64 {
+        let any = self.rng.between(1, LAST_CHUNK);
+        match self.rng.below(24) {
+            0 => self
+                .rng
+                .pick(&[0, 0, LAST_CHUNK + 1, 0xFFFF_FFFF, WIDE + 1]),
+            1 => self
+                .rng
+                .pick(&[LAST_CHUNK, LAST_CHUNK, LAST_CHUNK - 1, any]),
+            _ => self.rng.between(1, self.dump.span + 1),
+        }
+    }
+
+    /// Length of a read's buffer: a page, or about what will be shown.
+    pub fn buffer(&mut self) -> usize {
+        let data = self.dump.layout.data as u64;
+        let length = match self.dump.lengths.is_empty() {
+            true => data / 3,
+            false => self.rng.pick(&self.dump.lengths),
+        };
+        let any = self.rng.below(data);
+        let length = match self.rng.below(10) {
+            0..=3 => data,
+            4 => length,
+            5 => self.rng.pick(&[length.saturating_sub(1), length + 1]),
+            6 => self.rng.pick(&[0, 1, data - 1]),
+            7 => any,
+            _ => data + self.rng.below(40),
+        };
+        length as usize
+    }
+
+    /// The index words that a layout's pages need.
+    pub fn need(&self, layout: Layout) -> u64 {
+        4 * (self.dump.bytes.len() / layout.page()) as u64 + 16
+    }
+
+    /// Index words for a call: enough, with some to spare, or too few.
+    pub fn words(&mut self, layout: Layout) -> u64 {
+        let need = self.need(layout);
+        match self.rng.below(60) {
+            0 => self.rng.pick(&[0, 15, 16, need - 1]),
+            1 => need - 1,
+            2..=19 => need + self.rng.below(9),
+            _ => need,
+        }
+    }
+
+    /// Whether layout, K or index words refuse a call.
+    pub fn refused(&self, lent: Lent) -> bool {
+        let opened = opened(
+            lent.layout,
+            lent.k,
+            self.dump.bytes.len() as u64,
+            Wrong::None,
+        );
+        !opened.is_ok_and(|(layout, _)| lent.words >= self.need(layout))
+    }
+}

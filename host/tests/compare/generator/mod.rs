@@ -1,0 +1,63 @@
+//! Dumps and requests made from a seed, to compare readers on. Equal seeds
+//! give equal cases.
+//!
+//! - `rng`: the numbers.
+//! - `build`: pages put together from tags and header fields.
+//! - `shelf`: the shelf dump W.
+//! - `dump`: dumps that crowd the edges of the rules.
+//! - `decoy`: tags of other layouts, and lengths that fit none.
+//! - `pages`: its pages, of each kind.
+//! - `arguments`: what a request asks for.
+//! - `requests`: lists of requests to one dump, refused ones among them.
+
+mod arguments;
+pub mod build;
+mod decoy;
+pub mod dump;
+mod pages;
+pub mod requests;
+pub mod rng;
+pub mod shelf;
+
+#[cfg(test)]
+mod tests;
+
+use crate::second::index::Reader;
+use crate::second::script::{answer, Answer, Request};
+use crate::second::wrong::Wrong;
+use dump::Dump;
+use rng::Rng;
+
+/// A dump and the requests to put to it, in this order.
+pub struct Case {
+    pub seed: u64,
+    pub dump: Dump,
+    pub requests: Vec<Request>,
+}
+
+/// The case of a seed.
+pub fn case(seed: u64) -> Case {
+    let mut rng = Rng::new(seed);
+    let dump = dump::dump(&mut rng);
+    let requests = requests::requests(&mut rng, &dump);
+    Case {
+        seed,
+        dump,
+        requests,
+    }
+}
+
+impl Case {
+    /// The second reader's answers, under one wrong rule or none.
+    pub fn answers(&self, wrong: Wrong) -> Vec<Answer> {
+        let mut reader = Reader::new(&self.dump.bytes, wrong);
+        let requests = self.requests.iter();
+        requests.map(|r| answer(&mut reader, r)).collect()
+    }
+
+    /// The requests as a script, to be replayed by hand.
+    pub fn script(&self) -> String {
+        let lines = self.requests.iter().map(|request| format!("{request}\n"));
+        lines.collect()
+    }
+}

@@ -1,0 +1,74 @@
+//! The generator looks where rules bite.
+
+use std::collections::BTreeMap;
+
+use super::case;
+use crate::second::script::UNJUDGED;
+use crate::second::wrong::{Wrong, WRONG_RULES};
+
+/// Dumps that every wrong rule must be noticed within.
+const DUMPS: u64 = 1000;
+
+#[test]
+fn every_wrong_rule_is_noticed() {
+    let mut left: Vec<Wrong> = WRONG_RULES.to_vec();
+    let mut noticed = Vec::new();
+    for seed in 1..=DUMPS {
+        let case = case(seed);
+        let right = case.answers(Wrong::None);
+        left.retain(|&wrong| {
+            let answers = case.answers(wrong);
+            let differs = answers.iter().zip(&right).any(|(a, r)| a.line != r.line);
+            if differs {
+                noticed.push((wrong, seed));
+            }
+            !differs
+        });
+        if left.is_empty() {
+            break;
+        }
+    }
+    for (wrong, dumps) in &noticed {
+        println!("{wrong:?}: {dumps}");
+    }
+    assert!(left.is_empty(), "not noticed: {left:?}");
+}
+
+/// What an answer line begins with: its word, or for a refusal its number.
+fn shape(line: &str) -> &str {
+    match line.starts_with("refusal=") {
+        true => line.split(' ').next().unwrap_or(line),
+        false => line.split(['=', ' ']).next().unwrap_or(line),
+    }
+}
+
+#[test]
+fn every_answer_and_refusal_occurs() {
+    let mut shapes: BTreeMap<String, usize> = BTreeMap::new();
+    for seed in 1..=300 {
+        for answer in case(seed).answers(Wrong::None) {
+            *shapes.entry(shape(&answer.line).to_string()).or_default() += 1;
+        }
+    }
+    println!("{shapes:#?}");
+    assert!(!shapes.contains_key(UNJUDGED));
+    for number in (1..=12).chain(14..=16) {
+        assert!(
+            shapes.contains_key(&format!("refusal={number}")),
+            "{number}"
+        );
+    }
+    let others = "done size page hole part ids layout pages blank foreign damaged header data type";
+    for word in others.split(' ') {
+        assert!(shapes.contains_key(word), "{word}");
+    }
+}
+
+#[test]
+fn equal_seeds_give_equal_cases() {
+    for seed in 1..=20 {
+        let (one, other) = (case(seed), case(seed));
+        assert!(one.dump.bytes == other.dump.bytes);
+        assert_eq!(one.script(), other.script());
+    }
+}

@@ -1,0 +1,275 @@
+//! The rules of one object: newest, cuts, size, copy, hidden, shown, valid and
+//! visits. A record is named by its place in the object's sorted list, so that
+//! a higher place is a newer record.
+
+use super::layout::Layout;
+use super::page::{kind, Body, Kind, Record};
+use super::wrong::Wrong;
+
+/// All records among the added pages of a dump, from oldest to newest.
+pub fn records(dump: &[u8], layout: Layout, added: &[bool], wrong: Wrong) -> Vec<Record> {
+    let mut records = Vec::new();
+    for (page, &added) in added.iter().enumerate() {
+        if !added && wrong != Wrong::PagesNotAddedSeen {
+            continue;
+        }
+        if let Kind::Record(record) = kind(dump, layout, page, wrong) {
+            records.push(record);
+        }
+    }
+    match wrong {
+        Wrong::OrderByPageAlone => records.sort_by_key(|r| r.page),
+        Wrong::LowerSequenceNewer => {
+            records.sort_by_key(|r| (std::cmp::Reverse(r.sequence), r.page))
+        }
+        Wrong::LowerPageNewer => records.sort_by_key(|r| (r.sequence, std::cmp::Reverse(r.page))),
+        Wrong::SequenceSigned => records.sort_by_key(|r| (r.sequence as i32, r.page)),
+        _ => records.sort_by_key(|r| (r.sequence, r.page)),
+    }
+    records
+}
+
+/// The ids of live objects, ascending: a newest header, and its parent is
+/// neither 3 nor 4.
+pub fn live(records: &[Record], layout: Layout, wrong: Wrong) -> Vec<u32> {
+    let mut ids = ids(records);
+    if wrong == Wrong::ListUnsorted {
+        let first = |id| records.iter().position(|r| r.object == id);
+        ids.sort_by_key(|&id| first(id));
+    }
+    ids.retain(|&id| {
+        let object = Object::among(records, id as u64, layout, wrong);
+        let header = object.newest_header().is_some();
+        let file = object.file_type() == Some(1);
+        match wrong {
+            Wrong::ListWithDeleted => header,
+            Wrong::ListWithHeaderless => !object.deleted(),
+            Wrong::ListOfFiles => file && !object.deleted(),
+            _ => header && !object.deleted(),
+        }
+    });
+    ids
+}
+
+/// The distinct ids among records, ascending.
+pub fn ids(records: &[Record]) -> Vec<u32> {
+    let mut ids: Vec<u32> = records.iter().map(|r| r.object).collect();
+    ids.sort_unstable();
+    ids.dedup();
+    ids
+}
+
+/// One object's records, from oldest to newest.
+pub struct Object {
+    pub records: Vec<Record>,
+    layout: Layout,
+    wrong: Wrong,
+}
+
+impl Object {
+    /// The records of one id among all.
+    pub fn among(records: &[Record], id: u64, layout: Layout, wrong: Wrong) -> Object {
+        let mut records = records.to_vec();
+        records.retain(|record| record.object as u64 == id);
+        Object {
+            records,
+            layout,
+            wrong,
+        }
+    }
+
+    /// The place of the newest header.
+    pub fn newest_header(&self) -> Option<usize> {
+        self.records
+            .iter()
+            .rposition(|r| matches!(r.body, Body::Header { .. }))
+    }
+
+    /// The type, which the newest header alone gives.
+    pub fn file_type(&self) -> Option<u32> {
+        match self.records[self.newest_header()?].body {
+            Body::Header { file_type, .. } => Some(file_type),
+            Body::Data { .. } => None,
+        }
+    }
+
+    /// Whether the newest header stands under unlinked or deleted.
+    pub fn deleted(&self) -> bool {
+        self.newest_header()
+            .is_some_and(|place| self.deletes(place))
+    }
+
+    fn deletes(&self, place: usize) -> bool {
+        match self.records[place].body {
+            Body::Header { parent, .. } => match self.wrong {
+                Wrong::ParentFourLive => parent == 3,
+                Wrong::ParentThreeLive => parent == 4,
+                _ => parent == 3 || parent == 4,
+            },
+            Body::Data { .. } => false,
+        }
+    }
+
+    /// Where the record at this place cuts, if it does.
+    fn cut(&self, place: usize) -> Option<u64> {
+        let Body::Header {
+            file_type,
+            size,
+            shrink,
+            ..
+        } = self.records[place].body
+        else {
+            return None;
+        };
+        let newest = self.newest_header() == Some(place);
+        if self.deletes(place) {
+            let cuts = match self.wrong {
+                Wrong::DirectoryDeletionNoCut => file_type != 3,
+                Wrong::OldDeletionNoCut => newest,
+                _ => true,
+            };
+            return cuts.then_some(0);
+        }
+        let cuts = match self.wrong {
+            Wrong::OldBytesComeBack => newest,
+            Wrong::EveryHeaderCuts => true,
+            Wrong::NewestHeaderNoCut => shrink,
+            _ => shrink || newest,
+        };
+        let file = file_type == 1 || self.wrong == Wrong::MarkCutsEveryType;
+        (file && cuts).then_some(size as u64)
+    }
+
+    /// The cuts of headers newer than the record at this place.
+    fn later_cuts(&self, place: usize) -> Vec<u64> {
+        let from = match self.wrong {
+            Wrong::EarlierCutsCount => 0,
+            _ => place + 1,
+        };
+        (from..self.records.len())
+            .filter_map(|later| self.cut(later))
+            .collect()
+    }
+
+    /// Where chunk n begins in the file.
+    pub fn start(&self, n: u64) -> u64 {
+        (n - 1) * self.layout.data as u64
+    }
+
+    /// The size: the newest header's, or what newer data reaches to.
+    pub fn size(&self) -> Option<u64> {
+        let place = self.newest_header()?;
+        let Body::Header { size, .. } = self.records[place].body else {
+            return None;
+        };
+        let from = match self.wrong {
+            Wrong::SizeOfAllData => 0,
+            Wrong::SizeOfHeaderAlone => self.records.len(),
+            _ => place,
+        };
+        let ends = self.records[from..].iter().map(|r| match r.body {
+            Body::Data { chunk, count } => self.start(chunk as u64) + count as u64,
+            Body::Header { .. } => 0,
+        });
+        let end = ends.max().unwrap_or(0);
+        let end = match self.wrong {
+            Wrong::SizeWraps => end as u32 as u64,
+            _ => end,
+        };
+        Some(end.max(size as u64))
+    }
+
+    /// The place of the copy of chunk n: its newest data record, hidden or not.
+    fn newest_data(&self, n: u64) -> Option<usize> {
+        let is_n = |r: &Record| matches!(r.body, Body::Data { chunk, .. } if chunk as u64 == n);
+        match self.wrong {
+            Wrong::OldestCopyWins => self.records.iter().position(is_n),
+            _ => self.records.iter().rposition(is_n),
+        }
+    }
+
+    /// Whether a later cut hides the copy of chunk n at this place.
+    fn hidden(&self, place: usize, n: u64) -> bool {
+        let start = self.start(n);
+        self.later_cuts(place).iter().any(|&cut| match self.wrong {
+            Wrong::HiddenOnlyBelow => cut < start,
+            _ => cut <= start,
+        })
+    }
+
+    /// The place of the copy of chunk n, or nothing for a hole.
+    pub fn copy(&self, n: u64) -> Option<usize> {
+        self.newest_data(n).filter(|&place| !self.hidden(place, n))
+    }
+
+    /// The shown length of chunk n, which begins below the size.
+    pub fn shown(&self, n: u64) -> u64 {
+        let data = self.layout.data as u64;
+        let left = self.size().unwrap_or(0).saturating_sub(self.start(n));
+        match self.wrong {
+            Wrong::ShownNotLimited => data,
+            _ => data.min(left),
+        }
+    }
+
+    /// The valid length of the copy of chunk n at this place.
+    pub fn valid(&self, place: usize, n: u64) -> u64 {
+        let Body::Data { count, .. } = self.records[place].body else {
+            return 0;
+        };
+        let mut valid = self.shown(n).min(count as u64);
+        if self.wrong != Wrong::ValidNotCut {
+            for cut in self.later_cuts(place) {
+                valid = valid.min(cut.saturating_sub(self.start(n)));
+            }
+        }
+        valid
+    }
+
+    /// Visits from the newest record down to the one at this place.
+    fn down_to(&self, place: usize) -> u64 {
+        let visits = self.records.len() - place;
+        let visits = match self.wrong {
+            Wrong::VisitsWithoutLast => visits - 1,
+            Wrong::VisitsOneFurther => (visits + 1).min(self.records.len()),
+            _ => visits,
+        };
+        visits as u64
+    }
+
+    /// Visits of a hole and of NoHeader: every record.
+    pub fn visits_of_all(&self) -> u64 {
+        match self.wrong {
+            Wrong::HoleVisitsToHeader => self.visits_to_header(),
+            _ => self.records.len() as u64,
+        }
+    }
+
+    /// Visits of a size, and of the refusals that the newest header decides.
+    pub fn visits_to_header(&self) -> u64 {
+        self.newest_header().map_or(0, |place| self.down_to(place))
+    }
+
+    /// Visits of a copy found: down to the older of copy and newest header.
+    pub fn visits_to_copy(&self, place: usize) -> u64 {
+        let header = self.newest_header().unwrap_or(place);
+        match self.wrong {
+            Wrong::CopyVisitsToCopy => self.down_to(place),
+            Wrong::CopyVisitsToHeader => self.down_to(header),
+            _ => self.down_to(place.min(header)),
+        }
+    }
+
+    /// Bytes that an older copy would put behind the newest one: none, unless
+    /// the rule is made wrong.
+    pub fn behind(&self, place: usize, n: u64) -> Option<Record> {
+        if self.wrong != Wrong::OlderCopyFillsIn {
+            return None;
+        }
+        let older = self.records[..place].iter().rev();
+        let mut copies = older
+            .filter(|r| matches!(r.body, Body::Data { chunk, .. } if chunk as u64 == n))
+            .copied();
+        copies.next()
+    }
+}

@@ -1,0 +1,297 @@
+//! Requests, as lines of the command's script, and their answer lines.
+
+use std::fmt;
+
+use super::index::{Lent, Over, Reader, Refused};
+use super::layout::{Layout, Named};
+use super::lookup::Chunk;
+use super::page::{Body, Field, Kind};
+use super::refusal::Refusal;
+use crate::digest::crc32;
+
+/// One request with everything that its call is given. Lookups are over the
+/// dump alone or over the index; `buffer` counts bytes for a read and words
+/// for a list.
+#[derive(Clone, Copy, Debug, PartialEq, Eq)]
+pub enum Request {
+    Find {
+        k: u64,
+    },
+    Pages {
+        layout: Named,
+        k: u64,
+    },
+    Counts {
+        layout: Named,
+        k: u64,
+    },
+    Kind {
+        layout: Named,
+        k: u64,
+        page: u64,
+    },
+    Header {
+        layout: Named,
+        k: u64,
+        page: u64,
+    },
+    Start {
+        lent: Lent,
+    },
+    Add {
+        lent: Lent,
+        page: u64,
+    },
+    Size {
+        over: Over,
+        object: u64,
+    },
+    Chunk {
+        over: Over,
+        object: u64,
+        n: u64,
+    },
+    Read {
+        over: Over,
+        object: u64,
+        n: u64,
+        buffer: usize,
+    },
+    Part {
+        over: Over,
+        object: u64,
+        n: u64,
+    },
+    List {
+        over: Over,
+        buffer: usize,
+    },
+    Fill {
+        word: u32,
+    },
+}
+
+/// An answer: its line, and the lent buffer as the call left it.
+#[derive(Clone, Debug, Default, PartialEq, Eq)]
+pub struct Answer {
+    pub line: String,
+    pub bytes: Vec<u8>,
+    pub words: Vec<u32>,
+}
+
+impl Request {
+    /// The index words that the call is lent, if it is one on the index.
+    pub fn words(&self) -> Option<u64> {
+        match *self {
+            Request::Start { lent } | Request::Add { lent, .. } => Some(lent.words),
+            Request::Size { over, .. }
+            | Request::Chunk { over, .. }
+            | Request::Read { over, .. }
+            | Request::Part { over, .. }
+            | Request::List { over, .. } => match over {
+                Over::Index(lent) => Some(lent.words),
+                Over::Dump(..) => None,
+            },
+            _ => None,
+        }
+    }
+}
+
+/// Index words that a list of requests needs: the most that any is lent.
+pub fn index_words(requests: &[Request]) -> u64 {
+    requests.iter().filter_map(|r| r.words()).max().unwrap_or(0)
+}
+
+impl fmt::Display for Layout {
+    fn fmt(&self, f: &mut fmt::Formatter<'_>) -> fmt::Result {
+        write!(f, "{}/{}/{}", self.data, self.spare, self.tag)
+    }
+}
+
+impl fmt::Display for Named {
+    fn fmt(&self, f: &mut fmt::Formatter<'_>) -> fmt::Result {
+        match self {
+            Named::Number(number) => write!(f, "{number}"),
+            Named::Sizes(p, s, t) => write!(f, "{p}/{s}/{t}"),
+        }
+    }
+}
+
+/// A lookup's line: by layout and K ahead of the arguments for the dump
+/// alone, by options behind them for the index.
+fn lookup(f: &mut fmt::Formatter<'_>, name: &str, over: Over, arguments: &str) -> fmt::Result {
+    match over {
+        Over::Dump(layout, k) => write!(f, "d{name} {layout} {k} {arguments}"),
+        Over::Index(lent) => write!(f, "{name} {arguments} {}", options(lent)),
+    }
+}
+
+/// The options that give one call its own K, index words and layout.
+fn options(lent: Lent) -> String {
+    format!("k={} words={} layout={}", lent.k, lent.words, lent.layout)
+}
+
+impl fmt::Display for Request {
+    fn fmt(&self, f: &mut fmt::Formatter<'_>) -> fmt::Result {
+        match *self {
+            Request::Find { k } => write!(f, "find {k}"),
+            Request::Pages { layout, k } => write!(f, "pages {layout} {k}"),
+            Request::Counts { layout, k } => write!(f, "counts {layout} {k}"),
+            Request::Kind { layout, k, page } => write!(f, "kind {layout} {k} {page}"),
+            Request::Header { layout, k, page } => write!(f, "header {layout} {k} {page}"),
+            Request::Start { lent } => {
+                write!(f, "start {} {} {}", lent.layout, lent.k, lent.words)
+            }
+            Request::Add { lent, page } => write!(f, "add {page} {}", options(lent)),
+            Request::Size { over, object } => lookup(f, "size", over, &object.to_string()),
+            Request::Chunk { over, object, n } => {
+                lookup(f, "chunk", over, &format!("{object} {n}"))
+            }
+            Request::Read {
+                over,
+                object,
+                n,
+                buffer,
+            } => lookup(f, "read", over, &format!("{object} {n} {buffer}")),
+            Request::Part { over, object, n } => lookup(f, "part", over, &format!("{object} {n}")),
+            Request::List { over, buffer } => lookup(f, "list", over, &buffer.to_string()),
+            Request::Fill { word } => write!(f, "fill {word:#x}"),
+        }
+    }
+}
+
+/// The answer of the reader to one request.
+pub fn answer(reader: &mut Reader<'_>, request: &Request) -> Answer {
+    let mut answer = Answer::default();
+    let line = match *request {
+        Request::Find { k } => reader
+            .find(k)
+            .map(|layout| format!("layout={layout}"))
+            .map_err(Refused::from),
+        Request::Pages { layout, k } => reader
+            .pages(layout, k)
+            .map(|pages| format!("pages={pages}"))
+            .map_err(Refused::from),
+        Request::Counts { layout, k } => counts_line(reader, layout, k),
+        Request::Kind { layout, k, page } => reader
+            .kind(layout, k, page)
+            .map(kind_line)
+            .map_err(Refused::from),
+        Request::Header { layout, k, page } => reader
+            .header(layout, k, page)
+            .map(|fields| header_line(&fields))
+            .map_err(Refused::from),
+        Request::Start { lent } => done(reader.start(lent)),
+        Request::Add { lent, page } => done(reader.add(lent, page)),
+        Request::Size { over, object } => reader
+            .size(over, object)
+            .map(|(size, visits)| format!("size={size} visits={visits}")),
+        Request::Chunk { over, object, n } => reader.chunk(over, object, n).map(chunk_line),
+        Request::Read {
+            over,
+            object,
+            n,
+            buffer,
+        } => {
+            answer.bytes = vec![0xA5; buffer];
+            let read = reader.read(over, object, n, &mut answer.bytes);
+            let crc = crc32(&answer.bytes);
+            read.map(|chunk| format!("{} buffer={buffer}/{crc:08x}", chunk_line(chunk)))
+        }
+        Request::Part { over, object, n } => Ok(match reader.part(over, object, n) {
+            Some((at, bytes)) => format!("part={at}+{}/{:08x}", bytes.len(), crc32(bytes)),
+            None => "part=empty".to_string(),
+        }),
+        Request::List { over, buffer } => {
+            answer.words = vec![0xA5A5_A5A5; buffer];
+            let list = reader.list(over, &mut answer.words);
+            list.map(|ids| {
+                let ids: Vec<String> = ids.iter().map(u32::to_string).collect();
+                format!("ids={} words={buffer}", ids.join(","))
+            })
+        }
+        Request::Fill { .. } => {
+            reader.forget();
+            Ok("done".to_string())
+        }
+    };
+    answer.line = line.unwrap_or_else(refusal_line);
+    answer
+}
+
+fn done(result: Result<(), Refusal>) -> Result<String, Refused> {
+    result.map(|()| "done".to_string()).map_err(Refused::from)
+}
+
+fn refusal_line(refused: Refused) -> String {
+    if refused.refusal == Refusal::Unjudged {
+        return UNJUDGED.to_string();
+    }
+    let line = format!(
+        "refusal={} visits={}",
+        refused.refusal as u8, refused.visits
+    );
+    match refused.need {
+        Some(need) => format!("{line} need={need}"),
+        None => line,
+    }
+}
+
+/// The line of a call outside demand 3's premise: there is nothing to compare.
+pub const UNJUDGED: &str = "unjudged";
+
+fn counts_line(reader: &Reader<'_>, layout: Named, k: u64) -> Result<String, Refused> {
+    let c = reader.counts(layout, k)?;
+    Ok(format!(
+        "blank={} foreign={} damaged={} headers={} data={}",
+        c.blank, c.foreign, c.damaged, c.headers, c.data
+    ))
+}
+
+fn kind_line(kind: Kind) -> String {
+    let record = match kind {
+        Kind::Blank => return "blank".to_string(),
+        Kind::Foreign => return "foreign".to_string(),
+        Kind::Damaged => return "damaged".to_string(),
+        Kind::Record(record) => record,
+    };
+    let tags = format!("sequence={} object={}", record.sequence, record.object);
+    match record.body {
+        Body::Header {
+            file_type,
+            parent,
+            size,
+            shrink,
+        } => {
+            let shrink = u8::from(shrink);
+            format!("header {tags} type={file_type} parent={parent} size={size} shrink={shrink}")
+        }
+        Body::Data { chunk, count } => format!("data {tags} chunk={chunk} count={count}"),
+    }
+}
+
+fn header_line(fields: &[(&str, Field<'_>)]) -> String {
+    let shown: Vec<String> = fields
+        .iter()
+        .map(|(name, field)| match field {
+            Field::Number(number) => format!("{name}={number}"),
+            Field::Bytes(bytes) => format!("{name}={}", hex(bytes)),
+        })
+        .collect();
+    shown.join(" ")
+}
+
+fn hex(bytes: &[u8]) -> String {
+    bytes.iter().map(|byte| format!("{byte:02x}")).collect()
+}
+
+fn chunk_line(chunk: Chunk) -> String {
+    let place = match chunk.page {
+        Some(page) => format!("page={page}"),
+        None => "hole".to_string(),
+    };
+    format!(
+        "{place} valid={} shown={} visits={}",
+        chunk.valid, chunk.shown, chunk.visits
+    )
+}

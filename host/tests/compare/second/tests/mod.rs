@@ -1,0 +1,4 @@
+mod corpus;
+mod length;
+mod marked;
+mod script;

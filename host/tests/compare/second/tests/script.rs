@@ -1,0 +1,99 @@
+//! Requests as script lines, and the longer answer lines.
+
+use crate::generator::shelf::{shelf, BLOCK, LAYOUT};
+use crate::second::index::{Lent, Over, Reader};
+use crate::second::layout::Named;
+use crate::second::script::{answer, index_words, Request, UNJUDGED};
+use crate::second::wrong::Wrong;
+
+const LENT: Lent = Lent {
+    layout: Named::Number(6),
+    k: BLOCK,
+    words: 48,
+};
+
+#[test]
+fn requests_as_lines() {
+    let (layout, k) = (Named::from(LAYOUT), BLOCK);
+    let (object, n, page, buffer) = (257, 1, 3, 512);
+    let (dump, index, lent) = (Over::Dump(layout, k), Over::Index(LENT), LENT);
+    let read = |over| Request::Read {
+        over,
+        object,
+        n,
+        buffer,
+    };
+    let lines = [
+        (Request::Find { k }, "find 4"),
+        (Request::Counts { layout, k }, "counts 512/16/0 4"),
+        (Request::Kind { layout, k, page }, "kind 512/16/0 4 3"),
+        (Request::Start { lent }, "start 6 4 48"),
+        (Request::Add { lent, page }, "add 3 k=4 words=48 layout=6"),
+        (Request::Size { over: dump, object }, "dsize 512/16/0 4 257"),
+        (read(dump), "dread 512/16/0 4 257 1 512"),
+        (read(index), "read 257 1 512 k=4 words=48 layout=6"),
+        (
+            Request::List {
+                over: index,
+                buffer: 2,
+            },
+            "list 2 k=4 words=48 layout=6",
+        ),
+        (Request::Fill { word: 255 }, "fill 0xff"),
+    ];
+    for (request, line) in &lines {
+        assert_eq!(&request.to_string(), line);
+    }
+    assert_eq!(index_words(&lines.map(|(request, _)| request)), 48);
+}
+
+#[test]
+fn whole_dump_answers() {
+    let w = shelf();
+    let mut reader = Reader::new(&w.bytes, Wrong::None);
+    let mut ask = |request: Request| answer(&mut reader, &request).line;
+    let (layout, k) = (LENT.layout, BLOCK);
+    let counts = "blank=1 foreign=0 damaged=0 headers=3 data=4";
+    assert_eq!(ask(Request::Counts { layout, k }), counts);
+    assert_eq!(ask(Request::Pages { layout, k }), "pages=8");
+    assert_eq!(ask(Request::Find { k }), "layout=512/16/0");
+    let page = 1;
+    assert_eq!(
+        ask(Request::Header { layout, k, page }),
+        "refusal=16 visits=0"
+    );
+    let header = ask(Request::Header { layout, k, page: 4 });
+    let fields: Vec<&str> = header.split(' ').collect();
+    assert_eq!(fields.len(), 23);
+    assert_eq!(fields[..3], ["type=1", "parent=1", "unused1=65535"]);
+    assert_eq!(fields[3], format!("name={}", "ff".repeat(256)));
+    assert_eq!(fields[11], "file_size=300");
+    assert_eq!(fields[15], "win_created=18446744073709551615");
+    assert_eq!(fields[20], "reserved=ffffffffffffffff");
+    assert_eq!(fields[22], "shrink=1");
+}
+
+#[test]
+fn parts_are_places_in_the_dump() {
+    let w = shelf();
+    let mut reader = Reader::new(&w.bytes, Wrong::None);
+    let over = Over::Dump(LENT.layout, BLOCK);
+    let mut part = |object, n| answer(&mut reader, &Request::Part { over, object, n }).line;
+    assert!(part(257, 3).starts_with("part=3168+10/"));
+    for (object, n) in [(257, 2), (257, 4), (258, 1), (0, 0)] {
+        assert_eq!(part(object, n), "part=empty");
+    }
+}
+
+/// Nothing is said of cells that no start made, beyond the refusals before.
+#[test]
+fn cells_of_no_start_are_not_judged() {
+    let w = shelf();
+    let mut reader = Reader::new(&w.bytes, Wrong::None);
+    let size = |object| Request::Size {
+        over: Over::Index(LENT),
+        object,
+    };
+    assert_eq!(answer(&mut reader, &size(257)).line, UNJUDGED);
+    assert_eq!(answer(&mut reader, &size(0)).line, "refusal=4 visits=0");
+}

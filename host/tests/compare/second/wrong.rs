@@ -1,0 +1,171 @@
+//! Rules made wrong on purpose. A reader has one of these, or `None`; that the
+//! generator's answers change under each shows that it looks where they bite.
+
+macro_rules! wrong_rules {
+    ($($(#[$doc:meta])* $name:ident,)*) => {
+        /// Which rule is wrong.
+        #[derive(Clone, Copy, Debug, PartialEq, Eq)]
+        pub enum Wrong {
+            /// Every rule is as document 01 says.
+            None,
+            $($(#[$doc])* $name,)*
+        }
+
+        /// Every wrong rule.
+        pub const WRONG_RULES: &[Wrong] = &[$(Wrong::$name,)*];
+    };
+}
+
+wrong_rules! {
+    // Layouts and lengths.
+    /// K decides nothing.
+    BlockIgnored,
+    /// A dump too long or empty is BadLength even under a bad layout.
+    BadLengthBeforeBadLayout,
+
+    // Page kinds.
+    /// Sequence 0x1000 is foreign.
+    LowestSequenceForeign,
+    /// Sequence 0xFFF is not foreign.
+    SequenceBelowLowestTaken,
+    /// Sequence 0xEFFFFF00 is foreign.
+    HighestSequenceForeign,
+    /// Sequence 0xEFFFFF01 is not foreign.
+    SequenceAboveHighestTaken,
+    /// With chunk word 0 the id is the low 28 bits.
+    IdMasked,
+    /// A byte count of P is Damaged.
+    FullCountDamaged,
+    /// A byte count of P + 1 is data.
+    CountAbovePageTaken,
+    /// A byte count of 0 is data.
+    CountZeroTaken,
+    /// The tag type may differ from the page type.
+    TagTypeNotCompared,
+    /// The page type is its first byte: 0x101 is a file.
+    TypeOfOneByte,
+    /// The shrink mark is the value 1 alone.
+    ShrinkMarkOnlyOne,
+
+    // Finding.
+    /// Among equal scores the last candidate wins.
+    LastBestWins,
+    /// Candidates go by T, then by pair.
+    CandidatesByOffset,
+    /// Candidates go by rising page size.
+    CandidatesBySize,
+    /// Pages before a block's first good one score too.
+    PagesBeforeFirstGoodScore,
+    /// A block's sequence is that of its last good page.
+    BlockSequenceOfLastGood,
+    /// A block's sequence is that of its first page, good or not.
+    BlockSequenceOfFirstPage,
+    /// Blank pages count as not blank.
+    BlankCountedNotBlank,
+    /// Exactly half does not fit.
+    MoreThanHalfNeeded,
+    /// One good page is enough to fit.
+    HalfNotNeeded,
+    /// The type tests decide what is good.
+    FindReadsTypes,
+
+    // Newest, size and cuts.
+    /// Records are ordered by page number alone.
+    OrderByPageAlone,
+    /// A lower sequence is newer.
+    LowerSequenceNewer,
+    /// Under equal sequences the lower page is newer.
+    LowerPageNewer,
+    /// Sequences are compared as signed numbers.
+    SequenceSigned,
+    /// The file ends where the newest header says.
+    SizeOfHeaderAlone,
+    /// Data older than the newest header makes the file longer.
+    SizeOfAllData,
+    /// What data reaches to is kept in 32 bits.
+    SizeWraps,
+    /// Old shrink-marked headers do not cut.
+    OldBytesComeBack,
+    /// Every file header cuts.
+    EveryHeaderCuts,
+    /// The newest header cuts only if it is shrink-marked.
+    NewestHeaderNoCut,
+    /// A header that is no file cuts if shrink-marked.
+    MarkCutsEveryType,
+    /// Headers older than a copy cut it.
+    EarlierCutsCount,
+    /// A deleted directory's header does not cut.
+    DirectoryDeletionNoCut,
+    /// A deletion cuts only as the newest header.
+    OldDeletionNoCut,
+    /// Parent 4 is not deleted.
+    ParentFourLive,
+    /// Parent 3 is not deleted.
+    ParentThreeLive,
+    /// The oldest data record is the copy.
+    OldestCopyWins,
+    /// An older copy's bytes follow a shorter newer one.
+    OlderCopyFillsIn,
+    /// Only a cut below a chunk's start hides it.
+    HiddenOnlyBelow,
+    /// A later cut does not shorten the valid length.
+    ValidNotCut,
+    /// The shown length is P everywhere.
+    ShownNotLimited,
+    /// A read clears its buffer to the end.
+    ReadClearsBuffer,
+
+    // Visits.
+    /// The record a lookup ends at is not counted.
+    VisitsWithoutLast,
+    /// One record more is counted, where there is one.
+    VisitsOneFurther,
+    /// A hole's visits end at the newest header.
+    HoleVisitsToHeader,
+    /// A copy's visits end at the copy, above the newest header too.
+    CopyVisitsToCopy,
+    /// A copy's visits end at the newest header, above the copy too.
+    CopyVisitsToHeader,
+    /// ShortBuffer reports no visits.
+    ShortBufferVisitsNone,
+
+    // Index.
+    /// Lookups see pages that were not added.
+    PagesNotAddedSeen,
+    /// A page that is no record may be added again.
+    NonRecordAddedAgain,
+    /// A page may be added again.
+    EveryPageAddedAgain,
+    /// A start keeps earlier additions.
+    StartKeepsAdditions,
+    /// A refused start forgets all additions.
+    RefusedStartForgets,
+    /// One index word fewer is enough.
+    IndexOneWordShort,
+
+    // Refusals.
+    /// ShortBuffer is given before PastEnd.
+    ShortBufferBeforePastEnd,
+    /// BadChunk is given before BadObject.
+    BadChunkBeforeBadObject,
+    /// BadPage is given before ShortIndex.
+    BadPageBeforeShortIndex,
+    /// NotAFile is given before Deleted.
+    NotAFileBeforeDeleted,
+    /// A buffer of just the shown length is too short.
+    BufferOneByteMore,
+    /// A hole needs no buffer.
+    HoleNeedsNoBuffer,
+    /// Header fields are given for a damaged header.
+    DamagedHeaderGiven,
+
+    // Listing.
+    /// Ids are listed as they are met.
+    ListUnsorted,
+    /// Deleted objects are listed.
+    ListWithDeleted,
+    /// Objects of data alone are listed.
+    ListWithHeaderless,
+    /// Only files are listed.
+    ListOfFiles,
+}

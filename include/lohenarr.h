@@ -1,0 +1,130 @@
+/* Lohenarr: reads raw NAND dumps under YAFFS2. The calls of the proved
+ * library libcapi.a, which `rt staticlib capi` builds.
+ *
+ * A dump is lent as a pointer and a length, and is only read. Every call takes
+ * any bytes and any numbers, ends, and keeps nothing. A layout is given by its
+ * number in the table, 0 to 12; any other number is refused as BadLayout. k is
+ * the number of pages in a block.
+ *
+ * An answer begins with the number of the refusal, 0 where nothing is refused;
+ * its other fields count only then. */
+#ifndef LOHENARR_H
+#define LOHENARR_H
+
+#include <stddef.h>
+#include <stdint.h>
+
+#ifdef __cplusplus
+extern "C" {
+#endif
+
+/* A layout with its number in the table; beside a refusal the number is 13. */
+typedef struct {
+    uint32_t refusal;
+    uint32_t number;
+    uint32_t data;
+    uint32_t spare;
+    uint32_t tag;
+} lohenarr_layout_answer;
+
+typedef struct {
+    uint32_t refusal;
+    uint32_t pages;
+} lohenarr_pages_answer;
+
+/* How many pages are of each kind. */
+typedef struct {
+    uint32_t refusal;
+    uint32_t blank;
+    uint32_t foreign;
+    uint32_t damaged;
+    uint32_t headers;
+    uint32_t data;
+} lohenarr_counts_answer;
+
+/* What a page is: 1 blank, 2 foreign, 3 damaged, 4 header, 5 data. Fields that
+ * its kind lacks are 0. */
+typedef struct {
+    uint32_t refusal;
+    uint32_t kind;
+    uint32_t sequence;
+    uint32_t object;
+    uint32_t page_type;
+    uint32_t parent;
+    uint32_t size;
+    uint32_t shrink;
+    uint32_t chunk;
+    uint32_t count;
+} lohenarr_kind_answer;
+
+/* The header fields that are numbers. */
+typedef struct {
+    uint32_t refusal;
+    uint32_t page_type;
+    uint32_t parent;
+    uint32_t unused1;
+    uint32_t unused2;
+    uint32_t mode;
+    uint32_t uid;
+    uint32_t gid;
+    uint32_t accessed;
+    uint32_t modified;
+    uint32_t created;
+    uint32_t file_size;
+    uint32_t equivalent_id;
+    uint32_t rdev;
+    uint64_t win_created;
+    uint64_t win_accessed;
+    uint64_t win_modified;
+    uint32_t inband_shadow;
+    uint32_t inband_shrink;
+    uint32_t shadowed_id;
+    uint32_t shrink;
+} lohenarr_header_answer;
+
+/* A part of the dump: where it begins and how long it is; empty beside a
+ * refusal. */
+typedef struct {
+    uint32_t refusal;
+    size_t offset;
+    size_t length;
+} lohenarr_part_answer;
+
+/* The most bytes that a dump has. */
+size_t lohenarr_most_bytes(void);
+
+/* The layout with a number. */
+lohenarr_layout_answer lohenarr_layout(uint32_t number);
+
+/* The layout with these sizes and this tag offset. */
+lohenarr_layout_answer lohenarr_layout_sized(uint32_t data, uint32_t spare, uint32_t tag);
+
+/* The layout of a dump. */
+lohenarr_layout_answer lohenarr_find(const uint8_t *dump, size_t len, uint32_t k);
+
+/* The page count of a dump. */
+lohenarr_pages_answer lohenarr_pages(const uint8_t *dump, size_t len, uint32_t layout, uint32_t k);
+
+/* How many pages of a dump are of each kind. */
+lohenarr_counts_answer lohenarr_counts(const uint8_t *dump, size_t len, uint32_t layout, uint32_t k);
+
+/* The kind of a page, numbered from 0. */
+lohenarr_kind_answer lohenarr_kind(const uint8_t *dump, size_t len, uint32_t layout, uint32_t k, uint32_t page);
+
+/* The header fields of a page that are numbers. */
+lohenarr_header_answer lohenarr_header(const uint8_t *dump, size_t len, uint32_t layout, uint32_t k, uint32_t page);
+
+/* The name in a header, 256 bytes. */
+lohenarr_part_answer lohenarr_header_name(const uint8_t *dump, size_t len, uint32_t layout, uint32_t k, uint32_t page);
+
+/* The alias in a header, 128 bytes. */
+lohenarr_part_answer lohenarr_header_alias(const uint8_t *dump, size_t len, uint32_t layout, uint32_t k, uint32_t page);
+
+/* The reserved bytes of a header, 8 bytes. */
+lohenarr_part_answer lohenarr_header_reserved(const uint8_t *dump, size_t len, uint32_t layout, uint32_t k, uint32_t page);
+
+#ifdef __cplusplus
+}
+#endif
+
+#endif
