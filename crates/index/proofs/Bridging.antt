@@ -250,7 +250,7 @@ module _
         let own = recs-of (seen (objects says) added) (ageOf says) o n q i .1 in
         by-test (added q) _ (λ t. rw t) (λ t. let z : 0 ≡ o = rw t at own in absurd (omega arith))
 
-    added-listed : Listed says S o n top R
+    pub added-listed : Listed says S o n top R
     added-listed =
         let e : recs (objects S) (ageOf says) o n ≡ R = recs-same (objects S) (ageOf says) o (seen (objects says) added) n (λ x k. rw (seen-object x)) in
         rw e at

@@ -17,6 +17,7 @@ pub mod Bridging
 pub mod Entries
 pub mod Placing
 pub mod Turning
+pub mod Listing
 pub mod Demanding
 pub mod Kept
 pub mod Demanded
