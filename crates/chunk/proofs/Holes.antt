@@ -23,9 +23,9 @@ use Rattle.chunk.specs.declared.answer.Looked.the-variants as looked
 use Rattle.chunk.proofs.Meaning.{Hides, lowest-cut-hides, hides-lowest-cut}
 
 module _
-  (says : ℕ → Kind) (o n P c v : ℕ) (h : PageNumber)
-  (object : badObject o ≡ false) (number : badChunk c ≡ false) (live : fileOf says o n ≡ file.Header h v)
-  (inside : baseOf P c < sizeOf says P o (h .0) n) (small : baseOf P c < nowhere) where
+    (says : ℕ → Kind) (o n P c v : ℕ) (h : PageNumber)
+    (object : badObject o ≡ false) (number : badChunk c ≡ false) (live : fileOf says o n ≡ file.Header h v)
+    (inside : baseOf P c < sizeOf says P o (h .0) n) (small : baseOf P c < nowhere) where
   abbrev answer : Looked
   answer = lookedOf says o n P c
 

@@ -70,6 +70,7 @@ laid-over part buffer shown m e h =
         (ap (λ (r : List ℕ). part ++ r) (sym (take-zeros 0 (shown - length part) shown (omega arith)))
         ∙ sym (take-append-add part (replicate shown 0) (shown - length part))
         ∙ ap (λ (j : ℕ). take j (part ++ replicate shown 0)) i)
+
     short : shown < length part → take m part ++ replicate (shown - m) 0 ≡ take shown (part ++ replicate shown 0)
     short k =
         let q : m ≡ shown = omega arith in

@@ -79,6 +79,7 @@ module _ (says : ℕ → Kind) (test : Kind → Bool) where
     where
       both : test (says n) ≡ false → test (says n) ≡ true → ⊥
       both a b = let z : _≡_ {A = ℕ} 0 1 = cc in omega arith
+
       last : p ≡ n → test (says n) ≡ true → ((q : ℕ) → q < n → test (says q) ≡ true → ageOf says q ≤ ageOf says n) → IsNewest says test (suc n) p
       last i t f =
           rw i record {
@@ -86,6 +87,7 @@ module _ (says : ℕ → Kind) (test : Kind → Bool) where
             passes = t;
             newest = λ q h u. ⊎-elim (λ (j : q ≡ n). rw j (le-refl _)) (λ j. f q j u) (eq-or-lt-of-le (le-of-suc-le-suc h));
           }
+
       taken :
           test (says n) ≡ true → (r : Option ℕ) → newest says test n ≡ r → later says n r ≡ some p →
           ((x : ℕ) → newest says test n ≡ some x → IsNewest says test n x) → IsNewest says test (suc n) p

@@ -134,7 +134,17 @@ pub fn valid_of(count: u32, shown: u32, cut: u64, base: u64) -> u32
 }
 
 // The copy of chunk c on page q, where h is the newest header.
-fn copy_at(dump: &[u8], l: Layout, pages: u32, o: ObjectId, c: ChunkNumber, h: PageNumber, shown: u32, q: PageNumber, age: u64) -> Looked
+fn copy_at(
+    dump: &[u8],
+    l: Layout,
+    pages: u32,
+    o: ObjectId,
+    c: ChunkNumber,
+    h: PageNumber,
+    shown: u32,
+    q: PageNumber,
+    age: u64,
+) -> Looked
     requires { ⌜ age ≡ ageOf (kindAt l (now dump)) (q .0) ⌝ }
     ensures { λ r. ⌜ r ≡ copyAt (kindAt l (now (dump .entry))) (o .0) pages (l .«data») (c .0) (h .0) shown (q .0) ⌝ }
 {
@@ -149,7 +159,16 @@ fn copy_at(dump: &[u8], l: Layout, pages: u32, o: ObjectId, c: ChunkNumber, h: P
 }
 
 // Chunk c of a file of this size, whose newest header is page h.
-fn chunk_by(dump: &[u8], l: Layout, pages: u32, o: ObjectId, c: ChunkNumber, h: PageNumber, visits: u32, size: u64) -> Looked
+fn chunk_by(
+    dump: &[u8],
+    l: Layout,
+    pages: u32,
+    o: ObjectId,
+    c: ChunkNumber,
+    h: PageNumber,
+    visits: u32,
+    size: u64,
+) -> Looked
     ensures { λ r. ⌜ r ≡ chunkBy (kindAt l (now (dump .entry))) (o .0) pages (l .«data») (c .0) (h .0) visits size ⌝ }
 {
     let base = base_of(l.data, c);
@@ -177,7 +196,16 @@ fn look_in(dump: &[u8], l: Layout, pages: u32, o: ObjectId, c: ChunkNumber) -> L
     let f = file_of(dump, l, pages, o);
     match f {
         File::Refused(r, visits) => Looked::Refused(r, visits, 0),
-        File::Header(h, visits) => chunk_by(dump, l, pages, o, c, h, visits, size_of(dump, l, pages, o, h)),
+        File::Header(h, visits) => chunk_by(
+            dump,
+            l,
+            pages,
+            o,
+            c,
+            h,
+            visits,
+            size_of(dump, l, pages, o, h),
+        ),
     }
 }
 

@@ -104,7 +104,14 @@ pub fn read_into(dump: &[u8], l: Layout, a: Looked, buffer: &mut [u8]) -> Looked
 }
 
 // Chunk c of object o, read into a buffer.
-pub fn read(dump: &[u8], l: Layout, k: u32, o: ObjectId, c: ChunkNumber, buffer: &mut [u8]) -> Looked
+pub fn read(
+    dump: &[u8],
+    l: Layout,
+    k: u32,
+    o: ObjectId,
+    c: ChunkNumber,
+    buffer: &mut [u8],
+) -> Looked
     ensures { λ r. ⌜ r ≡ readBy (length (now (buffer .entry))) (chunkOn l k (now (dump .entry)) (o .0) (c .0)) ⌝ }
     ensures { λ r. ⌜ now (buffer .exit) ≡ bufferBy l (now (dump .entry)) (now (buffer .entry)) r ⌝ }
 {

@@ -24,19 +24,20 @@ returns-2 c =
     let t = k .before in
     let b = t .before .before in
     let s = b .before .before in
-    rw
-    (← s .pre,
-    ← t .before .lowest-cut .ensures,
-    ← b .base-of .ensures .0,
-    lt-leb _ _ (t .if1 .left),
-    ← k .kind-at .ensures,
-    ← v .before .count-of .ensures,
-    ← v .valid-of .ensures,
-    ← g .kind-at2 .ensures,
-    ← m .before .before .sequence-of .ensures,
-    ← m .before .order-of .ensures,
-    ← m .smaller .ensures,
-    ← c .records-since2 .ensures)
+    rw (
+      ← s .pre,
+      ← t .before .lowest-cut .ensures,
+      ← b .base-of .ensures .0,
+      lt-leb _ _ (t .if1 .left),
+      ← k .kind-at .ensures,
+      ← v .before .count-of .ensures,
+      ← v .valid-of .ensures,
+      ← g .kind-at2 .ensures,
+      ← m .before .before .sequence-of .ensures,
+      ← m .before .order-of .ensures,
+      ← m .smaller .ensures,
+      ← c .records-since2 .ensures,
+    )
 
 pub copy-at-spec : {M : Type 1} → statement M
 copy-at-spec =

@@ -29,14 +29,15 @@ returns-4 c =
     let f = m .before .before in
     let d = f .before in
     let e = d .before .before in
-    rw
-    (← e .before .is-bad .ensures,
-    e .if1 .left,
-    ← d .before .is-bad2 .ensures,
-    d .if2 .left,
-    ← f .file-of .ensures,
-    m .f2 .given .1,
-    ← c .before .size-of .ensures)
+    rw (
+      ← e .before .is-bad .ensures,
+      e .if1 .left,
+      ← d .before .is-bad2 .ensures,
+      d .if2 .left,
+      ← f .file-of .ensures,
+      m .f2 .given .1,
+      ← c .before .size-of .ensures,
+    )
     (c .chunk-by .ensures)
 
 pub look-in-spec : {M : Type 1} → statement M

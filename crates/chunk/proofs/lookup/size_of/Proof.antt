@@ -10,12 +10,13 @@ unfolding sizeOf
 returns c =
     let d = c .before .before in
     let k = d .before .before .before in
-    rw
-    (← k .kind-at .ensures,
-    ← d .before .before .sequence-of .ensures,
-    ← d .before .order-of .ensures,
-    ← d .data-end .ensures,
-    ← c .before .file-size .ensures)
+    rw (
+      ← k .kind-at .ensures,
+      ← d .before .before .sequence-of .ensures,
+      ← d .before .order-of .ensures,
+      ← d .data-end .ensures,
+      ← c .before .file-size .ensures,
+    )
     (c .larger .ensures)
 
 pub size-of-spec : {M : Type 1} → statement M

@@ -56,12 +56,13 @@ returns-3 c =
     let d = c .before .before .before in
     let e = d .before .before in
     let a = e .before .before .before .args in
-    rw
-    (add-sub-cancel-left,
-    lies e,
-    le-leb _ _ (d .if2 .left),
-    page-front (a .l) (a .dump .now) (a .p .0) (a .valid) (omega (arith, d .if2 .left)),
-    c .before .page-len .ensures .0)
+    rw (
+      add-sub-cancel-left,
+      lies e,
+      le-leb _ _ (d .if2 .left),
+      page-front (a .l) (a .dump .now) (a .p .0) (a .valid) (omega (arith, d .if2 .left)),
+      c .before .page-len .ensures .0,
+    )
 
 pub valid-part-spec : {M : Type 1} → statement M
 valid-part-spec =

@@ -1,0 +1,84 @@
+// The lookups of an object on a dump alone. Each answers as on an index to which every page was added.
+ghost use mathlib.Core.Path.{_≡_};
+ghost use lib.ListN.{length, take, drop};
+ghost use Rattle.page.specs.Layouts.{layoutAt};
+ghost use Rattle.chunk.specs.Answers.{sizeOn, chunkOn, readBy, bufferBy, partBy};
+ghost use Rattle.capi.specs.Lookups.{sizeAnswer, chunkAnswer, placeAnswer};
+use crate::answer::ChunkAnswer;
+use crate::answer::PlaceAnswer;
+use crate::answer::SizeAnswer;
+use crate::answer::chunk_answer;
+use crate::answer::place_answer;
+use crate::answer::size_answer;
+use crate::layout::layout_at;
+use chunk::lookup::chunk;
+use chunk::lookup::size;
+use chunk::read::read;
+use page::number::ChunkNumber;
+use page::number::ObjectId;
+
+// The size of an object.
+#[no_mangle]
+pub extern "C" fn lohenarr_dump_size(dump: &[u8], layout: u32, k: u32, object: u32) -> SizeAnswer
+    ensures { λ r. ⌜ r ≡ sizeAnswer (sizeOn (layoutAt layout) k (now (dump .entry)) object) ⌝ }
+{
+    size_answer(size(dump, layout_at(layout), k, ObjectId(object)))
+}
+
+// A chunk of an object.
+#[no_mangle]
+pub extern "C" fn lohenarr_dump_chunk(
+    dump: &[u8],
+    layout: u32,
+    k: u32,
+    object: u32,
+    n: u32,
+) -> ChunkAnswer
+    ensures { λ r. ⌜ r ≡ chunkAnswer (chunkOn (layoutAt layout) k (now (dump .entry)) object n) ⌝ }
+{
+    chunk_answer(chunk(dump, layout_at(layout), k, ObjectId(object), ChunkNumber(n)))
+}
+
+// A chunk of an object, read into a buffer: the valid bytes, then zeros up to the shown length. Bytes past that stay, and a refusal writes
+// nothing.
+#[no_mangle]
+pub extern "C" fn lohenarr_dump_read(
+    dump: &[u8],
+    layout: u32,
+    k: u32,
+    object: u32,
+    n: u32,
+    buffer: &mut [u8],
+) -> ChunkAnswer
+    ensures { λ r. ⌜ r ≡ chunkAnswer (readBy (length (now (buffer .entry))) (chunkOn (layoutAt layout) k (now (dump .entry)) object n)) ⌝ }
+    ensures { λ _. ⌜ now (buffer .exit) ≡ bufferBy (layoutAt layout) (now (dump .entry)) (now (buffer .entry)) (readBy (length (now (buffer .entry))) (chunkOn (layoutAt layout) k (now (dump .entry)) object n)) ⌝ }
+{
+    chunk_answer(read(
+        dump,
+        layout_at(layout),
+        k,
+        ObjectId(object),
+        ChunkNumber(n),
+        buffer,
+    ))
+}
+
+// The valid bytes of a chunk of an object, as a part of the dump; an empty part for a hole or a refusal.
+#[no_mangle]
+pub extern "C" fn lohenarr_dump_part(
+    dump: &[u8],
+    layout: u32,
+    k: u32,
+    object: u32,
+    n: u32,
+) -> PlaceAnswer
+    ensures { λ r. ⌜ r ≡ placeAnswer (layoutAt layout) (length (now (dump .entry))) (chunkOn (layoutAt layout) k (now (dump .entry)) object n) ⌝ }
+    ensures { λ r. ⌜ take (r .length) (drop (r .offset) (now (dump .entry))) ≡ partBy (layoutAt layout) (now (dump .entry)) (chunkOn (layoutAt layout) k (now (dump .entry)) object n) ⌝ }
+{
+    let l = layout_at(layout);
+    place_answer(
+        l,
+        dump.len(),
+        chunk(dump, l, k, ObjectId(object), ChunkNumber(n)),
+    )
+}
