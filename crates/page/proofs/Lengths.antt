@@ -3,10 +3,11 @@ use Prim.Native.Nat.{ℕ, suc, _+_, _*_, _/_, _%_, _<_, _≤_}
 use mathlib.Core.Bool.{Bool, true, false, not, _&&_}
 use mathlib.Core.Path.{_≡_, refl, sym, ap, _∙_}
 use mathlib.Core.Logic.{_↔_}
-use native.Mathlib.Nat.{suc-mul, mul-le-mul-right, div-mul-le-self, div-lt-iff-lt-mul, div-le-self, le-div-iff-mul-le}
+use native.Mathlib.Nat.{suc-mul, mul-le-mul-right, div-mul-le-self, div-lt-iff-lt-mul, div-le-self, le-div-iff-mul-le, mod-eq-of-lt}
+use native.Mathlib.Decide.{decLt}
 use native.Mathlib.Omega.{arith}
 use lib.Dec.{leb, ltb, eqb}
-use borrow.Author.Tests.{leb-true, leb-false, ltb-true, ltb-false, le-leb, lt-leb, eqb-false, not-true, not-false}
+use borrow.Author.Tests.{leb-true, leb-false, ltb-true, ltb-false, le-leb, lt-leb, eqb-true, eqb-false, not-true, not-false}
 use Rattle.page.specs.Layouts.{pageLen, roomy, numberOf}
 use Rattle.page.specs.Lengths.{mostBytes, blockFits, lengthFits, wholeBlocks, pageCount, pageIn, openedOf}
 use Rattle.page.specs.declared.layout.Layout.{Layout}
@@ -77,6 +78,21 @@ pub opened-most : (l : Layout) (k n m : ℕ) → openedOf l k n ≡ Pages m → 
 opened-most l k n m e =
     let f = opened-facts l k n m e in
     omega (arith, f .pages, length-most n (f .long), div-le-self n (pageLen l))
+
+-- a dump has a page: a length that is whole blocks and not 0 is at least a block
+pub opened-some : (l : Layout) (k n m : ℕ) → openedOf l k n ≡ Pages m → 0 < m
+unfolding wholeBlocks
+opened-some l k n m e =
+    let f = opened-facts l k n m e in
+    let r = roomy-facts l (f .room) in
+    let some = length-some n (f .long) in
+    let block : 1 * pageLen l ≤ k * pageLen l = mul-le-mul-right (pageLen l) (block-some k (f .block)) in
+    let d : (1 ≤ n / pageLen l) ↔ (1 * pageLen l ≤ n) = le-div-iff-mul-le (omega arith) in
+    let whole : n % (k * pageLen l) ≡ 0 = eqb-true _ _ (f .whole) in
+    elim (decLt n (pageLen l)) [
+      | yes h ↦ let same : n % (k * pageLen l) ≡ n = mod-eq-of-lt (omega arith) in absurd (omega arith)
+      | no h ↦ rw (← f .pages) (d .1 (omega arith))
+    ]
 
 -- the pages of a dump are those below its page count, for any layout with room
 pub page-in : (l : Layout) (n i : ℕ) → roomy l ≡ true → pageIn l n i ≡ ltb i (pageCount l n)

@@ -1,0 +1,234 @@
+-- One request on cells that hold exactly the added pages is answered as the paper says, and leaves cells that hold exactly the pages added
+-- after it. So a list of requests is too: by induction, with nothing in it.
+use Prim.Native.Nat.{ℕ, zero, suc, _+_, _-_, _≤_, _<_, min}
+use mathlib.Core.Bool.{Bool, true, false}
+use mathlib.Core.List.{List, [], _∷_, _++_}
+use mathlib.Core.Path.{_≡_, refl, sym, ap, ap₂, _∙_, subst}
+use native.Mathlib.Nat.{le-trans}
+use native.Mathlib.Omega.{arith}
+use lib.ListN.{length, take, drop, set, length-set, length-take, length-drop, length-append, length-replicate, take-append-drop, List·getD-append}
+use lib.Seq.{getD-take}
+use lib.Dec.{ltb, leb, eqb}
+use borrow.Author.Tests.{ltb-true, ltb-false, leb-true, leb-false}
+use Rattle.page.specs.Choice.{pick}
+use Rattle.page.specs.Lengths.{openedOf}
+use Rattle.page.specs.Kinds.{kindAt}
+use Rattle.page.specs.Numbers.{badObject, badChunk}
+use Rattle.page.specs.declared.kind.Kind.{Kind}
+use Rattle.page.specs.declared.layout.Layout.{Layout}
+use Rattle.page.specs.declared.layout.Opened.{Opened}
+use Rattle.page.specs.declared.layout.Opened.the-variants as opened
+use Rattle.page.specs.declared.refusal.Refusal.{Refusal}
+use Rattle.page.specs.declared.refusal.Refusal.the-variants.{ShortIndex, AlreadyAdded}
+use Rattle.page.proofs.Searching.{by-test}
+use Rattle.page.proofs.Lengths.{opened-facts}
+use Rattle.page.proofs.Within.{object-within}
+use Rattle.chunk.specs.Lookups.{fileOf, sizedBy, sizedOf, lookedBy, lookedOf}
+use Rattle.chunk.specs.Records.{ageOf}
+use Rattle.chunk.specs.declared.answer.Sized.{Sized}
+use Rattle.chunk.specs.declared.answer.Sized.the-variants as sized
+use Rattle.chunk.specs.declared.answer.Looked.{Looked}
+use Rattle.chunk.specs.declared.answer.Looked.the-variants as looked
+use Rattle.index.specs.Cells.{cellsFor, word, keys, linked, claimed, isMarked}
+use Rattle.index.specs.Chains.{objects, chain}
+use Rattle.index.specs.Places.{placeOf}
+use Rattle.index.specs.Additions.{Outcome, outcome, refused, emptied, startIn, startOf, addOther, addAt, addRecord, addTo, addIn, addOf}
+use Rattle.index.specs.Held.{noneAdded, with, seen, recs, fromList, Held}
+use Rattle.index.specs.Walks.{seenSays, sizeWalk, chunkWalk, sizeIn, chunkIn, sizeFrom, chunkFrom}
+use Rattle.index.specs.Requests.{Request, start, add, size, chunk, read, part, Answer, addition, aSize, aChunk, readAnswer, partAnswer, answerOn, wordsAfter, answersOn, wordsOf, unlessRefused, sizeSeen, chunkSeen, answerBy, addedAfter, answersBy, addedOf}
+use Rattle.index.specs.declared.additions.Added.{Added}
+use Rattle.index.specs.declared.additions.Added.the-variants.{Done, Refused}
+use Rattle.index.specs.declared.places.Place.{Place}
+use Rattle.index.specs.declared.places.Place.the-variants as place
+use Rattle.index.proofs.Answers.{start-short, start-done, add-short, add-far}
+use Rattle.index.proofs.Keeping.{answerTo, add-keeps, start-holds}
+use Rattle.index.proofs.Lending.{held-lent}
+use Rattle.index.proofs.Ordering.{ages-below, ages-differ}
+
+-- a call changes words, not their number
+module _ (n : ℕ) (obj age : ℕ → ℕ) where
+  at-length : (c : List ℕ) (p o s : ℕ) (r : Place) → length (addAt c p o s r .cells) ≡ length c
+  unfolding addAt linked claimed
+  at-length c p o s (place.Refused r) = refl
+  at-length c p o s (place.At at) =
+      by-test (isMarked c p) _
+      (λ t. rw t)
+      (λ t. rw t (simp length-set (by-test (eqb (keys c s) o) _ (λ u. rw u) (λ u. rw u (simp length-set)))))
+
+  pub add-length : (c : List ℕ) (p : ℕ) → length (addTo n obj age c p .cells) ≡ length c
+  unfolding addTo addOther addRecord
+  add-length c p =
+      by-test (ltb (length c) (cellsFor n)) _
+      (λ t. rw t)
+      (λ t.
+      rw t
+      (by-test (leb n p) _
+      (λ u. rw u)
+      (λ u.
+      rw u
+      (by-test (eqb (obj p) 0) _
+      (λ v. rw v (by-test (isMarked c p) _ (λ m. rw m) (λ m. rw m (simp length-set))))
+      (λ v. rw v (at-length c p (obj p) _ _))))))
+
+-- the walks on an object's sorted added records answer by the rules, with the pages not yet added read as blank
+abbrev pub SizeRule : Layout → List ℕ → ℕ → Type 0
+SizeRule l dump n =
+    (done : ℕ → Bool) (o : ℕ) → 0 < o →
+    sizeWalk (kindAt l dump) (l .«data») (fromList (recs (seen (objects (kindAt l dump)) done) (ageOf (kindAt l dump)) o n))
+    ≡ sizedBy (seenSays (kindAt l dump) done) o n (l .«data») (fileOf (seenSays (kindAt l dump) done) o n)
+
+abbrev pub ChunkRule : Layout → List ℕ → ℕ → Type 0
+ChunkRule l dump n =
+    (done : ℕ → Bool) (o c : ℕ) → 0 < o → badChunk c ≡ false →
+    chunkWalk (kindAt l dump) (l .«data») c (fromList (recs (seen (objects (kindAt l dump)) done) (ageOf (kindAt l dump)) o n))
+    ≡ lookedBy (seenSays (kindAt l dump) done) o n (l .«data») c (fileOf (seenSays (kindAt l dump) done) o n)
+
+module _ (l : Layout) (dump : List ℕ) (k₀ n : ℕ) (accepted : openedOf l k₀ (length dump) ≡ opened.Pages n) where
+  abbrev says : ℕ → Kind
+  says = kindAt l dump
+
+  abbrev obj : ℕ → ℕ
+  obj = objects says
+
+  abbrev age : ℕ → ℕ
+  age = ageOf says
+
+  -- the dump is refused for a K, or has the same pages for it
+  by-block : (k : ℕ) (X : Type 0) → ((r : Refusal) → openedOf l k (length dump) ≡ opened.Refused r → X) → (openedOf l k (length dump) ≡ opened.Pages n → X) → X
+  by-block k X f g = go (openedOf l k (length dump)) refl
+    where
+      go : (v : Opened) → openedOf l k (length dump) ≡ v → X
+      go (opened.Refused r) e = f r e
+      go (opened.Pages m) e =
+          let a = opened-facts l k (length dump) m e .pages in
+          let b = opened-facts l k₀ (length dump) n accepted .pages in
+          let same : m ≡ n = sym a ∙ b in
+          g (e ∙ ap opened.Pages same)
+
+  -- what one request does, where m is the number of words of the memory
+  abbrev Step : ℕ → List ℕ → (ℕ → Bool) → Request → Type 0
+  Step m c done r =
+      (answerOn l dump c r ≡ answerBy l dump m done r)
+      × (Held n obj age (addedAfter l dump m done r) (wordsAfter l dump c r) × (length (wordsAfter l dump c r) ≡ m))
+
+  module _ (m : ℕ) (some : 0 < n) (c : List ℕ) (done : ℕ → Bool) (g : Held n obj age done c) (size-m : length c ≡ m) where
+    -- the words that a call is lent, and the whole memory afterwards
+    module _ (w : ℕ) where
+      slice-length : length (take w c) ≡ min w m
+      slice-length = length-take w c ∙ ap (min w) size-m
+
+      unchanged : Held n obj age done (take w c ++ drop w c) × (length (take w c ++ drop w c) ≡ m)
+      unchanged = rw (take-append-drop w c) (g, size-m)
+
+      slice-held : cellsFor n ≤ min w m → Held n obj age done (take w c)
+      slice-held h = held-lent n obj age some c (take w c) (λ i k. getD-take w c i 0 (omega arith)) done (rw slice-length h) g
+
+      back : (d : List ℕ) (a : ℕ → Bool) → length d ≡ length (take w c) → Held n obj age a d → Held n obj age a (d ++ drop w c) × (length (d ++ drop w c) ≡ m)
+      back d a e q = (
+        held-lent n obj age some d (d ++ drop w c) (λ i k. List·getD-append d (drop w c) 0 i (omega (arith, q .room))) a (simp length-append (omega (arith, q .room))) q,
+        simp (length-append, length-drop) (omega (arith, slice-length)),
+      )
+
+    answer-to : (b : Bool) → answerTo b ≡ pick b (Refused AlreadyAdded) Done
+    answer-to true = refl
+    answer-to false = refl
+
+    step-start : (k w : ℕ) → Step m c done (start k w)
+    unfolding answerOn wordsAfter answerBy addedAfter startOf startIn
+    step-start k w =
+        by-block k _
+        (λ r e. rw e (refl, unchanged w))
+        (λ e.
+        rw (e, slice-length w)
+        (by-test (ltb (min w m) (cellsFor n)) _
+        (λ t. rw t (refl, unchanged w))
+        (λ t.
+        let h : cellsFor n ≤ length (take w c) = rw (slice-length w) (ltb-false _ _ t) in
+        rw t (
+          refl,
+          back w (emptied n (take w c)) noneAdded
+              (simp (length-append, length-replicate, length-drop) (omega arith))
+              (start-holds n obj age some (take w c) h),
+        ))))
+
+    step-add : (k w p : ℕ) → Step m c done (add k w p)
+    unfolding answerOn wordsAfter answerBy addedAfter addOf addIn
+    step-add k w p =
+        by-block k _
+        (λ r e. rw e (refl, unchanged w))
+        (λ e.
+        rw e
+        (by-test (ltb (min w m) (cellsFor n)) _
+        (λ t.
+        rw (t, add-short n obj age (take w c) p (rw (slice-length w) (ltb-true _ _ t)))
+        (refl, unchanged w))
+        (λ t.
+        let h : cellsFor n ≤ length (take w c) = rw (slice-length w) (ltb-false _ _ t) in
+        rw t
+        (by-test (leb n p) _
+        (λ u. rw (u, add-far n obj age (take w c) p h (leb-true _ _ u)) (refl, unchanged w))
+        (λ u.
+        let q = add-keeps n obj age (ages-differ l dump k₀ n accepted) (ages-below l dump k₀ n accepted) done (take w c) (slice-held w (ltb-false _ _ t)) p (leb-false _ _ u) in
+        rw u
+        (ap addition (q .0 ∙ answer-to (done p)), back w _ (with p done) (add-length n obj age (take w c) p) (q .1)))))))
+
+    -- what the walks down a chain answer on an object's added records, by the rules
+    module _ (sizes : SizeRule l dump n) (chunks : ChunkRule l dump n) where
+      size-same : (k w o : ℕ) → sizeFrom l k dump (take w c) o ≡ unlessRefused l dump m (λ r. sized.Refused r 0) (sizeSeen l dump m done o) k w
+      unfolding sizeFrom sizeIn sizedOf
+      size-same k w o =
+          by-block k _
+          (λ r e. rw e)
+          (λ e.
+          rw (e, slice-length w)
+          (by-test (ltb (min w m) (cellsFor n)) _
+          (λ t. rw t)
+          (λ t.
+          rw t
+          (by-test (badObject o) _
+          (λ u. rw u)
+          (λ u.
+          let p : 0 < o = object-within o u .least in
+          rw u (ap (sizeWalk says (l .«data»)) (slice-held w (ltb-false _ _ t) .chains o p) ∙ sizes done o p))))))
+
+      chunk-same : (k w o q : ℕ) → chunkFrom l k dump (take w c) o q ≡ unlessRefused l dump m (λ r. looked.Refused r 0 0) (chunkSeen l dump m done o q) k w
+      unfolding chunkFrom chunkIn lookedOf
+      chunk-same k w o q =
+          by-block k _
+          (λ r e. rw e)
+          (λ e.
+          rw (e, slice-length w)
+          (by-test (ltb (min w m) (cellsFor n)) _
+          (λ t. rw t)
+          (λ t.
+          rw t
+          (by-test (badObject o) _
+          (λ u. rw u)
+          (λ u.
+          let p : 0 < o = object-within o u .least in
+          rw u
+          (by-test (badChunk q) _
+          (λ v. rw v)
+          (λ v. rw v (ap (chunkWalk says (l .«data») q) (slice-held w (ltb-false _ _ t) .chains o p) ∙ chunks done o q p v))))))))
+
+      -- one request
+      pub step : (r : Request) → Step m c done r
+      unfolding answerOn wordsAfter answerBy addedAfter
+      step (start k w) = step-start k w
+      step (add k w p) = step-add k w p
+      step (size k w o) = (ap aSize (size-same k w o), (g, size-m))
+      step (chunk k w o q) = (ap aChunk (chunk-same k w o q), (g, size-m))
+      step (read k w o q buffer) = (ap (readAnswer l dump buffer) (chunk-same k w o q), (g, size-m))
+      step (part k w o q) = (ap (partAnswer l dump) (chunk-same k w o q), (g, size-m))
+
+  -- a list of requests
+  module _ (m : ℕ) (some : 0 < n) (sizes : SizeRule l dump n) (chunks : ChunkRule l dump n) where
+    pub steps :
+        (rs : List Request) (c : List ℕ) (done : ℕ → Bool) → Held n obj age done c → length c ≡ m →
+        (answersOn l dump c rs ≡ answersBy l dump m done rs) × Held n obj age (addedOf l dump m done rs) (wordsOf l dump c rs)
+    unfolding answersOn answersBy addedOf wordsOf
+    steps [] c done g e = (refl, g)
+    steps (r ∷ rs) c done g e =
+        let s = step m some c done g e sizes chunks r in
+        let t = steps rs (wordsAfter l dump c r) (addedAfter l dump m done r) (s .1 .0) (s .1 .1) in
+        (ap₂ (λ (a : Answer) (rest : List Answer). a ∷ rest) (s .0) (t .0), t .1)

@@ -1,0 +1,63 @@
+-- The records of a dump are in a strict order: by sequence, then by page. A page number is below 2^32, so that two ages are equal only if the
+-- pages are; and no record's sequence is so large that its age reaches the top.
+use Prim.Native.Nat.{ℕ, _≤_, _<_}
+use mathlib.Core.List.{List}
+use mathlib.Core.Path.{_≡_, refl}
+use native.Mathlib.Omega.{arith}
+use lib.ListN.{length}
+use Rattle.page.specs.Kinds.{kindAt}
+use Rattle.page.specs.Lengths.{openedOf}
+use Rattle.page.specs.declared.kind.Kind.{Kind}
+use Rattle.page.specs.declared.kind.Kind.the-variants.{Blank, Foreign, Damaged, Header, Data}
+use Rattle.page.specs.declared.number.ObjectId.{ObjectId}
+use Rattle.page.specs.declared.layout.Layout.{Layout}
+use Rattle.page.specs.declared.layout.Opened.the-variants.{Pages}
+use Rattle.page.proofs.Lengths.{opened-most}
+use Rattle.page.proofs.Within.{header-within, data-within}
+use Rattle.chunk.specs.Records.{sequenceOf, orderOf, ageOf}
+use Rattle.index.specs.Chains.{top}
+use Rattle.index.specs.Entries.{entryOf}
+use Rattle.index.specs.declared.entry.Entry.the-variants.{Record}
+
+-- the order is by sequence, then by page
+pub order-less : (s t x y : ℕ) → x < 4294967296 → y < 4294967296 → orderOf s x < orderOf t y → (s ≤ t) × (s ≡ t → x < y)
+order-less s t x y hx hy h = (omega arith, λ e. omega arith)
+
+module _ (l : Layout) (dump : List ℕ) where
+  -- no sequence is the largest word
+  sequence-below : (i : ℕ) → sequenceOf (kindAt l dump i) < 4294967295
+  sequence-below i = go (kindAt l dump i) refl
+    where
+      go : (k : Kind) → kindAt l dump i ≡ k → sequenceOf k < 4294967295
+      go Blank e = omega arith
+      go Foreign e = omega arith
+      go Damaged e = omega arith
+      go (Header s o t p z m) e = omega (arith, header-within l dump i s o t p z m e .sequence .most)
+      go (Data s o c n) e = omega (arith, data-within l dump i s o c n e .sequence .most)
+
+  -- a record has an object
+  pub record-object : (i : ℕ) (o : ObjectId) (a : ℕ) → Record o a ≡ entryOf (kindAt l dump i) i → 0 < o .0
+  unfolding entryOf
+  record-object i o a = go (kindAt l dump i) refl
+    where
+      go : (k : Kind) → kindAt l dump i ≡ k → Record o a ≡ entryOf k i → 0 < o .0
+      go Blank e q = let z : _≡_ {A = ℕ} 0 1 = cc in absurd (omega arith)
+      go Foreign e q = let z : _≡_ {A = ℕ} 0 1 = cc in absurd (omega arith)
+      go Damaged e q = let z : _≡_ {A = ℕ} 0 1 = cc in absurd (omega arith)
+      go (Header s o′ t p z m) e q = let same : o′ .0 ≡ o .0 = cc in omega (arith, header-within l dump i s o′ t p z m e .object .least)
+      go (Data s o′ c n) e q = let same : o′ .0 ≡ o .0 = cc in omega (arith, data-within l dump i s o′ c n e .object .least)
+
+  -- no record is as new as the top
+  pub age-below : (i : ℕ) → i < 4294967296 → ageOf (kindAt l dump) i < top
+  age-below i h = omega (arith, sequence-below i)
+
+  -- an accepted dump's pages
+  module _ (k n : ℕ) (e : openedOf l k (length dump) ≡ Pages n) where
+    pub pages-most : n ≤ 1073741824
+    pages-most = opened-most l k (length dump) n e
+
+    pub ages-below : (x : ℕ) → x < n → ageOf (kindAt l dump) x < top
+    ages-below x h = age-below x (omega (arith, pages-most))
+
+    pub ages-differ : (x y : ℕ) → x < n → y < n → ageOf (kindAt l dump) x ≡ ageOf (kindAt l dump) y → x ≡ y
+    ages-differ x y hx hy e = omega (arith, pages-most)

@@ -1,0 +1,149 @@
+-- Walks down a chain. Down to the newest header, a walk goes through the list of the records above it; below that, through the list of the
+-- records above the copy. On any chain no lookup visits more records than the chain has.
+use Prim.Native.Nat.{ℕ, zero, suc, _+_, _-_, _≤_, _<_, max, min}
+use mathlib.Core.Bool.{Bool, true, false, _&&_}
+use mathlib.Core.List.{List, [], _∷_, _++_}
+use mathlib.Core.Logic.{inl, inr}
+use mathlib.Core.Path.{_≡_, refl, sym, ap, _∙_}
+use native.Mathlib.Nat.{le-refl}
+use native.Mathlib.Omega.{arith}
+use lib.ListN.{length}
+use lib.Dec.{eqb, ltb, leb}
+use borrow.Author.Tests.{lt-ltb, le-ltb, leb-true, leb-false}
+use Rattle.page.specs.Choice.{pick}
+use Rattle.page.specs.Counts.{isHeader, isData}
+use Rattle.page.proofs.Searching.{by-test}
+use Rattle.page.specs.declared.kind.Kind.{Kind}
+use Rattle.page.specs.declared.kind.Kind.the-variants.{Blank, Foreign, Damaged, Header, Data}
+use Rattle.chunk.specs.Records.{objectOf, chunkOf, baseOf}
+use Rattle.chunk.specs.Cuts.{cutOf}
+use Rattle.chunk.specs.Sizes.{endOf}
+use Rattle.chunk.specs.Lookups.{fileAt}
+use Rattle.chunk.specs.declared.answer.File.{File}
+use Rattle.chunk.specs.declared.answer.File.the-variants as file
+use Rattle.chunk.specs.declared.answer.Looked.{Looked}
+use Rattle.chunk.specs.declared.answer.Looked.the-variants as looked
+use Rattle.index.specs.Chains.{Trace, clean, broken, rec}
+use Rattle.index.specs.Held.{fromList}
+use Rattle.index.specs.Walks.{sizeVisits, chunkVisits, headless, behind, sizeReached, cutBy, metWith, reach, found, isShown, seek, copyFrom, chunkFile, chunkReached, chunkWalk, sizeWalk}
+use Rattle.index.specs.declared.walks.Met.{Met}
+use Rattle.index.specs.declared.walks.Met.the-variants.{Copy, Nothing}
+use Rattle.index.specs.declared.walks.Reached.{Reached}
+use Rattle.index.specs.declared.walks.Reached.the-variants as reached
+use Rattle.index.proofs.Records.{In}
+use Rattle.index.proofs.Through.{through, through-at, through-idle}
+use Rattle.index.proofs.Parting.{Fails}
+
+-- a record is a header or data
+module _ (o : ℕ) (pos : 0 < o) where
+  none : {A : Type 0} → 0 ≡ o → A
+  none e = absurd (omega arith)
+
+  pub other-data : (k : Kind) → objectOf k ≡ o → isHeader k ≡ false → isData k ≡ true
+  other-data Blank e f = none e
+  other-data Foreign e f = none e
+  other-data Damaged e f = none e
+  other-data (Header s i t p z m) e f = sym f
+  other-data (Data s i c n) e f = refl
+
+  pub other-header : (k : Kind) → objectOf k ≡ o → isData k ≡ false → isHeader k ≡ true
+  other-header Blank e f = none e
+  other-header Foreign e f = none e
+  other-header Damaged e f = none e
+  other-header (Header s i t p z m) e f = refl
+  other-header (Data s i c n) e f = sym f
+
+module _ (says : ℕ → Kind) where
+  abbrev pub headed : ℕ → Bool
+  headed q = isHeader (says q)
+
+  pub behind-at : (A : List ℕ) (h : ℕ) (B : List ℕ) → Fails headed A → headed h ≡ true → behind says (fromList (A ++ (h ∷ B))) ≡ fromList B
+  unfolding behind fromList
+  behind-at [] h B f e = rw e
+  behind-at (q ∷ A) h B f e = rw (f q (inl refl)) (behind-at A h B (λ x i. f x (inr i)) e)
+
+  -- a header only lowers the cut
+  cut-lower : (b : Bool) (q cut : ℕ) → cutBy says b q cut ≤ cut
+  cut-lower b q cut = by-test (isHeader (says q)) _ (λ t. rw t (omega arith)) (λ t. rw t (le-refl cut))
+
+  -- the largest end, with page q too
+  abbrev pub endBy : ℕ → ℕ → ℕ → ℕ
+  endBy P q end = max (endOf P (says q)) end
+
+  module _ (P c : ℕ) where
+    pub reach-none :
+        (L : List ℕ) (end : ℕ) (m : Met) (v : ℕ) → Fails headed L → reach says P c end m v (fromList L) ≡ headless (v + length L)
+    unfolding reach fromList
+    reach-none [] end m v f = let e : v + 0 ≡ v = omega arith in rw e
+    reach-none (q ∷ L) end m v f =
+        let e : v + 1 + length L ≡ v + suc (length L) = omega arith in
+        rw (f q (inl refl), ← e) (reach-none L (endBy P q end) (metWith says P c q m) (v + 1) (λ x i. f x (inr i)))
+
+    pub reach-at :
+        (A : List ℕ) (h : ℕ) (B : List ℕ) (end : ℕ) (m : Met) (v : ℕ) →
+        Fails headed A →
+        headed h ≡ true →
+        reach says P c end m v (fromList (A ++ (h ∷ B)))
+        ≡ reached.Header (record { 0 = h }) (through (endBy P) end A) (through (metWith says P c) m A) (v + (length A + 1))
+    unfolding reach fromList through
+    reach-at [] h B end m v f e = rw e
+    reach-at (q ∷ A) h B end m v f e =
+        rw (f q (inl refl))
+        (reach-at A h B (endBy P q end) (metWith says P c q m) (v + 1) (λ x i. f x (inr i)) e
+        ∙ ap (reached.Header (record { 0 = h }) (through (endBy P) (endBy P q end) A) (through (metWith says P c) (metWith says P c q m) A)) (omega arith))
+
+    -- whether page q has chunk number c
+    abbrev pub copied : ℕ → Bool
+    copied q = eqb (chunkOf (says q)) c
+
+    -- the first copy of a list
+    pub met-none : (L : List ℕ) → Fails copied L → through (metWith says P c) Nothing L ≡ Nothing
+    met-none L f = through-idle (metWith says P c) L Nothing (λ q i. rw (f q i))
+
+    pub met-at :
+        (A : List ℕ) (q : ℕ) (B : List ℕ) → Fails copied A → copied q ≡ true → through (metWith says P c) Nothing (A ++ (q ∷ B)) ≡ Copy (record { 0 = q })
+    met-at A q B f e =
+        through-at (metWith says P c) A Nothing q B
+        ∙ rw (met-none A f, e) (through-idle (metWith says P c) B (Copy (record { 0 = q })) (λ x i. refl))
+
+    module _ (shown : ℕ) where
+      abbrev hole : ℕ → Looked
+      hole v = looked.Hole shown v
+
+      pub seek-none : (L : List ℕ) (cut v : ℕ) → Fails copied L → seek says P c shown cut v (fromList L) ≡ hole (v + length L)
+      unfolding seek fromList
+      seek-none [] cut v f = ap hole (omega arith)
+      seek-none (q ∷ L) cut v f =
+          rw (f q (inl refl)) (seek-none L (cutBy says false q cut) (v + 1) (λ x i. f x (inr i)) ∙ ap hole (omega arith))
+
+      -- behind a cut that hides the chunk no copy is shown
+      seek-hidden : (L : List ℕ) (cut v : ℕ) → cut ≤ baseOf P c → seek says P c shown cut v (fromList L) ≡ hole (v + length L)
+      unfolding seek fromList
+      seek-hidden [] cut v h = ap hole (omega arith)
+      seek-hidden (q ∷ L) cut v h =
+          let k : cutBy says false q cut ≤ baseOf P c = omega (arith, cut-lower false q cut) in
+          let e : v + 1 + length L ≡ v + suc (length L) = omega arith in
+          let on = seek-hidden L (cutBy says false q cut) (v + 1) k ∙ ap hole e in
+          rw (le-ltb (baseOf P c) cut h) (by-test (copied q) _ (λ t. rw t on) (λ t. rw t on))
+
+      -- the first copy, which is hidden or not
+      pub seek-at :
+          (A : List ℕ) (q : ℕ) (B : List ℕ) (cut v : ℕ) →
+          Fails copied A →
+          copied q ≡ true →
+          seek says P c shown cut v (fromList (A ++ (q ∷ B)))
+          ≡ pick (leb (through (cutBy says false) cut A) (baseOf P c)) (hole (v + (length A + 1 + length B)))
+          (found says P c shown (through (cutBy says false) cut A) q (v + (length A + 1)))
+      unfolding seek fromList through
+      seek-at [] q B cut v f e =
+          by-test (leb cut (baseOf P c)) _
+          (λ t.
+          let h : cut ≤ baseOf P c = leb-true _ _ t in
+          rw (e, t, le-ltb (baseOf P c) cut h)
+          (seek-hidden B (cutBy says false q cut) (v + 1) (omega (arith, cut-lower false q cut)) ∙ ap hole (omega arith)))
+          (λ t. rw (e, t, lt-ltb (baseOf P c) cut (leb-false _ _ t)))
+      seek-at (p ∷ A) q B cut v f e =
+          let d : through (cutBy says false) (cutBy says false p cut) A ≡ through (cutBy says false) cut (p ∷ A) = refl in
+          let w : v + 1 + (length A + 1) ≡ v + (suc (length A) + 1) = omega arith in
+          let u : v + 1 + (length A + 1 + length B) ≡ v + (suc (length A) + 1 + length B) = omega arith in
+          rw (f p (inl refl)) (rw (← w, ← u) (seek-at A q B (cutBy says false p cut) (v + 1) (λ x i. f x (inr i)) e))

@@ -1,0 +1,18 @@
+-- The test is that of the definition, and so is what is stored.
+use mathlib.Core.Path.{sym}
+use borrow.Author.Needs.{needs}
+use Rattle.index.proofs.Answers.{start-short, start-done}
+use Rattle.index.proofs.additions.start_pages.Statement.{statement}
+use Rattle.index.proofs.additions.start_pages.Tie as tie
+
+returns : tie.Need-returns
+returns c = sym (start-short _ _ (rw (c .before .cells-for .ensures) at (c .if1 .taken)))
+
+returns-2 : tie.Need-returns-2
+returns-2 c =
+    let k = c .before .before in
+    let t = k .before .before in
+    rw (k .clear .ensures, t .before .cells-for .ensures) (sym (start-done _ _ (rw (t .before .cells-for .ensures) at (t .if1 .left))))
+
+pub start-pages-spec : {M : Type 1} → statement M
+start-pages-spec = tie.close (tie.spec (search needs) returns (search needs) (search needs) returns-2)

@@ -1,0 +1,60 @@
+-- The refusals come in the definition's order; an object that is not bad has an id above 0.
+use Prim.Native.Nat.{_<_}
+use native.Mathlib.Omega.{arith}
+use borrow.Author.Needs.{needs}
+use borrow.Author.Tests.{lt-ltb, le-ltb}
+use Rattle.page.proofs.Within.{object-within}
+use Rattle.index.specs.Chains.{chain}
+use Rattle.index.specs.Walks.{chunkIn}
+use Rattle.index.proofs.lookups.chunk_in.Statement.{statement}
+use Rattle.index.proofs.lookups.chunk_in.Tie as tie
+
+returns : tie.Need-returns
+unfolding chunkIn
+returns c = rw (← c .before .cells-for .ensures, lt-ltb _ _ (c .if1 .taken))
+
+returns-2 : tie.Need-returns-2
+unfolding chunkIn
+returns-2 c =
+    let b = c .before .before in
+    rw (← b .before .cells-for .ensures, le-ltb _ _ (b .if1 .left), ← c .before .is-bad .ensures, c .if2 .taken)
+
+returns-3 : tie.Need-returns-3
+unfolding chunkIn
+returns-3 c =
+    let d = c .before .before in
+    let b = d .before .before in
+    rw (
+      ← b .before .cells-for .ensures,
+      le-ltb _ _ (b .if1 .left),
+      ← d .before .is-bad .ensures,
+      d .if2 .left,
+      ← c .before .is-bad2 .ensures,
+      c .if3 .taken,
+    )
+
+chunk-walk-requires : tie.Need-chunk-walk-requires
+chunk-walk-requires c κs =
+    let d = c .before .before .before in
+    let w = object-within _ (rw (d .before .is-bad .ensures) at (d .if2 .left)) in
+    (w .least, omega (arith, d .before .before .if1 .left, d .before .before .before .cells-for .ensures))
+
+returns-4 : tie.Need-returns-4
+unfolding chunkIn chain
+returns-4 c =
+    let e = c .before .before in
+    let d = e .before .before in
+    let b = d .before .before in
+    rw (
+      ← b .before .cells-for .ensures,
+      le-ltb _ _ (b .if1 .left),
+      ← d .before .is-bad .ensures,
+      d .if2 .left,
+      ← e .before .is-bad2 .ensures,
+      e .if3 .left,
+      ← c .before .first-link .ensures,
+    )
+    (c .chunk-walk .ensures)
+
+pub chunk-in-spec : {M : Type 1} → statement M
+chunk-in-spec = tie.close (tie.spec (search needs) returns (search needs) returns-2 (search needs) returns-3 (search needs) chunk-walk-requires returns-4)

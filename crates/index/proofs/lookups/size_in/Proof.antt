@@ -1,0 +1,45 @@
+-- The refusals come in the definition's order; an object that is not bad has an id above 0.
+use Prim.Native.Nat.{_<_}
+use native.Mathlib.Omega.{arith}
+use borrow.Author.Needs.{needs}
+use borrow.Author.Tests.{lt-ltb, le-ltb}
+use Rattle.page.proofs.Within.{object-within}
+use Rattle.index.specs.Chains.{chain}
+use Rattle.index.specs.Walks.{sizeWalk, sizeIn}
+use Rattle.index.proofs.lookups.size_in.Statement.{statement}
+use Rattle.index.proofs.lookups.size_in.Tie as tie
+
+returns : tie.Need-returns
+unfolding sizeIn
+returns c = rw (← c .before .cells-for .ensures, lt-ltb _ _ (c .if1 .taken))
+
+returns-2 : tie.Need-returns-2
+unfolding sizeIn
+returns-2 c =
+    let b = c .before .before in
+    rw (← b .before .cells-for .ensures, le-ltb _ _ (b .if1 .left), ← c .before .is-bad .ensures, c .if2 .taken)
+
+reach-header-requires : tie.Need-reach-header-requires
+reach-header-requires c κs =
+    let d = c .before in
+    let w = object-within _ (rw (d .before .is-bad .ensures) at (d .if2 .left)) in
+    (w .least, omega (arith, d .before .before .if1 .left, d .before .before .before .cells-for .ensures))
+
+returns-3 : tie.Need-returns-3
+unfolding sizeIn sizeWalk chain
+returns-3 c =
+    let r = c .before in
+    let d = r .before .before in
+    let b = d .before .before in
+    rw (
+      ← b .before .cells-for .ensures,
+      le-ltb _ _ (b .if1 .left),
+      ← d .before .is-bad .ensures,
+      d .if2 .left,
+      ← r .before .first-link .ensures,
+      ← r .reach-header .ensures,
+    )
+    (c .size-reached .ensures)
+
+pub size-in-spec : {M : Type 1} → statement M
+size-in-spec = tie.close (tie.spec (search needs) returns (search needs) returns-2 (λ c κs. omega arith) reach-header-requires (search needs) returns-3)

@@ -1,0 +1,139 @@
+-- The loop's invariant: what the chain from the first link on reaches is what the chain from here on reaches, and the records visited and
+-- those still ahead are no more than the pages. Each turn goes on to an older record, so that the bound falls.
+use Prim.Native.Nat.{_+_, _≤_}
+use mathlib.Core.Bool.{true, false}
+use mathlib.Core.Path.{_≡_, refl, sym, _∙_}
+use native.Mathlib.Omega.{arith}
+use borrow.Author.Needs.{needs}
+use Rattle.page.specs.Counts.{isHeader}
+use Rattle.page.specs.Kinds.{kindAt}
+use Rattle.page.proofs.Sound.{else-data}
+use Rattle.chunk.specs.Records.{ageOf}
+use Rattle.index.specs.Chains.{objects, top}
+use Rattle.index.specs.Walks.{recordsIn, reach, under}
+use Rattle.index.specs.declared.chains.Lead.the-variants.{End, Damaged, Record}
+use Rattle.index.specs.declared.walks.Met.the-variants.{Nothing}
+use Rattle.index.proofs.Links.{Told, told}
+use Rattle.index.proofs.Walking.{other-header}
+use Rattle.index.proofs.Turning.{reach-nothing, reach-headless, reach-broken, reach-here, reach-on, count-on, few}
+use Rattle.index.proofs.walks.reach_header.Statement.{statement}
+use Rattle.index.proofs.walks.reach_header.Tie as tie
+
+abbrev Inv-loop : tie.InvT-loop
+Inv-loop dump l pages cells o c first link₀ bound₀ end₀ met₀ visits₀ link bound end met visits =
+    (visits + recordsIn (under (kindAt l dump) pages cells (o .0) bound link) ≤ pages)
+    × (reach (kindAt l dump) (l .«data») (c .0) 0 Nothing 0 (under (kindAt l dump) pages cells (o .0) top first)
+    ≡ reach (kindAt l dump) (l .«data») (c .0) end met visits (under (kindAt l dump) pages cells (o .0) bound link))
+
+abbrev μ-loop : tie.MeasureT-loop
+μ-loop dump l pages cells o c first link₀ bound₀ end₀ met₀ visits₀ link bound end met visits = bound
+
+loop-holds : tie.Need-loop-holds Inv-loop μ-loop
+loop-holds c =
+    let a = c .before .before .args in
+    let says = kindAt (a .l) (a .dump .now) in
+    (omega (arith, few (a .pages) (objects says) (ageOf says) (a .cells .now) (a .o .0) top (a .first)), refl)
+
+returns : tie.Need-returns Inv-loop μ-loop
+returns c =
+    let f = c .before .before .before in
+    let q = f .before .loop in
+    let k = told _ _ _ _ _ _ _ End (sym (c .before .enum-told .given .1) ∙ f .follow .ensures) in
+    sym (q .inv .1 ∙ reach-nothing _ _ _ _ _ _ _ (k .0) (c .if1 .taken))
+
+returns-2 : tie.Need-returns-2 Inv-loop μ-loop
+returns-2 c =
+    let f = c .before .before .before in
+    let q = f .before .loop in
+    let k = told _ _ _ _ _ _ _ End (sym (c .before .enum-told .given .1) ∙ f .follow .ensures) in
+    sym (q .inv .1 ∙ reach-headless _ _ _ _ _ _ _ (k .0) (c .if1 .left))
+
+returns-3 : tie.Need-returns-3 Inv-loop μ-loop
+returns-3 c =
+    let f = c .before .before in
+    let q = f .before .loop in
+    let k = told _ _ _ _ _ _ _ Damaged (sym (c .enum-told2 .given .1) ∙ f .follow .ensures) in
+    sym (q .inv .1 ∙ reach-broken _ _ _ _ _ _ _ k)
+
+-- what is known at a record that a link led to
+abbrev Here : tie.After-lead Inv-loop μ-loop → Type 0
+Here c =
+    let q = c .before .before .before .loop in
+    let a = c .before .before .before .before .before .before .args in
+    let says = kindAt (a .l) (a .dump .now) in
+    Told (a .pages) (objects says) (ageOf says) (a .o .0) (a .cells .now) (q .bound) (q .link) (Record (c .lead .given .0 .0) (c .lead .given .0 .1 .0))
+
+here : (c : tie.After-lead Inv-loop μ-loop) → Here c
+here c = told _ _ _ _ _ _ _ (Record _ _) (sym (c .lead .given .1) ∙ c .before .before .follow .ensures)
+
+add-visits : tie.Need-add-visits Inv-loop μ-loop
+add-visits c =
+    let g = c .before in
+    omega (arith, g .before .before .before .loop .inv .0, count-on _ _ _ (here g .2))
+
+returns-4 : tie.Need-returns-4 Inv-loop μ-loop
+returns-4 c =
+    let g = c .before .before .before in
+    let q = g .before .before .before .loop in
+    let s = g .before .before .before .before .before .before in
+    let says = kindAt (s .args .l) (s .args .dump .now) in
+    let d = rw (c .before .kind-at .ensures) at (else-data (c .before .kind-at .result) (c .match2 .keys2)) in
+    let e = other-header (s .args .o .0) (s .pre .0) (says (g .lead .given .0 .0 .0)) (here g .1 .own) d in
+    sym (q .inv .1 ∙ reach-here says _ _ _ _ _ _ _ _ (here g .2) e)
+
+mul-link : tie.Need-mul-link Inv-loop μ-loop
+mul-link c =
+    let g = c .before .before .before .before .before .before .before .before in
+    omega (arith, here g .1 .inside, c .link-at .ensures)
+
+read-link : tie.Need-shared-slice-read-link Inv-loop μ-loop
+read-link c =
+    let g = c .before .before .before .before .before .before .before .before .before in
+    let s = g .before .before .before .before .before .before in
+    omega (arith, here g .1 .inside, c .before .link-at .ensures, s .pre .1)
+
+loop-less : tie.Need-loop-less Inv-loop μ-loop
+loop-less c =
+    let g = c .before .before .before .before .before .before .before .before .before in
+    omega (arith, here g .0, here g .1 .older)
+
+loop-again : tie.Need-loop-again Inv-loop μ-loop
+loop-again c =
+    let m = c .before .before .before .before .before in
+    let g = m .before .before .before .before in
+    let q = g .before .before .before .loop in
+    let a = g .before .before .before .before .before .before .args in
+    let says = kindAt (a .l) (a .dump .now) in
+    let e = sym (m .before .before .kind-at .ensures) ∙ m .k .given .1 in
+    let d : isHeader (says (g .lead .given .0 .0 .0)) ≡ false = rw e in (
+      rw (here g .0, c .before .link-at .ensures) (omega (arith, q .inv .0, count-on _ _ _ (here g .2))),
+      q .inv .1
+          ∙ reach-on says _ _ _ _ _ _ _ _ (here g .2) d
+          ∙ rw (c .before .before .before .end-with .ensures, c .before .before .or-copy .ensures, here g .0, c .before .link-at .ensures, e),
+    )
+
+pub reach-header-spec : {M : Type 1} → statement M
+reach-header-spec =
+    tie.close
+    (tie.spec
+    Inv-loop
+    μ-loop
+    loop-holds
+    (search needs)
+    (search needs)
+    returns
+    returns-2
+    (search needs)
+    returns-3
+    (search needs)
+    add-visits
+    (search needs)
+    (search needs)
+    returns-4
+    (search needs)
+    (search needs)
+    (search needs)
+    mul-link
+    read-link
+    loop-less
+    loop-again)

@@ -1,0 +1,69 @@
+-- The words of a lent index, and what each is for (document 01, "Index"). This is the one file that knows where a word stands.
+--
+-- Words 0 to 15 are for the whole index. Page p, and slot p of the table of objects, have the four words from 16 + 4 p on:
+--   +0  the link of page p: 0 where the page has not been added; else where the next older record of its object is
+--   +1  the key of slot p: 0 where the slot is free, else an object's id
+--   +2  the first link of slot p: where the newest record of that object is
+--   +3  not used
+-- A link is a word that leads to a page: 0 and 1 lead nowhere, q + 2 to page q.
+use Prim.Native.Nat.{ℕ, _+_, _*_}
+use mathlib.Core.Bool.{Bool, not}
+use mathlib.Core.List.{List}
+use lib.ListN.{getD, set}
+use lib.Dec.{eqb, ltb}
+use Rattle.page.specs.Choice.{pick}
+
+-- the words for the whole index
+abbrev pub shared : ℕ
+shared = 16
+
+-- the words of a page
+abbrev pub perPage : ℕ
+perPage = 4
+
+-- how many words an index of n pages has
+abbrev pub cellsFor : ℕ → ℕ
+cellsFor n = shared + perPage * n
+
+-- where the link of page p stands
+abbrev pub linkAt : ℕ → ℕ
+linkAt p = shared + perPage * p
+
+-- where the key and the first link of slot s stand
+abbrev pub keyAt : ℕ → ℕ
+keyAt s = shared + perPage * s + 1
+
+abbrev pub firstAt : ℕ → ℕ
+firstAt s = shared + perPage * s + 2
+
+-- the word at a place
+abbrev pub word : List ℕ → ℕ → ℕ
+word c i = getD c i 0
+
+-- the keys of the slots
+abbrev pub keys : List ℕ → ℕ → ℕ
+keys c s = word c (keyAt s)
+
+-- whether page p is marked as added
+abbrev pub isMarked : List ℕ → ℕ → Bool
+isMarked c p = not (eqb (word c (linkAt p)) 0)
+
+-- the link that leads nowhere, of a page that has been added
+abbrev pub last : ℕ
+last = 1
+
+-- the link that leads to page q
+abbrev pub linkTo : ℕ → ℕ
+linkTo q = q + 2
+
+-- the link of an added page that leads where the link w does
+abbrev pub marked : ℕ → ℕ
+marked w = pick (ltb w 2) last w
+
+-- page p put in at a place: its link leads where the link at that place led, and the link at that place leads to p
+unfoldable pub linked : List ℕ → ℕ → ℕ → List ℕ
+linked c p at = set (set c (linkAt p) (marked (word c at))) at (linkTo p)
+
+-- slot s made the slot of object o: if it is not yet, the object has no record
+unfoldable pub claimed : List ℕ → ℕ → ℕ → List ℕ
+claimed c s o = pick (eqb (keys c s) o) c (set (set c (keyAt s) o) (firstAt s) 0)

@@ -1,0 +1,56 @@
+-- The chain of an object, on any cells: what the links say (document 01, "Index").
+-- There are n pages; `obj` gives the object of a page, 0 for one that is no record, and `age` its place in the order of records.
+use Prim.Native.Nat.{ℕ, zero, suc, _-_}
+use mathlib.Core.List.{List}
+use lib.Dec.{eqb, ltb}
+use Rattle.page.specs.Choice.{pick}
+use Rattle.page.specs.declared.kind.Kind.{Kind}
+use Rattle.chunk.specs.Records.{objectOf}
+use Rattle.index.specs.Cells.{word, linkAt}
+use Rattle.index.specs.Slots.{first}
+use Rattle.index.specs.declared.chains.Lead.{Lead}
+use Rattle.index.specs.declared.chains.Lead.the-variants.{End, Damaged, Record}
+
+-- the objects of the pages that say this
+abbrev pub objects : (ℕ → Kind) → ℕ → ℕ
+objects says p = objectOf (says p)
+
+-- an age that is above that of every record
+abbrev pub top : ℕ
+top = 18446744073709551615
+
+-- the records that the links lead to, from the newest on: an end, a link that is damaged, or a record and the rest
+pub data Trace : Type 0 where
+  clean : Trace
+  broken : Trace
+  rec : ℕ → Trace → Trace
+
+-- by where the next link leads; the rest is the chain from a page and below its age
+abbrev pub by : Lead → (ℕ → ℕ → Trace) → Trace
+by End rest = clean
+by Damaged rest = broken
+by (Record q a) rest = rec (q .0) (rest (q .0) a)
+
+module _ (n : ℕ) (obj age : ℕ → ℕ) where
+  -- where the link w leads in the chain of object o below the age b. It is damaged if it leads outside the dump, to a page that is not a
+  -- record of that object, or to one that is not older
+  unfoldable pub leadOf : ℕ → ℕ → ℕ → Lead
+  leadOf o b w =
+      pick (ltb w 2) End
+      (pick (ltb (w - 2) n)
+      (pick (eqb (obj (w - 2)) o)
+      (pick (ltb (age (w - 2)) b) (Record (record { 0 = w - 2 }) (age (w - 2)))
+      Damaged) Damaged) Damaged)
+
+  -- the chain of object o below the age b from the link w, by at most so many steps
+  unfoldable pub traceBy : List ℕ → ℕ → ℕ → ℕ → ℕ → Trace
+  traceBy c o zero b w = by (leadOf o b w) (λ q a. broken)
+  traceBy c o (suc f) b w = by (leadOf o b w) (λ q a. traceBy c o f a (word c (linkAt q)))
+
+  -- the chain of object o below the age b from the link w. Ages fall along it, so that it has at most b steps
+  unfoldable pub trace : List ℕ → ℕ → ℕ → ℕ → Trace
+  trace c o b w = traceBy c o b b w
+
+  -- the chain of object o: what the stored links give from its stored first record
+  unfoldable pub chain : List ℕ → ℕ → Trace
+  chain c o = trace c o top (first n c o)

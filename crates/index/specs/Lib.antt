@@ -1,0 +1,10 @@
+pub mod Cells
+pub mod Slots
+pub mod Entries
+pub mod Chains
+pub mod Places
+pub mod Additions
+pub mod Held
+pub mod Walks
+pub mod Requests
+pub mod Demand

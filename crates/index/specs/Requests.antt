@@ -1,0 +1,124 @@
+-- A list of requests on one memory of words, for one unchanged dump and layout (document 01, "Demand 3 exactly"): what our calls answer and
+-- leave, and beside it what the paper says. Each request has its own K and its own length of slice; the words past the slice stay as they are.
+use Prim.Native.Nat.{ℕ, min}
+use mathlib.Core.Bool.{Bool, true, false}
+use mathlib.Core.List.{List, [], _∷_, _++_}
+use lib.ListN.{length, take, drop}
+use lib.Dec.{ltb, leb}
+use Rattle.page.specs.Choice.{pick}
+use Rattle.page.specs.Lengths.{openedOf}
+use Rattle.page.specs.Kinds.{kindAt}
+use Rattle.page.specs.declared.layout.Layout.{Layout}
+use Rattle.page.specs.declared.refusal.Refusal.{Refusal}
+use Rattle.page.specs.declared.refusal.Refusal.the-variants.{ShortIndex, BadPage, AlreadyAdded}
+use Rattle.chunk.specs.Answers.{onPages, readBy, bufferBy, partBy}
+use Rattle.chunk.specs.Lookups.{sizedOf, lookedOf}
+use Rattle.chunk.specs.declared.answer.Sized.{Sized}
+use Rattle.chunk.specs.declared.answer.Sized.the-variants as sized
+use Rattle.chunk.specs.declared.answer.Looked.{Looked}
+use Rattle.chunk.specs.declared.answer.Looked.the-variants as looked
+use Rattle.index.specs.Cells.{cellsFor}
+use Rattle.index.specs.Additions.{startOf, addOf}
+use Rattle.index.specs.Held.{noneAdded, with}
+use Rattle.index.specs.Walks.{seenSays, sizeFrom, chunkFrom}
+use Rattle.index.specs.declared.additions.Added.{Added}
+use Rattle.index.specs.declared.additions.Added.the-variants.{Done, Refused}
+
+-- a request: its K, how many words it is lent, and what it asks
+pub data Request : Type 0 where
+  start : ℕ → ℕ → Request
+  add : ℕ → ℕ → ℕ → Request
+  size : ℕ → ℕ → ℕ → Request
+  chunk : ℕ → ℕ → ℕ → ℕ → Request
+  read : ℕ → ℕ → ℕ → ℕ → List ℕ → Request
+  part : ℕ → ℕ → ℕ → ℕ → Request
+
+-- an answer; a read's has the buffer afterwards, a borrowed part's its bytes
+pub data Answer : Type 0 where
+  addition : Added → Answer
+  aSize : Sized → Answer
+  aChunk : Looked → Answer
+  aRead : Looked → List ℕ → Answer
+  aPart : List ℕ → Answer
+
+module _ (l : Layout) (dump : List ℕ) where
+  -- what a read and a borrowed part give of a chunk lookup
+  abbrev pub readAnswer : List ℕ → Looked → Answer
+  readAnswer buffer a = aRead (readBy (length buffer) a) (bufferBy l dump buffer (readBy (length buffer) a))
+
+  abbrev pub partAnswer : Looked → Answer
+  partAnswer a = aPart (partBy l dump a)
+
+  -- OUR CALLS, by the definitions that their contracts equal, on a memory of words of which each is lent the first so many
+
+  unfoldable pub answerOn : List ℕ → Request → Answer
+  answerOn c (start k w) = addition (startOf l k dump (take w c) .answer)
+  answerOn c (add k w p) = addition (addOf l k dump (take w c) p .answer)
+  answerOn c (size k w o) = aSize (sizeFrom l k dump (take w c) o)
+  answerOn c (chunk k w o n) = aChunk (chunkFrom l k dump (take w c) o n)
+  answerOn c (read k w o n buffer) = readAnswer buffer (chunkFrom l k dump (take w c) o n)
+  answerOn c (part k w o n) = partAnswer (chunkFrom l k dump (take w c) o n)
+
+  unfoldable pub wordsAfter : List ℕ → Request → List ℕ
+  wordsAfter c (start k w) = startOf l k dump (take w c) .cells ++ drop w c
+  wordsAfter c (add k w p) = addOf l k dump (take w c) p .cells ++ drop w c
+  wordsAfter c (size k w o) = c
+  wordsAfter c (chunk k w o n) = c
+  wordsAfter c (read k w o n buffer) = c
+  wordsAfter c (part k w o n) = c
+
+  -- the answers to a list of requests, and the words after it
+  unfoldable pub answersOn : List ℕ → List Request → List Answer
+  answersOn c [] = []
+  answersOn c (r ∷ rs) = answerOn c r ∷ answersOn (wordsAfter c r) rs
+
+  unfoldable pub wordsOf : List ℕ → List Request → List ℕ
+  wordsOf c [] = c
+  wordsOf c (r ∷ rs) = wordsOf (wordsAfter c r) rs
+
+  -- THE PAPER, with no word of the index: which pages have been added, and what demand 2 answers on the dump with the others read as blank
+
+  module _ (room : ℕ) where
+    -- a dump of a named layout that is refused, an index slice that is too short, and then the rest, by the number of pages
+    abbrev pub unlessRefused : {A : Type 0} → (Refusal → A) → (ℕ → A) → ℕ → ℕ → A
+    unlessRefused refuse answer k w =
+        onPages refuse (λ n. pick (ltb (min w room) (cellsFor n)) (refuse ShortIndex) (answer n)) (openedOf l k (length dump))
+
+    -- an addition of page p of n: BadPage, AlreadyAdded where it has been added, else done
+    abbrev pub addedBy : (ℕ → Bool) → ℕ → ℕ → Added
+    addedBy done p n = pick (leb n p) (Refused BadPage) (pick (done p) (Refused AlreadyAdded) Done)
+
+    -- demand 2's lookups, pages not yet added read as blank
+    abbrev pub sizeSeen : (ℕ → Bool) → ℕ → ℕ → Sized
+    sizeSeen done o n = sizedOf (seenSays (kindAt l dump) done) o n (l .«data»)
+
+    abbrev pub chunkSeen : (ℕ → Bool) → ℕ → ℕ → ℕ → Looked
+    chunkSeen done o c n = lookedOf (seenSays (kindAt l dump) done) o n (l .«data») c
+
+    abbrev pub lookedBy : (ℕ → Bool) → ℕ → ℕ → ℕ → ℕ → Looked
+    lookedBy done k w o c = unlessRefused (λ r. looked.Refused r 0 0) (chunkSeen done o c) k w
+
+    unfoldable pub answerBy : (ℕ → Bool) → Request → Answer
+    answerBy done (start k w) = addition (unlessRefused Refused (λ n. Done) k w)
+    answerBy done (add k w p) = addition (unlessRefused Refused (addedBy done p) k w)
+    answerBy done (size k w o) = aSize (unlessRefused (λ r. sized.Refused r 0) (sizeSeen done o) k w)
+    answerBy done (chunk k w o c) = aChunk (lookedBy done k w o c)
+    answerBy done (read k w o c buffer) = readAnswer buffer (lookedBy done k w o c)
+    answerBy done (part k w o c) = partAnswer (lookedBy done k w o c)
+
+    -- the pages added: an accepted start forgets all; an addition to which no refusal ordered before IndexDamaged applies adds its page
+    unfoldable pub addedAfter : (ℕ → Bool) → Request → ℕ → Bool
+    addedAfter done (start k w) = unlessRefused (λ r. done) (λ n. noneAdded) k w
+    addedAfter done (add k w p) = unlessRefused (λ r. done) (λ n. pick (leb n p) done (with p done)) k w
+    addedAfter done (size k w o) = done
+    addedAfter done (chunk k w o c) = done
+    addedAfter done (read k w o c buffer) = done
+    addedAfter done (part k w o c) = done
+
+    unfoldable pub answersBy : (ℕ → Bool) → List Request → List Answer
+    answersBy done [] = []
+    answersBy done (r ∷ rs) = answerBy done r ∷ answersBy (addedAfter done r) rs
+
+    unfoldable pub addedOf : (ℕ → Bool) → List Request → ℕ → Bool
+    addedOf done [] = done
+    addedOf done (r ∷ rs) = addedOf (addedAfter done r) rs

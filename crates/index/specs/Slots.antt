@@ -1,0 +1,39 @@
+-- The table of objects: n slots, searched by open addressing. An object's slot has its id as key and the link to its newest record.
+use Prim.Native.Nat.{ℕ, zero, suc, _+_, _%_}
+use mathlib.Core.Bool.{Bool, not, _||_}
+use mathlib.Core.List.{List}
+use lib.Dec.{eqb}
+use Rattle.page.specs.Choice.{pick}
+use Rattle.index.specs.Cells.{word, keys, firstAt}
+use Rattle.index.specs.declared.slots.Found.{Found}
+use Rattle.index.specs.declared.slots.Found.the-variants.{Slot, Nothing}
+
+-- whether a slot with key k may be the slot of object o: it is free, or the object's
+abbrev pub serves : ℕ → ℕ → Bool
+serves o k = eqb k 0 || eqb k o
+
+-- the first slot that serves object o, from slot m - 1 down to slot 0
+unfoldable pub down : (ℕ → ℕ) → ℕ → ℕ → Found
+down key o zero = Nothing
+down key o (suc s) = pick (serves o (key s)) (Slot s) (down key o s)
+
+-- the slot that was found, or else another
+abbrev pub foundOr : Found → ℕ → ℕ
+foundOr Nothing s = s
+foundOr (Slot j) s = j
+
+-- the slot of object o among n: from its home down, then from the last one down, the first that serves; its home where none does
+unfoldable pub slot : ℕ → (ℕ → ℕ) → ℕ → ℕ
+slot n key o = foundOr (down key o (o % n + 1)) (foundOr (down key o n) (o % n))
+
+-- the link to the first record of object o if slot s is the object's, else one that leads nowhere
+unfoldable pub firstIn : List ℕ → ℕ → ℕ → ℕ
+firstIn c s o = pick (eqb (keys c s) o) (word c (firstAt s)) 0
+
+-- the link to the first record of object o
+unfoldable pub first : ℕ → List ℕ → ℕ → ℕ
+first n c o = firstIn c (slot n (keys c) o) o
+
+-- whether a slot is used
+abbrev pub used : (ℕ → ℕ) → ℕ → Bool
+used key s = not (eqb (key s) 0)

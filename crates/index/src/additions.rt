@@ -1,0 +1,148 @@
+// Starting an index, and adding pages to it.
+ghost use mathlib.Core.Path.{_≡_};
+ghost use mathlib.Core.List.{_++_};
+ghost use Prim.Native.Nat.{_+_, _≤_, _<_, _^_};
+ghost use lib.ListN.{length, replicate, drop};
+ghost use Rattle.page.specs.Kinds.{kindAt};
+ghost use Rattle.page.specs.declared.layout.Opened.the-variants as opened;
+ghost use Rattle.chunk.specs.Records.{ageOf};
+ghost use Rattle.index.specs.Cells.{cellsFor, linkAt};
+ghost use Rattle.index.specs.Chains.{objects};
+ghost use Rattle.index.specs.Places.{Recorded};
+ghost use Rattle.index.specs.Additions.{outcome, startIn, startOf, addOther, addAt, addRecord, addTo, addOf};
+use crate::cells::LAST;
+use crate::cells::cells_for;
+use crate::cells::link_at;
+use crate::entry::Entry;
+use crate::entry::entry_at;
+use crate::places::Place;
+use crate::places::is_marked;
+use crate::places::place_of;
+use crate::places::put_link;
+use crate::slots::claim;
+use crate::slots::slot_of;
+use page::layout::Layout;
+use page::layout::Opened;
+use page::number::ObjectId;
+use page::number::PageNumber;
+use page::refusal::Refusal;
+
+// What a start or an addition answers.
+pub enum Added {
+    Done,
+    Refused(Refusal),
+}
+
+// Makes the first words 0.
+fn clear(cells: &mut [u32], end: usize)
+    requires { ⌜ end ≤ length (now cells) ⌝ }
+    ensures { λ _. ⌜ now (cells .exit) ≡ replicate end 0 ++ drop end (now (cells .entry)) ⌝ }
+{
+    let mut i: usize = 0;
+    while i < end {
+        cells[i] = 0;
+        i += 1;
+    }
+}
+
+// Starts an index of so many pages.
+fn start_pages(cells: &mut [u32], pages: u32) -> Added
+    ensures { λ r. ⌜ outcome r (now (cells .exit)) ≡ startIn (opened.Pages pages) (now (cells .entry)) ⌝ }
+{
+    let end = cells_for(pages);
+    if cells.len() < end {
+        return Added::Refused(Refusal::ShortIndex);
+    }
+    clear(cells, end);
+    Added::Done
+}
+
+// Makes the index of a dump of a named layout in blocks of k empty, whatever its words held.
+pub fn start(dump: &[u8], l: Layout, k: u32, cells: &mut [u32]) -> Added
+    ensures { λ r. ⌜ outcome r (now (cells .exit)) ≡ startOf l k (now (dump .entry)) (now (cells .entry)) ⌝ }
+{
+    let o = l.opened(dump.len(), k);
+    match o {
+        Opened::Refused(r) => Added::Refused(r),
+        Opened::Pages(pages) => start_pages(cells, pages),
+    }
+}
+
+// Puts page p of object o in at a place, where s is the object's slot or is to become it.
+fn add_at(cells: &mut [u32], o: ObjectId, p: PageNumber, s: u32, at: usize) -> Added
+    requires { ⌜ p .0 < 2 ^ 31 ⌝ }
+    requires { ⌜ linkAt (p .0) < length (now cells) ⌝ }
+    requires { ⌜ cellsFor (s + 1) ≤ length (now cells) ⌝ }
+    requires { ⌜ at < length (now cells) ⌝ }
+    ensures { λ r. ⌜ outcome r (now (cells .exit)) ≡ addAt (now (cells .entry)) (p .0) (o .0) s (Place.At at) ⌝ }
+{
+    if is_marked(cells, p) {
+        return Added::Refused(Refusal::AlreadyAdded);
+    }
+    claim(cells, o, s);
+    put_link(cells, p, at);
+    Added::Done
+}
+
+// Adds page p, a record of object o and of this age.
+fn add_record(
+    dump: &[u8],
+    l: Layout,
+    pages: u32,
+    cells: &mut [u32],
+    o: ObjectId,
+    p: PageNumber,
+    age: u64,
+) -> Added
+    requires { ⌜ Recorded (kindAt l (now dump)) pages (now cells) (o .0) (p .0) age ⌝ }
+    ensures { λ r. ⌜ outcome r (now (cells .exit)) ≡ addRecord pages (objects (kindAt l (now (dump .entry)))) (ageOf (kindAt l (now (dump .entry)))) (now (cells .entry)) (p .0) ⌝ }
+{
+    let s = slot_of(cells, o, pages);
+    let place = place_of(dump, l, pages, cells, o, p, age, s);
+    match place {
+        Place::Refused(r) => Added::Refused(r),
+        Place::At(at) => add_at(cells, o, p, s, at),
+    }
+}
+
+// Marks page p, which is no record.
+fn add_other(cells: &mut [u32], p: PageNumber) -> Added
+    requires { ⌜ linkAt (p .0) < length (now cells) ⌝ }
+    ensures { λ r. ⌜ outcome r (now (cells .exit)) ≡ addOther (now (cells .entry)) (p .0) ⌝ }
+{
+    if is_marked(cells, p) {
+        return Added::Refused(Refusal::AlreadyAdded);
+    }
+    let i = link_at(p);
+    cells[i] = LAST;
+    Added::Done
+}
+
+// Adds page p to the index of a dump of so many pages. A page that is no record is passed over: it is marked, and chained nowhere.
+fn add_page(dump: &[u8], l: Layout, pages: u32, cells: &mut [u32], p: PageNumber) -> Added
+    requires { ⌜ pages ≤ 2 ^ 31 ⌝ }
+    ensures { λ r. ⌜ outcome r (now (cells .exit)) ≡ addTo pages (objects (kindAt l (now (dump .entry)))) (ageOf (kindAt l (now (dump .entry)))) (now (cells .entry)) (p .0) ⌝ }
+{
+    if cells.len() < cells_for(pages) {
+        return Added::Refused(Refusal::ShortIndex);
+    }
+    if pages <= p.0 {
+        return Added::Refused(Refusal::BadPage);
+    }
+    let e = entry_at(dump, l, p);
+    let Entry::Record(o, age) = e else {
+        return add_other(cells, p);
+    };
+    add_record(dump, l, pages, cells, o, p, age)
+}
+
+// Adds page p of a dump of a named layout in blocks of k to its index.
+pub fn add(dump: &[u8], l: Layout, k: u32, cells: &mut [u32], p: PageNumber) -> Added
+    ensures { λ r. ⌜ outcome r (now (cells .exit)) ≡ addOf l k (now (dump .entry)) (now (cells .entry)) (p .0) ⌝ }
+{
+    let o = l.opened(dump.len(), k);
+    match o {
+        Opened::Refused(r) => Added::Refused(r),
+        Opened::Pages(pages) => add_page(dump, l, pages, cells, p),
+    }
+}

@@ -1,0 +1,52 @@
+// Where the words of the index stand: those of the whole index, then four for each page and slot.
+// The link of a page is 0 where the page has not been added, 1 where its object has no older record, and q + 2 where that is page q.
+ghost use mathlib.Core.Path.{_≡_};
+ghost use Rattle.index.specs.Cells.{cellsFor, linkAt, keyAt, firstAt, marked};
+use page::number::PageNumber;
+
+// The words for the whole index.
+const SHARED: usize = 16;
+// The words of a page.
+const PER_PAGE: usize = 4;
+// The link that leads nowhere, of a page that has been added.
+pub(crate) const LAST: u32 = 1;
+// Links below this lead nowhere; from it on they lead to page 0, page 1 and so on.
+pub(crate) const LINKS: u32 = 2;
+
+// How many words an index of so many pages has.
+pub(crate) fn cells_for(pages: u32) -> usize
+    ensures { λ r. ⌜ r ≡ cellsFor pages ⌝ }
+{
+    SHARED + PER_PAGE * (pages as usize)
+}
+
+// Where the link of page p stands.
+pub(crate) fn link_at(p: PageNumber) -> usize
+    ensures { λ r. ⌜ r ≡ linkAt (p .0) ⌝ }
+{
+    SHARED + PER_PAGE * (p.0 as usize)
+}
+
+// Where the key of slot s stands: 0 where the slot is free, else an object's id.
+pub(crate) fn key_at(s: u32) -> usize
+    ensures { λ r. ⌜ r ≡ keyAt s ⌝ }
+{
+    SHARED + PER_PAGE * (s as usize) + 1
+}
+
+// Where the link to the newest record of slot s's object stands.
+pub(crate) fn first_at(s: u32) -> usize
+    ensures { λ r. ⌜ r ≡ firstAt s ⌝ }
+{
+    SHARED + PER_PAGE * (s as usize) + 2
+}
+
+// The link of an added page that leads where a link does.
+pub(crate) fn marked_link(link: u32) -> u32
+    ensures { λ r. ⌜ r ≡ marked link ⌝ }
+{
+    if link < LINKS {
+        return LAST;
+    }
+    link
+}

@@ -1,0 +1,9 @@
+// The index: lent words that hold, for each object, its added records from the newest to the oldest.
+pub mod additions;
+mod cells;
+pub mod chains;
+pub mod entry;
+pub mod lookups;
+pub mod places;
+pub mod slots;
+pub mod walks;

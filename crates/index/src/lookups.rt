@@ -1,0 +1,221 @@
+// Lookups of objects by the index, on any cells: down the object's chain, and no further than the answer needs.
+ghost use mathlib.Core.Path.{_≡_};
+ghost use Prim.Native.Nat.{_+_, _≤_, _<_};
+ghost use lib.ListN.{length};
+ghost use Rattle.page.specs.Kinds.{kindAt};
+ghost use Rattle.index.specs.Cells.{cellsFor};
+ghost use Rattle.index.specs.Slots.{first};
+ghost use Rattle.index.specs.Chains.{top};
+ghost use Rattle.index.specs.Walks.{recordsIn, sizeReached, copyFrom, chunkReached, chunkWalk, under, below, sizeIn, chunkIn, sizeFrom, chunkFrom};
+use crate::cells::cells_for;
+use crate::slots::first_of;
+use crate::slots::slot_of;
+use crate::walks::Met;
+use crate::walks::Reached;
+use crate::walks::reach_header;
+use crate::walks::seek_below;
+use chunk::answer::File;
+use chunk::answer::Looked;
+use chunk::answer::Sized;
+use chunk::lookup::file_at;
+use chunk::lookup::shown_of;
+use chunk::lookup::valid_of;
+use chunk::record::base_of;
+use chunk::record::count_of;
+use chunk::record::file_size;
+use chunk::record::larger;
+use chunk::scan::NOWHERE;
+use page::kind::kind_at;
+use page::layout::Layout;
+use page::layout::Opened;
+use page::number::ChunkNumber;
+use page::number::ObjectId;
+use page::number::PageNumber;
+use page::refusal::Refusal;
+
+// The link to the first record of object o.
+fn first_link(cells: &[u32], o: ObjectId, pages: u32) -> u32
+    requires { ⌜ 0 < pages ⌝ }
+    requires { ⌜ cellsFor pages ≤ length (now cells) ⌝ }
+    ensures { λ r. ⌜ r ≡ first pages (now (cells .entry)) (o .0) ⌝ }
+{
+    first_of(cells, o, slot_of(cells, o, pages))
+}
+
+// The size by what a walk reached.
+fn size_reached(dump: &[u8], l: Layout, r: Reached) -> Sized
+    ensures { λ s. ⌜ s ≡ sizeReached (kindAt l (now (dump .entry))) r ⌝ }
+{
+    match r {
+        Reached::Refused(no, visits) => Sized::Refused(no, visits),
+        Reached::Header(h, end, _, visits) => {
+            let k = kind_at(dump, l, h);
+            let f = file_at(k, h, visits);
+            match f {
+                File::Refused(no, v) => Sized::Refused(no, v),
+                File::Header(_, v) => Sized::Size(larger(file_size(k) as u64, end), v),
+            }
+        }
+    }
+}
+
+// The size of object o of a dump of so many pages.
+fn size_in(dump: &[u8], l: Layout, pages: u32, cells: &[u32], o: ObjectId) -> Sized
+    requires { ⌜ 0 < pages ⌝ }
+    ensures { λ r. ⌜ r ≡ sizeIn (kindAt l (now (dump .entry))) (l .«data») (now (cells .entry)) (o .0) pages ⌝ }
+{
+    if cells.len() < cells_for(pages) {
+        return Sized::Refused(Refusal::ShortIndex, 0);
+    }
+    if o.is_bad() {
+        return Sized::Refused(Refusal::BadObject, 0);
+    }
+    let first = first_link(cells, o, pages);
+    size_reached(
+        dump,
+        l,
+        reach_header(dump, l, pages, cells, o, ChunkNumber(0), first),
+    )
+}
+
+// The size of object o of a dump of a named layout in blocks of k, by its index.
+pub fn size(dump: &[u8], l: Layout, k: u32, cells: &[u32], o: ObjectId) -> Sized
+    ensures { λ r. ⌜ r ≡ sizeFrom l k (now (dump .entry)) (now (cells .entry)) (o .0) ⌝ }
+{
+    let p = l.opened(dump.len(), k);
+    match p {
+        Opened::Refused(r) => Sized::Refused(r, 0),
+        Opened::Pages(pages) => size_in(dump, l, pages, cells, o),
+    }
+}
+
+// The copy of chunk c that was met above the newest header h of object o, or else the copy below it.
+fn copy_from(
+    dump: &[u8],
+    l: Layout,
+    pages: u32,
+    cells: &[u32],
+    o: ObjectId,
+    c: ChunkNumber,
+    h: PageNumber,
+    shown: u32,
+    visits: u32,
+    met: Met,
+) -> Looked
+    requires { ⌜ 0 < o .0 ⌝ }
+    requires { ⌜ cellsFor pages ≤ length (now cells) ⌝ }
+    requires { ⌜ h .0 < pages ⌝ }
+    requires { ⌜ visits + recordsIn (below (kindAt l (now dump)) pages (now cells) (o .0) (h .0)) ≤ pages ⌝ }
+    ensures { λ r. ⌜ r ≡ copyFrom (kindAt l (now (dump .entry))) (l .«data») (c .0) (h .0) shown visits (below (kindAt l (now (dump .entry))) pages (now (cells .entry)) (o .0) (h .0)) met ⌝ }
+{
+    match met {
+        Met::Nothing => seek_below(dump, l, pages, cells, o, c, h, shown, visits),
+        Met::Copy(q) => {
+            let count = count_of(kind_at(dump, l, q));
+            let valid = valid_of(count, shown, NOWHERE, base_of(l.data, c));
+            Looked::Copy(q, valid, shown, visits)
+        }
+    }
+}
+
+// Chunk c of object o, whose newest header is page h, with the largest end of data and the first copy above it.
+fn chunk_file(
+    dump: &[u8],
+    l: Layout,
+    pages: u32,
+    cells: &[u32],
+    o: ObjectId,
+    c: ChunkNumber,
+    h: PageNumber,
+    end: u64,
+    met: Met,
+    visits: u32,
+) -> Looked
+    requires { ⌜ 0 < o .0 ⌝ }
+    requires { ⌜ cellsFor pages ≤ length (now cells) ⌝ }
+    requires { ⌜ h .0 < pages ⌝ }
+    requires { ⌜ visits + recordsIn (below (kindAt l (now dump)) pages (now cells) (o .0) (h .0)) ≤ pages ⌝ }
+    ensures { λ r. ⌜ r ≡ chunkReached (kindAt l (now (dump .entry))) (l .«data») (c .0) (below (kindAt l (now (dump .entry))) pages (now (cells .entry)) (o .0) (h .0)) (Reached.Header h end met visits) ⌝ }
+{
+    let k = kind_at(dump, l, h);
+    let f = file_at(k, h, visits);
+    match f {
+        File::Refused(no, v) => Looked::Refused(no, v, 0),
+        File::Header(_, _) => {
+            let size = larger(file_size(k) as u64, end);
+            let base = base_of(l.data, c);
+            if size <= base {
+                return Looked::Refused(Refusal::PastEnd, visits, 0);
+            }
+            let shown = shown_of(l.data, size, base);
+            copy_from(dump, l, pages, cells, o, c, h, shown, visits, met)
+        }
+    }
+}
+
+// Chunk c of object o by its chain from a link.
+fn chunk_walk(
+    dump: &[u8],
+    l: Layout,
+    pages: u32,
+    cells: &[u32],
+    o: ObjectId,
+    c: ChunkNumber,
+    first: u32,
+) -> Looked
+    requires { ⌜ 0 < o .0 ⌝ }
+    requires { ⌜ cellsFor pages ≤ length (now cells) ⌝ }
+    ensures { λ r. ⌜ r ≡ chunkWalk (kindAt l (now (dump .entry))) (l .«data») (c .0) (under (kindAt l (now (dump .entry))) pages (now (cells .entry)) (o .0) top first) ⌝ }
+{
+    let r = reach_header(dump, l, pages, cells, o, c, first);
+    match r {
+        Reached::Refused(no, visits) => Looked::Refused(no, visits, 0),
+        Reached::Header(h, end, met, visits) => chunk_file(
+            dump,
+            l,
+            pages,
+            cells,
+            o,
+            c,
+            h,
+            end,
+            met,
+            visits,
+        ),
+    }
+}
+
+// Chunk c of object o of a dump of so many pages.
+fn chunk_in(
+    dump: &[u8],
+    l: Layout,
+    pages: u32,
+    cells: &[u32],
+    o: ObjectId,
+    c: ChunkNumber,
+) -> Looked
+    requires { ⌜ 0 < pages ⌝ }
+    ensures { λ r. ⌜ r ≡ chunkIn (kindAt l (now (dump .entry))) (l .«data») (now (cells .entry)) (o .0) pages (c .0) ⌝ }
+{
+    if cells.len() < cells_for(pages) {
+        return Looked::Refused(Refusal::ShortIndex, 0, 0);
+    }
+    if o.is_bad() {
+        return Looked::Refused(Refusal::BadObject, 0, 0);
+    }
+    if c.is_bad() {
+        return Looked::Refused(Refusal::BadChunk, 0, 0);
+    }
+    chunk_walk(dump, l, pages, cells, o, c, first_link(cells, o, pages))
+}
+
+// Chunk c of object o of a dump of a named layout in blocks of k, by its index.
+pub fn chunk(dump: &[u8], l: Layout, k: u32, cells: &[u32], o: ObjectId, c: ChunkNumber) -> Looked
+    ensures { λ r. ⌜ r ≡ chunkFrom l k (now (dump .entry)) (now (cells .entry)) (o .0) (c .0) ⌝ }
+{
+    let p = l.opened(dump.len(), k);
+    match p {
+        Opened::Refused(r) => Looked::Refused(r, 0, 0),
+        Opened::Pages(pages) => chunk_in(dump, l, pages, cells, o, c),
+    }
+}
