@@ -1,8 +1,9 @@
 /* Lohenarr: reads raw NAND dumps under YAFFS2. The calls of the proved
  * library libcapi.a, which `rt staticlib capi` builds.
  *
- * A dump is lent as a pointer and a length, and is only read. Every call takes
- * any bytes and any numbers, ends, and keeps nothing. A layout is given by its
+ * A dump is lent as a pointer and a length, and is only read; a buffer is lent
+ * to be written. Every call takes any bytes and any numbers, ends, and keeps
+ * nothing; one that is refused writes nothing. A layout is given by its
  * number in the table, 0 to 12; any other number is refused as BadLayout. k is
  * the number of pages in a block.
  *
@@ -90,6 +91,32 @@ typedef struct {
     size_t length;
 } lohenarr_part_answer;
 
+/* The size of a file, and the records visited. */
+typedef struct {
+    uint32_t refusal;
+    uint32_t visits;
+    uint64_t size;
+} lohenarr_size_answer;
+
+/* A chunk of a file: 1 in copy and the page that holds it, or a hole; the valid
+ * and the shown length, and the records visited. Beside ShortBuffer, need is
+ * the length needed. The visits count beside a refusal too. */
+typedef struct {
+    uint32_t refusal;
+    uint32_t visits;
+    uint32_t need;
+    uint32_t copy;
+    uint32_t page;
+    uint32_t valid;
+    uint32_t shown;
+} lohenarr_chunk_answer;
+
+/* A part of the dump; empty for a hole or a refusal. */
+typedef struct {
+    size_t offset;
+    size_t length;
+} lohenarr_place_answer;
+
 /* The most bytes that a dump has. */
 size_t lohenarr_most_bytes(void);
 
@@ -122,6 +149,18 @@ lohenarr_part_answer lohenarr_header_alias(const uint8_t *dump, size_t len, uint
 
 /* The reserved bytes of a header, 8 bytes. */
 lohenarr_part_answer lohenarr_header_reserved(const uint8_t *dump, size_t len, uint32_t layout, uint32_t k, uint32_t page);
+
+/* The size of an object, from the dump alone. */
+lohenarr_size_answer lohenarr_dump_size(const uint8_t *dump, size_t len, uint32_t layout, uint32_t k, uint32_t object);
+
+/* Chunk n of an object, numbered from 1, from the dump alone. */
+lohenarr_chunk_answer lohenarr_dump_chunk(const uint8_t *dump, size_t len, uint32_t layout, uint32_t k, uint32_t object, uint32_t n);
+
+/* Chunk n of an object, read into a buffer: the valid bytes, then zeros up to the shown length. */
+lohenarr_chunk_answer lohenarr_dump_read(const uint8_t *dump, size_t len, uint32_t layout, uint32_t k, uint32_t object, uint32_t n, uint8_t *buffer, size_t buffer_len);
+
+/* The valid bytes of chunk n of an object, as a part of the dump. */
+lohenarr_place_answer lohenarr_dump_part(const uint8_t *dump, size_t len, uint32_t layout, uint32_t k, uint32_t object, uint32_t n);
 
 #ifdef __cplusplus
 }

@@ -31,7 +31,9 @@ macro_rules! answers {
     };
 }
 
-answers! { LayoutAnswer PagesAnswer CountsAnswer KindAnswer HeaderAnswer PartAnswer }
+answers! {
+    LayoutAnswer PagesAnswer CountsAnswer KindAnswer HeaderAnswer PartAnswer SizeAnswer ChunkAnswer
+}
 
 /// A layout with its number in the table; beside a refusal the number is 13.
 #[repr(C)]
@@ -135,6 +137,51 @@ impl PartAnswer {
     }
 }
 
+/// The size of a file, and the records visited.
+#[repr(C)]
+#[derive(Clone, Copy, Debug, PartialEq, Eq)]
+pub struct SizeAnswer {
+    pub refusal: u32,
+    pub visits: u32,
+    pub size: u64,
+}
+
+/// A chunk of a file: a copy on a page where `copy` is 1, or a hole. Beside
+/// ShortBuffer `need` is the length needed.
+#[repr(C)]
+#[derive(Clone, Copy, Debug, PartialEq, Eq)]
+pub struct ChunkAnswer {
+    pub refusal: u32,
+    pub visits: u32,
+    pub need: u32,
+    pub copy: u32,
+    pub page: u32,
+    pub valid: u32,
+    pub shown: u32,
+}
+
+impl ChunkAnswer {
+    /// The page that holds the copy, unless it is a hole.
+    pub fn page(&self) -> Option<u32> {
+        (self.copy == 1).then_some(self.page)
+    }
+}
+
+/// A part of the dump; empty for a hole or a refusal.
+#[repr(C)]
+#[derive(Clone, Copy, Debug, PartialEq, Eq)]
+pub struct PlaceAnswer {
+    pub offset: usize,
+    pub length: usize,
+}
+
+impl PlaceAnswer {
+    /// The bytes of the part, in the dump that the call was given.
+    pub fn of(self, dump: &[u8]) -> &[u8] {
+        &dump[self.offset..self.offset + self.length]
+    }
+}
+
 #[rustfmt::skip]
 extern "C" {
     fn lohenarr_most_bytes() -> usize;
@@ -148,6 +195,10 @@ extern "C" {
     fn lohenarr_header_name(dump: *const u8, len: usize, layout: u32, k: u32, page: u32) -> PartAnswer;
     fn lohenarr_header_alias(dump: *const u8, len: usize, layout: u32, k: u32, page: u32) -> PartAnswer;
     fn lohenarr_header_reserved(dump: *const u8, len: usize, layout: u32, k: u32, page: u32) -> PartAnswer;
+    fn lohenarr_dump_size(dump: *const u8, len: usize, layout: u32, k: u32, object: u32) -> SizeAnswer;
+    fn lohenarr_dump_chunk(dump: *const u8, len: usize, layout: u32, k: u32, object: u32, n: u32) -> ChunkAnswer;
+    fn lohenarr_dump_read(dump: *const u8, len: usize, layout: u32, k: u32, object: u32, n: u32, buffer: *mut u8, buffer_len: usize) -> ChunkAnswer;
+    fn lohenarr_dump_part(dump: *const u8, len: usize, layout: u32, k: u32, object: u32, n: u32) -> PlaceAnswer;
 }
 
 /// The most bytes that a dump has.
@@ -203,4 +254,32 @@ pub fn header_alias(dump: &[u8], layout: u32, k: u32, page: u32) -> PartAnswer {
 /// The reserved bytes of a header, as a part of the dump.
 pub fn header_reserved(dump: &[u8], layout: u32, k: u32, page: u32) -> PartAnswer {
     unsafe { lohenarr_header_reserved(dump.as_ptr(), dump.len(), layout, k, page) }
+}
+
+/// The size of an object, from the dump alone.
+pub fn dump_size(dump: &[u8], layout: u32, k: u32, object: u32) -> SizeAnswer {
+    unsafe { lohenarr_dump_size(dump.as_ptr(), dump.len(), layout, k, object) }
+}
+
+/// A chunk of an object, from the dump alone.
+pub fn dump_chunk(dump: &[u8], layout: u32, k: u32, object: u32, n: u32) -> ChunkAnswer {
+    unsafe { lohenarr_dump_chunk(dump.as_ptr(), dump.len(), layout, k, object, n) }
+}
+
+/// A chunk of an object read into a buffer, from the dump alone.
+pub fn dump_read(
+    dump: &[u8],
+    layout: u32,
+    k: u32,
+    object: u32,
+    n: u32,
+    buffer: &mut [u8],
+) -> ChunkAnswer {
+    let (to, room) = (buffer.as_mut_ptr(), buffer.len());
+    unsafe { lohenarr_dump_read(dump.as_ptr(), dump.len(), layout, k, object, n, to, room) }
+}
+
+/// The valid bytes of a chunk, as a part of the dump, from the dump alone.
+pub fn dump_part(dump: &[u8], layout: u32, k: u32, object: u32, n: u32) -> PlaceAnswer {
+    unsafe { lohenarr_dump_part(dump.as_ptr(), dump.len(), layout, k, object, n) }
 }
