@@ -4,3 +4,5 @@ pub mod Laying
 pub mod Marked
 pub mod Meaning
 pub mod Holes
+pub mod Ascending
+pub mod Living

@@ -8,3 +8,4 @@ pub mod Scans
 pub mod Answers
 pub mod Live
 pub mod Shelf
+pub mod Lists

@@ -1,6 +1,6 @@
 -- The live objects and the objects of a dump (document 01, the refusal table's last sentence and the report), over what each page says.
 use Prim.Native.Nat.{ℕ}
-use mathlib.Core.Bool.{Bool, true, false, not, _&&_}
+use mathlib.Core.Bool.{Bool, false, not, _&&_}
 use mathlib.Core.List.{List, [], _∷_}
 use mathlib.Core.Option.{Option, none, some}
 use lib.Dec.{eqb, ltb}
@@ -9,32 +9,44 @@ use Rattle.page.specs.Search.{count}
 use Rattle.page.specs.Counts.{isHeader}
 use Rattle.page.specs.declared.kind.Kind.{Kind}
 use Rattle.chunk.specs.Gather.{gather}
-use Rattle.chunk.specs.Records.{objectOf, isGone, isOf}
-use Rattle.chunk.specs.Newest.{newest, newestHeader}
+use Rattle.chunk.specs.Records.{objectOf, isGone}
+use Rattle.chunk.specs.Newest.{newestHeader, records}
+
+-- an id put into ascending ids
+unfoldable pub ascend : ℕ → List ℕ → List ℕ
+ascend o [] = o ∷ []
+ascend o (x ∷ xs) = let rest = ascend o xs in pick (ltb x o) (x ∷ rest) (o ∷ x ∷ xs)
+
+-- the ids of those of 0 to n - 1 that pass a test, ascending
+unfoldable pub idsOf : (ℕ → Bool) → (ℕ → ℕ) → ℕ → List ℕ
+idsOf test id n = gather (λ p ids. pick (test p) (ascend (id p) ids) ids) [] n
 
 -- whether a search found page p
 abbrev pub isAt : ℕ → Option ℕ → Bool
 isAt p none = false
 isAt p (some q) = eqb q p
 
-module _ (says : ℕ → Kind) (n : ℕ) where
-  -- whether page p is the newest header of its object, and its parent is neither 3 nor 4: one such page for each live object
-  abbrev pub livePage : ℕ → Bool
-  livePage p = isHeader (says p) && (not (isGone (says p)) && isAt p (newestHeader says (objectOf (says p)) n))
+module _ (says : ℕ → Kind) where
+  -- the object of page p
+  abbrev pub objectAt : ℕ → ℕ
+  objectAt p = objectOf (says p)
 
-  -- whether page p is the newest record of its object: one such page for each object
+  -- whether page p is the first record of its object by page number: one such page for each object
   abbrev pub objectPage : ℕ → Bool
-  objectPage p = not (eqb (objectOf (says p)) 0) && isAt p (newest says (isOf (objectOf (says p))) n)
+  objectPage p = not (eqb (objectAt p) 0) && eqb (records says (objectAt p) p) 0
 
-  -- how many distinct ids the records have
-  unfoldable pub objectCount : ℕ
-  objectCount = count objectPage n
+  module _ (n : ℕ) where
+    -- how many distinct ids the records have
+    unfoldable pub objectCount : ℕ
+    objectCount = count objectPage n
 
--- an id put into ascending ids
-unfoldable pub ascend : ℕ → List ℕ → List ℕ
-ascend o [] = o ∷ []
-ascend o (x ∷ xs) = let rest = ascend o xs in pick (ltb x o) (x ∷ rest) (pick (eqb x o) (x ∷ xs) (o ∷ x ∷ xs))
+    -- whether page p is the newest header of its object, and its parent is neither 3 nor 4: one such page for each live object
+    abbrev pub livePage : ℕ → Bool
+    livePage p = isHeader (says p) && (not (isGone (says p)) && isAt p (newestHeader says (objectAt p) n))
 
--- the live ids, ascending
-unfoldable pub liveIds : (ℕ → Kind) → ℕ → List ℕ
-liveIds says n = gather (λ p ids. pick (livePage says n p) (ascend (objectOf (says p)) ids) ids) [] n
+    -- the live ids, ascending, and how many they are
+    unfoldable pub liveIds : List ℕ
+    liveIds = idsOf livePage objectAt n
+
+    unfoldable pub liveCount : ℕ
+    liveCount = count livePage n

@@ -21,3 +21,15 @@ pub enum Looked {
     Hole(u32, u32),
     Refused(Refusal, u32, u32),
 }
+
+// How many ids of live objects were written; or a refusal, with the length that ShortBuffer needs.
+pub enum Listed {
+    Ids(u32),
+    Refused(Refusal, u32),
+}
+
+// A number of objects.
+pub enum Tallied {
+    Count(u32),
+    Refused(Refusal),
+}

@@ -1,15 +1,15 @@
 -- A walk down an object's added records answers what the rules of document 01 answer, where pages not added read as blank. The list of these
 -- records is parted at its newest header, and then at the first copy of the chunk, above that header or below it. In each case the walk comes
 -- out as stated in Walking, the rules as stated in Ruling, and both are the same.
-use Prim.Native.Nat.{ℕ, zero, suc, _+_, _-_, _≤_, _<_, max, min}
-use mathlib.Core.Bool.{Bool, true, false, _&&_}
-use mathlib.Core.List.{List, [], _∷_, _++_, append-assoc}
-use mathlib.Core.Option.{Option, none, some}
+use Prim.Native.Nat.{ℕ, _+_, _-_, _≤_, _<_, min}
+use mathlib.Core.Bool.{Bool, true, false}
+use mathlib.Core.List.{List, _∷_, _++_, append-assoc}
+use mathlib.Core.Option.{none}
 use mathlib.Core.Path.{_≡_, refl, sym, ap, _∙_}
 use native.Mathlib.Nat.{le-refl}
 use native.Mathlib.Omega.{arith}
 use lib.ListN.{length, length-append}
-use lib.Dec.{eqb, ltb, leb}
+use lib.Dec.{eqb}
 use borrow.Author.Tests.{lt-leb, ne-eqb, eq-eqb}
 use Rattle.page.specs.Choice.{pick}
 use Rattle.page.specs.Counts.{isHeader}
@@ -17,20 +17,17 @@ use Rattle.page.proofs.Searching.{by-test}
 use Rattle.page.specs.declared.kind.Kind.{Kind}
 use Rattle.page.specs.declared.kind.Kind.the-variants.{Blank, Foreign, Damaged, Header, Data}
 use Rattle.page.specs.declared.refusal.Refusal.the-variants.{NoObject, NoHeader}
-use Rattle.chunk.specs.Records.{ageOf, isOf, isGone, isFile, chunkOf, baseOf, fileSize}
-use Rattle.chunk.specs.Newest.{newestHeader, newestCopy, since, records}
-use Rattle.chunk.specs.Cuts.{nowhere, cutOf, lowestCut}
-use Rattle.chunk.specs.Sizes.{sizeOf, dataEnd}
+use Rattle.chunk.specs.Records.{ageOf, isGone, isFile, chunkOf, baseOf}
+use Rattle.chunk.specs.Newest.{newestCopy, since, records}
+use Rattle.chunk.specs.Cuts.{nowhere, lowestCut}
+use Rattle.chunk.specs.Sizes.{sizeOf}
 use Rattle.chunk.specs.Lookups.{fileAt, fileBy, fileOf, sizedBy, copyAt, copyBy, chunkBy, lookedBy}
-use Rattle.chunk.specs.declared.answer.File.{File}
 use Rattle.chunk.specs.declared.answer.File.the-variants as file
-use Rattle.chunk.specs.declared.answer.Sized.{Sized}
-use Rattle.chunk.specs.declared.answer.Looked.{Looked}
 use Rattle.index.specs.Chains.{objects, top}
 use Rattle.index.specs.Held.{seen, recs, fromList}
-use Rattle.index.specs.Walks.{seenSays, recordsIn, sizeVisits, chunkVisits, headless, behind, sizeFile, sizeAt, sizeReached, cutBy, metWith, reach, shownIn, found, seek, copyFrom, chunkFile, chunkReached, chunkWalk, sizeWalk}
+use Rattle.index.specs.Walks.{seenSays, recordsIn, sizeVisits, chunkVisits, sizeFile, sizeAt, sizeReached, cutBy, metWith, reach, shownIn, copyFrom, chunkFile, chunkReached, chunkWalk, sizeWalk}
 use Rattle.index.specs.declared.walks.Met.{Met}
-use Rattle.index.specs.declared.walks.Met.the-variants.{Copy, Nothing}
+use Rattle.index.specs.declared.walks.Met.the-variants.{Nothing}
 use Rattle.index.specs.declared.walks.Reached.the-variants as reached
 use Rattle.index.proofs.Records.{In, recs-of, recs-same}
 use Rattle.index.proofs.Through.{through, through-at, through-idle, through-same}
@@ -253,7 +250,7 @@ module _
         let own = recs-of (seen (objects says) added) (ageOf says) o n q i .1 in
         by-test (added q) _ (λ t. rw t) (λ t. let z : 0 ≡ o = rw t at own in absurd (omega arith))
 
-    added-listed : Listed says S o n top R
+    pub added-listed : Listed says S o n top R
     added-listed =
         let e : recs (objects S) (ageOf says) o n ≡ R = recs-same (objects S) (ageOf says) o (seen (objects says) added) n (λ x k. rw (seen-object x)) in
         rw e at

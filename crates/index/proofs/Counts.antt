@@ -19,6 +19,11 @@ module _ (test : ℕ → Bool) where
   count-all zero h = count-none test
   count-all (suc m) h = count-suc m ∙ rw (h m (le-refl _), count-all m (λ i k. h i (omega arith))) (omega arith)
 
+  -- none passes
+  pub count-nothing : (m : ℕ) → ((i : ℕ) → i < m → test i ≡ false) → count test m ≡ 0
+  count-nothing zero h = count-none test
+  count-nothing (suc m) h = count-suc m ∙ rw (h m (le-refl _)) (count-nothing m (λ i k. h i (omega arith)))
+
   -- one does not
   pub count-miss : (p m : ℕ) → p < m → test p ≡ false → count test m < m
   count-miss p zero h e = absurd (not-suc-le-zero h)

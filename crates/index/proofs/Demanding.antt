@@ -24,6 +24,7 @@ use Rattle.page.proofs.Searching.{by-test}
 use Rattle.page.proofs.Lengths.{opened-facts}
 use Rattle.page.proofs.Within.{object-within}
 use Rattle.chunk.specs.Lookups.{fileOf, sizedBy, sizedOf, lookedBy, lookedOf}
+use Rattle.chunk.specs.Lists.{wordsBy}
 use Rattle.chunk.specs.Records.{ageOf}
 use Rattle.chunk.specs.declared.answer.Sized.{Sized}
 use Rattle.chunk.specs.declared.answer.Sized.the-variants as sized
@@ -35,7 +36,8 @@ use Rattle.index.specs.Places.{placeOf}
 use Rattle.index.specs.Additions.{Outcome, outcome, refused, emptied, startIn, startOf, addOther, addAt, addRecord, addTo, addIn, addOf}
 use Rattle.index.specs.Held.{noneAdded, with, seen, recs, fromList, Held}
 use Rattle.index.specs.Walks.{seenSays, sizeWalk, chunkWalk, sizeIn, chunkIn, sizeFrom, chunkFrom}
-use Rattle.index.specs.Requests.{Request, start, add, size, chunk, read, part, Answer, addition, aSize, aChunk, readAnswer, partAnswer, answerOn, wordsAfter, answersOn, wordsOf, unlessRefused, sizeSeen, chunkSeen, answerBy, addedAfter, answersBy, addedOf}
+use Rattle.index.specs.Listing.{idsFrom, listFrom}
+use Rattle.index.specs.Requests.{Request, start, add, size, chunk, read, part, list, Answer, addition, aSize, aChunk, readAnswer, partAnswer, answerOn, wordsAfter, answersOn, wordsOf, unlessRefused, sizeSeen, chunkSeen, answerBy, addedAfter, answersBy, addedOf}
 use Rattle.index.specs.declared.additions.Added.{Added}
 use Rattle.index.specs.declared.additions.Added.the-variants.{Done, Refused}
 use Rattle.index.specs.declared.places.Place.{Place}
@@ -43,7 +45,8 @@ use Rattle.index.specs.declared.places.Place.the-variants as place
 use Rattle.index.proofs.Answers.{start-short, start-done, add-short, add-far}
 use Rattle.index.proofs.Keeping.{answerTo, add-keeps, start-holds}
 use Rattle.index.proofs.Lending.{held-lent}
-use Rattle.index.proofs.Ordering.{ages-below, ages-differ}
+use Rattle.index.proofs.Listing.{ids-same, list-short, list-held}
+use Rattle.index.proofs.Ordering.{pages-most, ages-below, ages-differ, header-object}
 
 -- a call changes words, not their number
 module _ (n : ℕ) (obj age : ℕ → ℕ) where
@@ -172,6 +175,25 @@ module _ (l : Layout) (dump : List ℕ) (k₀ n : ℕ) (accepted : openedOf l k�
         rw u
         (ap addition (q .0 ∙ answer-to (done p)), back w _ (with p done) (add-length n obj age (take w c) p) (q .1)))))))
 
+    list-same : (k w : ℕ) (buffer : List ℕ) → answerOn l dump c (list k w buffer) ≡ answerBy l dump m done (list k w buffer)
+    unfolding answerOn answerBy listFrom idsFrom wordsBy
+    list-same k w buffer =
+        by-block k _
+        (λ r e. rw e)
+        (λ e.
+        rw e
+        (by-test (ltb (min w m) (cellsFor n)) _
+        (λ t. rw (t, list-short says (l .«data») (take w c) n (length buffer) (rw (slice-length w) (ltb-true _ _ t))))
+        (λ t.
+        let few : n ≤ 4294967296 = omega (arith, pages-most l dump k₀ n accepted) in
+        let old = ages-below l dump k₀ n accepted in
+        let h = slice-held w (ltb-false _ _ t) in
+        rw (
+          t,
+          list-held says (l .«data») n few old (header-object l dump) done (take w c) h some (length buffer),
+          ids-same says (l .«data») n few old (header-object l dump) done (take w c) h some,
+        ))))
+
     -- what the walks down a chain answer on an object's added records, by the rules
     module _ (sizes : SizeRule l dump n) (chunks : ChunkRule l dump n) where
       size-same : (k w o : ℕ) → sizeFrom l k dump (take w c) o ≡ unlessRefused l dump m (λ r. sized.Refused r 0) (sizeSeen l dump m done o) k w
@@ -220,6 +242,7 @@ module _ (l : Layout) (dump : List ℕ) (k₀ n : ℕ) (accepted : openedOf l k�
       step (chunk k w o q) = (ap aChunk (chunk-same k w o q), (g, size-m))
       step (read k w o q buffer) = (ap (readAnswer l dump buffer) (chunk-same k w o q), (g, size-m))
       step (part k w o q) = (ap (partAnswer l dump) (chunk-same k w o q), (g, size-m))
+      step (list k w buffer) = (list-same k w buffer, (g, size-m))
 
   -- a list of requests
   module _ (m : ℕ) (some : 0 < n) (sizes : SizeRule l dump n) (chunks : ChunkRule l dump n) where

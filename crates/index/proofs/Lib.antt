@@ -17,6 +17,8 @@ pub mod Bridging
 pub mod Entries
 pub mod Placing
 pub mod Turning
+pub mod Listing
 pub mod Demanding
 pub mod Kept
 pub mod Demanded
+pub mod Looking

@@ -1,10 +1,12 @@
 -- The records of a dump are in a strict order: by sequence, then by page. A page number is below 2^32, so that two ages are equal only if the
 -- pages are; and no record's sequence is so large that its age reaches the top.
 use Prim.Native.Nat.{ℕ, _≤_, _<_}
+use mathlib.Core.Bool.{true, false}
 use mathlib.Core.List.{List}
 use mathlib.Core.Path.{_≡_, refl}
 use native.Mathlib.Omega.{arith}
 use lib.ListN.{length}
+use Rattle.page.specs.Counts.{isHeader}
 use Rattle.page.specs.Kinds.{kindAt}
 use Rattle.page.specs.Lengths.{openedOf}
 use Rattle.page.specs.declared.kind.Kind.{Kind}
@@ -14,10 +16,14 @@ use Rattle.page.specs.declared.layout.Layout.{Layout}
 use Rattle.page.specs.declared.layout.Opened.the-variants.{Pages}
 use Rattle.page.proofs.Lengths.{opened-most}
 use Rattle.page.proofs.Within.{header-within, data-within}
-use Rattle.chunk.specs.Records.{sequenceOf, orderOf, ageOf}
-use Rattle.index.specs.Chains.{top}
+use Rattle.chunk.specs.Records.{objectOf, sequenceOf, orderOf, ageOf}
+use Rattle.index.specs.Chains.{objects, top}
 use Rattle.index.specs.Entries.{entryOf}
 use Rattle.index.specs.declared.entry.Entry.the-variants.{Record}
+
+-- a test comes out one way only
+pub never : {A : Type 0} → false ≡ true → A
+never e = let z : _≡_ {A = ℕ} 0 1 = cc in absurd (omega arith)
 
 -- the order is by sequence, then by page
 pub order-less : (s t x y : ℕ) → x < 4294967296 → y < 4294967296 → orderOf s x < orderOf t y → (s ≤ t) × (s ≡ t → x < y)
@@ -46,6 +52,16 @@ module _ (l : Layout) (dump : List ℕ) where
       go Damaged e q = let z : _≡_ {A = ℕ} 0 1 = cc in absurd (omega arith)
       go (Header s o′ t p z m) e q = let same : o′ .0 ≡ o .0 = cc in omega (arith, header-within l dump i s o′ t p z m e .object .least)
       go (Data s o′ c n) e q = let same : o′ .0 ≡ o .0 = cc in omega (arith, data-within l dump i s o′ c n e .object .least)
+
+  pub header-object : (i : ℕ) → isHeader (kindAt l dump i) ≡ true → 0 < objects (kindAt l dump) i
+  header-object i = go (kindAt l dump i) refl
+    where
+      go : (k : Kind) → kindAt l dump i ≡ k → isHeader k ≡ true → 0 < objectOf k
+      go Blank e t = never t
+      go Foreign e t = never t
+      go Damaged e t = never t
+      go (Header s o k p z m) e t = header-within l dump i s o k p z m e .object .least
+      go (Data s o c n) e t = never t
 
   -- no record is as new as the top
   pub age-below : (i : ℕ) → i < 4294967296 → ageOf (kindAt l dump) i < top

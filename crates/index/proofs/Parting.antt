@@ -2,8 +2,8 @@
 use Prim.Native.Nat.{ℕ, zero, suc, _≤_, _<_}
 use mathlib.Core.Bool.{Bool, true, false}
 use mathlib.Core.List.{List, [], _∷_, _++_}
-use mathlib.Core.Logic.{_≢_, _⊎_, inl, inr}
-use mathlib.Core.Path.{_≡_, refl, sym, _∙_}
+use mathlib.Core.Logic.{_≢_, inl, inr}
+use mathlib.Core.Path.{_≡_, refl}
 use native.Mathlib.Omega.{arith}
 use lib.Dec.{eqb, leb}
 use borrow.Author.Tests.{leb-true, leb-false}
@@ -21,10 +21,6 @@ in-above (p ∷ A) q B x (inr i) = inr (in-above A q B x i)
 pub in-at : (A : List ℕ) (q : ℕ) (B : List ℕ) → In q (A ++ (q ∷ B))
 in-at [] q B = inl refl
 in-at (p ∷ A) q B = inr (in-at A q B)
-
-pub in-below : (A : List ℕ) (q : ℕ) (B : List ℕ) (x : ℕ) → In x B → In x (A ++ (q ∷ B))
-in-below [] q B x i = inr i
-in-below (p ∷ A) q B x i = inr (in-below A q B x i)
 
 module _ (test : ℕ → Bool) where
   -- no record of a list passes

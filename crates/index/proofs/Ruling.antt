@@ -1,22 +1,22 @@
 -- The rules of document 01 over an object's sorted list of records. Each rule is a gathering, and so a walk along the list (`listed`). Where the
 -- list is parted at a record, a rule that asks for newer records goes by the part above it alone.
-use Prim.Native.Nat.{ℕ, zero, suc, _+_, _-_, _≤_, _<_, max, min, zero-le}
+use Prim.Native.Nat.{ℕ, suc, _+_, _-_, _≤_, _<_, max, min, zero-le}
 use mathlib.Core.Bool.{Bool, true, false, _&&_}
-use mathlib.Core.List.{List, [], _∷_, _++_}
-use mathlib.Core.Logic.{_≢_, inl, inr}
+use mathlib.Core.List.{List, _∷_, _++_}
+use mathlib.Core.Logic.{_≢_}
 use mathlib.Core.Option.{Option, none, some}
-use mathlib.Core.Path.{_≡_, refl, sym, ap, _∙_}
+use mathlib.Core.Path.{_≡_, refl, ap, _∙_}
 use native.Mathlib.Nat.{le-refl}
 use native.Mathlib.Omega.{arith}
 use lib.ListN.{length}
 use lib.Dec.{eqb, ltb, leb}
 use borrow.Author.Tests.{lt-ltb, le-ltb, le-leb, lt-leb, leb-true, leb-false, eqb-true, eq-eqb}
 use Rattle.page.specs.Choice.{pick}
-use Rattle.page.specs.Counts.{isHeader, isData}
+use Rattle.page.specs.Counts.{isData}
 use Rattle.page.proofs.Searching.{by-test}
 use Rattle.page.specs.declared.kind.Kind.{Kind}
 use Rattle.chunk.specs.Gather.{gather}
-use Rattle.chunk.specs.Records.{ageOf, objectOf, isOf, headerOf, dataOf}
+use Rattle.chunk.specs.Records.{ageOf, isOf, headerOf, dataOf}
 use Rattle.chunk.specs.Newest.{later, newest, since}
 use Rattle.chunk.specs.Cuts.{nowhere, cutOf, lowestCut}
 use Rattle.chunk.specs.Sizes.{endOf, dataEnd}
@@ -27,7 +27,7 @@ use Rattle.index.specs.Walks.{cutBy}
 use Rattle.index.proofs.Records.{In, recs-of}
 use Rattle.index.proofs.Inserting.{Falls, falls-in}
 use Rattle.index.proofs.Through.{through, through-at, through-idle, through-same, through-count, gather-recs}
-use Rattle.index.proofs.Parting.{Fails, in-above, in-at, in-below, falls-above, falls-below}
+use Rattle.index.proofs.Parting.{Fails, in-above, in-at, falls-above, falls-below}
 use Rattle.index.proofs.Walking.{other-data, headed, endBy}
 
 -- two steps, each taken or not, may change places if both were taken

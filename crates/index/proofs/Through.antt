@@ -2,15 +2,13 @@
 -- steps of two pages may change places, a page put into the list is one step more, wherever it is put (`through-insert`), so that the steps
 -- of all pages in their own order give what the steps of the list give, the newest record first (`gather-recs`).
 use Prim.Native.Nat.{ℕ, zero, suc, _+_, _≤_, _<_}
-use mathlib.Core.Bool.{Bool, true, false}
+use mathlib.Core.Bool.{false}
 use mathlib.Core.List.{List, [], _∷_, _++_}
-use mathlib.Core.Logic.{_≢_, _⊎_, inl, inr}
+use mathlib.Core.Logic.{_≢_, inl, inr}
 use mathlib.Core.Path.{_≡_, refl, sym, ap, _∙_}
-use native.Mathlib.Nat.{le-refl}
 use native.Mathlib.Omega.{arith}
 use lib.Dec.{eqb, leb}
 use lib.ListN.{length}
-use Rattle.page.specs.Choice.{pick}
 use Rattle.page.proofs.Searching.{by-test}
 use Rattle.chunk.specs.Gather.{gather}
 use Rattle.index.specs.Held.{insert, recs}

@@ -1,7 +1,7 @@
 -- No lookup visits more records than the chain has, on any chain. Down to the newest header, the records visited and those behind it are the
 -- whole chain; below it, each record visited is one of those.
 use Prim.Native.Nat.{ℕ, suc, _+_, _≤_, zero-le}
-use mathlib.Core.Bool.{Bool, true, false}
+use mathlib.Core.Bool.{true, false}
 use mathlib.Core.List.{List, [], _∷_}
 use mathlib.Core.Path.{_≡_, refl, ap}
 use native.Mathlib.Omega.{arith}

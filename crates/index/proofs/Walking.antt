@@ -1,14 +1,14 @@
 -- Walks down a chain. Down to the newest header, a walk goes through the list of the records above it; below that, through the list of the
 -- records above the copy. On any chain no lookup visits more records than the chain has.
-use Prim.Native.Nat.{ℕ, zero, suc, _+_, _-_, _≤_, _<_, max, min}
-use mathlib.Core.Bool.{Bool, true, false, _&&_}
+use Prim.Native.Nat.{ℕ, suc, _+_, _-_, _≤_, _<_, max}
+use mathlib.Core.Bool.{Bool, true, false}
 use mathlib.Core.List.{List, [], _∷_, _++_}
 use mathlib.Core.Logic.{inl, inr}
 use mathlib.Core.Path.{_≡_, refl, sym, ap, _∙_}
 use native.Mathlib.Nat.{le-refl}
 use native.Mathlib.Omega.{arith}
 use lib.ListN.{length}
-use lib.Dec.{eqb, ltb, leb}
+use lib.Dec.{eqb, leb}
 use borrow.Author.Tests.{lt-ltb, le-ltb, leb-true, leb-false}
 use Rattle.page.specs.Choice.{pick}
 use Rattle.page.specs.Counts.{isHeader, isData}
@@ -16,21 +16,14 @@ use Rattle.page.proofs.Searching.{by-test}
 use Rattle.page.specs.declared.kind.Kind.{Kind}
 use Rattle.page.specs.declared.kind.Kind.the-variants.{Blank, Foreign, Damaged, Header, Data}
 use Rattle.chunk.specs.Records.{objectOf, chunkOf, baseOf}
-use Rattle.chunk.specs.Cuts.{cutOf}
 use Rattle.chunk.specs.Sizes.{endOf}
-use Rattle.chunk.specs.Lookups.{fileAt}
-use Rattle.chunk.specs.declared.answer.File.{File}
-use Rattle.chunk.specs.declared.answer.File.the-variants as file
 use Rattle.chunk.specs.declared.answer.Looked.{Looked}
 use Rattle.chunk.specs.declared.answer.Looked.the-variants as looked
-use Rattle.index.specs.Chains.{Trace, clean, broken, rec}
 use Rattle.index.specs.Held.{fromList}
-use Rattle.index.specs.Walks.{sizeVisits, chunkVisits, headless, behind, sizeReached, cutBy, metWith, reach, found, isShown, seek, copyFrom, chunkFile, chunkReached, chunkWalk, sizeWalk}
+use Rattle.index.specs.Walks.{headless, behind, cutBy, metWith, reach, found, seek}
 use Rattle.index.specs.declared.walks.Met.{Met}
 use Rattle.index.specs.declared.walks.Met.the-variants.{Copy, Nothing}
-use Rattle.index.specs.declared.walks.Reached.{Reached}
 use Rattle.index.specs.declared.walks.Reached.the-variants as reached
-use Rattle.index.proofs.Records.{In}
 use Rattle.index.proofs.Through.{through, through-at, through-idle}
 use Rattle.index.proofs.Parting.{Fails}
 

@@ -6,5 +6,6 @@ pub mod Places
 pub mod Additions
 pub mod Held
 pub mod Walks
+pub mod Listing
 pub mod Requests
 pub mod Demand

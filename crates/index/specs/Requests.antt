@@ -13,6 +13,10 @@ use Rattle.page.specs.declared.refusal.Refusal.{Refusal}
 use Rattle.page.specs.declared.refusal.Refusal.the-variants.{ShortIndex, BadPage, AlreadyAdded}
 use Rattle.chunk.specs.Answers.{onPages, readBy, bufferBy, partBy}
 use Rattle.chunk.specs.Lookups.{sizedOf, lookedOf}
+use Rattle.chunk.specs.Live.{liveIds}
+use Rattle.chunk.specs.Lists.{listedBy, wordsBy}
+use Rattle.chunk.specs.declared.answer.Listed.{Listed}
+use Rattle.chunk.specs.declared.answer.Listed.the-variants as listed
 use Rattle.chunk.specs.declared.answer.Sized.{Sized}
 use Rattle.chunk.specs.declared.answer.Sized.the-variants as sized
 use Rattle.chunk.specs.declared.answer.Looked.{Looked}
@@ -21,6 +25,7 @@ use Rattle.index.specs.Cells.{cellsFor}
 use Rattle.index.specs.Additions.{startOf, addOf}
 use Rattle.index.specs.Held.{noneAdded, with}
 use Rattle.index.specs.Walks.{seenSays, sizeFrom, chunkFrom}
+use Rattle.index.specs.Listing.{idsFrom, listFrom}
 use Rattle.index.specs.declared.additions.Added.{Added}
 use Rattle.index.specs.declared.additions.Added.the-variants.{Done, Refused}
 
@@ -32,14 +37,20 @@ pub data Request : Type 0 where
   chunk : ℕ → ℕ → ℕ → ℕ → Request
   read : ℕ → ℕ → ℕ → ℕ → List ℕ → Request
   part : ℕ → ℕ → ℕ → ℕ → Request
+  list : ℕ → ℕ → List ℕ → Request
 
--- an answer; a read's has the buffer afterwards, a borrowed part's its bytes
+-- an answer; a read's and a listing's have the buffer afterwards, a borrowed part's its bytes
 pub data Answer : Type 0 where
   addition : Added → Answer
   aSize : Sized → Answer
   aChunk : Looked → Answer
   aRead : Looked → List ℕ → Answer
   aPart : List ℕ → Answer
+  aList : Listed → List ℕ → Answer
+
+-- what a listing of ids gives, by its answer
+abbrev pub listAnswer : List ℕ → List ℕ → Listed → Answer
+listAnswer buffer ids a = aList a (wordsBy ids buffer a)
 
 module _ (l : Layout) (dump : List ℕ) where
   -- what a read and a borrowed part give of a chunk lookup
@@ -58,6 +69,7 @@ module _ (l : Layout) (dump : List ℕ) where
   answerOn c (chunk k w o n) = aChunk (chunkFrom l k dump (take w c) o n)
   answerOn c (read k w o n buffer) = readAnswer buffer (chunkFrom l k dump (take w c) o n)
   answerOn c (part k w o n) = partAnswer (chunkFrom l k dump (take w c) o n)
+  answerOn c (list k w buffer) = listAnswer buffer (idsFrom l k dump (take w c)) (listFrom l k dump (take w c) (length buffer))
 
   unfoldable pub wordsAfter : List ℕ → Request → List ℕ
   wordsAfter c (start k w) = startOf l k dump (take w c) .cells ++ drop w c
@@ -66,6 +78,7 @@ module _ (l : Layout) (dump : List ℕ) where
   wordsAfter c (chunk k w o n) = c
   wordsAfter c (read k w o n buffer) = c
   wordsAfter c (part k w o n) = c
+  wordsAfter c (list k w buffer) = c
 
   -- the answers to a list of requests, and the words after it
   unfoldable pub answersOn : List ℕ → List Request → List Answer
@@ -98,6 +111,10 @@ module _ (l : Layout) (dump : List ℕ) where
     abbrev pub lookedBy : (ℕ → Bool) → ℕ → ℕ → ℕ → ℕ → Looked
     lookedBy done k w o c = unlessRefused (λ r. looked.Refused r 0 0) (chunkSeen done o c) k w
 
+    -- the live objects, pages not yet added read as blank
+    abbrev pub liveSeen : (ℕ → Bool) → ℕ → List ℕ
+    liveSeen done n = liveIds (seenSays (kindAt l dump) done) n
+
     unfoldable pub answerBy : (ℕ → Bool) → Request → Answer
     answerBy done (start k w) = addition (unlessRefused Refused (λ n. Done) k w)
     answerBy done (add k w p) = addition (unlessRefused Refused (addedBy done p) k w)
@@ -105,6 +122,8 @@ module _ (l : Layout) (dump : List ℕ) where
     answerBy done (chunk k w o c) = aChunk (lookedBy done k w o c)
     answerBy done (read k w o c buffer) = readAnswer buffer (lookedBy done k w o c)
     answerBy done (part k w o c) = partAnswer (lookedBy done k w o c)
+    answerBy done (list k w buffer) =
+        unlessRefused (λ r. aList (listed.Refused r 0) buffer) (λ n. listAnswer buffer (liveSeen done n) (listedBy (length buffer) (liveSeen done n))) k w
 
     -- the pages added: an accepted start forgets all; an addition to which no refusal ordered before IndexDamaged applies adds its page
     unfoldable pub addedAfter : (ℕ → Bool) → Request → ℕ → Bool
@@ -114,6 +133,7 @@ module _ (l : Layout) (dump : List ℕ) where
     addedAfter done (chunk k w o c) = done
     addedAfter done (read k w o c buffer) = done
     addedAfter done (part k w o c) = done
+    addedAfter done (list k w buffer) = done
 
     unfoldable pub answersBy : (ℕ → Bool) → List Request → List Answer
     answersBy done [] = []

@@ -3,6 +3,7 @@ pub mod additions;
 mod cells;
 pub mod chains;
 pub mod entry;
+pub mod list;
 pub mod lookups;
 pub mod places;
 pub mod slots;

@@ -3,6 +3,7 @@ ghost use mathlib.Core.Path.{_≡_};
 ghost use Prim.Native.Nat.{_+_, _≤_, _<_};
 ghost use lib.ListN.{length};
 ghost use Rattle.page.specs.Kinds.{kindAt};
+ghost use Rattle.chunk.specs.Answers.{readBy, partBy, bufferBy};
 ghost use Rattle.index.specs.Cells.{cellsFor};
 ghost use Rattle.index.specs.Slots.{first};
 ghost use Rattle.index.specs.Chains.{top};
@@ -20,6 +21,8 @@ use chunk::answer::Sized;
 use chunk::lookup::file_at;
 use chunk::lookup::shown_of;
 use chunk::lookup::valid_of;
+use chunk::read::part_of;
+use chunk::read::read_into;
 use chunk::record::base_of;
 use chunk::record::count_of;
 use chunk::record::file_size;
@@ -218,4 +221,34 @@ pub fn chunk(dump: &[u8], l: Layout, k: u32, cells: &[u32], o: ObjectId, c: Chun
         Opened::Refused(r) => Looked::Refused(r, 0, 0),
         Opened::Pages(pages) => chunk_in(dump, l, pages, cells, o, c),
     }
+}
+
+// Chunk c of object o, read into a buffer, by the dump's index.
+pub fn read(
+    dump: &[u8],
+    l: Layout,
+    k: u32,
+    cells: &[u32],
+    o: ObjectId,
+    c: ChunkNumber,
+    buffer: &mut [u8],
+) -> Looked
+    ensures { λ r. ⌜ r ≡ readBy (length (now (buffer .entry))) (chunkFrom l k (now (dump .entry)) (now (cells .entry)) (o .0) (c .0)) ⌝ }
+    ensures { λ r. ⌜ now (buffer .exit) ≡ bufferBy l (now (dump .entry)) (now (buffer .entry)) r ⌝ }
+{
+    read_into(dump, l, chunk(dump, l, k, cells, o, c), buffer)
+}
+
+// The valid bytes of chunk c of object o as a part of the dump, by its index.
+pub fn part<'a>(
+    dump: &'a [u8],
+    l: Layout,
+    k: u32,
+    cells: &[u32],
+    o: ObjectId,
+    c: ChunkNumber,
+) -> &'a [u8]
+    ensures { λ r. ⌜ now r ≡ partBy l (now (dump .entry)) (chunkFrom l k (now (dump .entry)) (now (cells .entry)) (o .0) (c .0)) ⌝ }
+{
+    part_of(dump, l, chunk(dump, l, k, cells, o, c))
 }

@@ -1,31 +1,52 @@
 -- The refusals come in the definition's order: the object's, then the end of the file.
+use Prim.Native.Nat.{ℕ}
 use mathlib.Core.Path.{_≡_, sym, _∙_}
+use lib.Dec.{leb}
 use borrow.Author.Needs.{needs}
 use borrow.Author.Tests.{le-leb, lt-leb}
+use Rattle.page.specs.Choice.{pick}
 use Rattle.page.specs.Kinds.{kindAt}
-use Rattle.chunk.specs.Lookups.{fileAt}
-use Rattle.chunk.specs.declared.answer.File.the-variants.{Header}
-use Rattle.index.specs.Walks.{sizeAt, chunkFile, chunkReached}
+use Rattle.page.specs.declared.kind.Kind.{Kind}
+use Rattle.page.specs.declared.refusal.Refusal.the-variants.{PastEnd}
+use Rattle.chunk.specs.Records.{baseOf}
+use Rattle.chunk.specs.declared.answer.Looked.the-variants.{Refused}
+use Rattle.index.specs.Chains.{Trace}
+use Rattle.index.specs.Walks.{sizeAt, shownIn, copyFrom, chunkFile, chunkReached, below}
+use Rattle.index.specs.declared.walks.Reached.the-variants.{Header}
 use Rattle.index.proofs.Turning.{chunk-live}
 use Rattle.index.proofs.lookups.chunk_file.Statement.{statement}
 use Rattle.index.proofs.lookups.chunk_file.Tie as tie
 
-returns : tie.Need-returns
+abbrev says : tie.Start → ℕ → Kind
+says s = kindAt (s .args .l) (s .args .dump .now)
+
+abbrev rest : tie.Start → Trace
+rest s = below (says s) (s .args .pages) (s .args .cells .now) (s .args .o .0) (s .args .h .0)
+
+-- the file is live, and its size is known
+live :
+    (c : tie.After-larger) →
+    let s = c .before .before .before .before .before .before .before .before in
+    let a = s .args in
+    chunkReached (says s) (a .l .«data») (a .c .0) (rest s) (Header (a .h) (a .end) (a .met) (a .visits))
+    ≡ pick (leb (c .larger .result) (baseOf (a .l .«data») (a .c .0))) (Refused PastEnd (a .visits) 0)
+    (copyFrom (says s) (a .l .«data») (a .c .0) (a .h .0) (shownIn (says s) (a .l .«data») (a .c .0) (c .larger .result)) (a .visits) (rest s) (a .met))
 unfolding chunkReached
-returns c =
-    let b = c .before in
-    let z = b .before in
-    let t = z .before .before in
+live c =
+    let t = c .before .before in
     let f = t .before .before in
     let k = f .before in
-    let a = k .before .before .before .args in
-    let says = kindAt (a .l) (a .dump .now) in
-    let size : z .larger .result ≡ sizeAt says (a .h .0) (a .end) =
-    rw (← k .kind-at .ensures, ← z .before .file-size .ensures) (z .larger .ensures) in
-    sym
-    (chunk-live says (a .l .«data») (a .c .0) (sizeAt says (a .h .0) (a .end)) (a .met) _ (says (a .h .0)) (a .h .0) (a .visits) _ _
-    (rw (k .kind-at .ensures) at (sym (f .file-at .ensures) ∙ t .enum-told .given .1))
-    ∙ rw (← size, ← b .base-of .ensures .0, le-leb _ _ (c .if1 .taken)))
+    let s = k .before .before .before in
+    let a = s .args in
+    let size : c .larger .result ≡ sizeAt (says s) (a .h .0) (a .end) =
+    rw (← k .kind-at .ensures, ← c .before .file-size .ensures) (c .larger .ensures) in
+    rw size
+    (chunk-live (says s) _ _ _ _ _ (says s (a .h .0)) _ _ _ _ (rw (k .kind-at .ensures) at (sym (f .file-at .ensures) ∙ t .enum-told .given .1)))
+
+returns : tie.Need-returns
+returns c =
+    let b = c .before in
+    sym (live (b .before) ∙ rw (← b .base-of .ensures .0, le-leb _ _ (c .if1 .taken)))
 
 returns-2 : tie.Need-returns-2
 unfolding chunkReached chunkFile
@@ -34,23 +55,26 @@ returns-2 c =
     rw (← a .before .kind-at .ensures, ← a .file-at .ensures, c .before .f .given .1)
 
 returns-3 : tie.Need-returns-3
-unfolding chunkReached
 returns-3 c =
     let w = c .before in
     let b = w .before .before in
-    let z = b .before in
-    let t = z .before .before in
-    let f = t .before .before in
-    let k = f .before in
-    let a = k .before .before .before .args in
-    let says = kindAt (a .l) (a .dump .now) in
-    let size : z .larger .result ≡ sizeAt says (a .h .0) (a .end) =
-    rw (← k .kind-at .ensures, ← z .before .file-size .ensures) (z .larger .ensures) in
     c .copy-from .ensures
-    ∙ sym
-    (chunk-live says (a .l .«data») (a .c .0) (sizeAt says (a .h .0) (a .end)) (a .met) _ (says (a .h .0)) (a .h .0) (a .visits) _ _
-    (rw (k .kind-at .ensures) at (sym (f .file-at .ensures) ∙ t .enum-told .given .1))
-    ∙ rw (← size, ← b .base-of .ensures .0, lt-leb _ _ (w .before .if1 .left), w .shown-of .ensures))
+    ∙ sym (live (b .before) ∙ rw (← b .base-of .ensures .0, lt-leb _ _ (w .before .if1 .left), w .shown-of .ensures))
 
 pub chunk-file-spec : {M : Type 1} → statement M
-chunk-file-spec = tie.close (tie.spec (search needs) (search needs) (search needs) (search needs) (search needs) (search needs) (search needs) (search needs) returns (search needs) (search needs) returns-2 returns-3)
+chunk-file-spec =
+    tie.close
+    (tie.spec
+    (search needs)
+    (search needs)
+    (search needs)
+    (search needs)
+    (search needs)
+    (search needs)
+    (search needs)
+    (search needs)
+    returns
+    (search needs)
+    (search needs)
+    returns-2
+    returns-3)

@@ -1,5 +1,4 @@
 -- The refusals come in the definition's order; an object that is not bad has an id above 0.
-use Prim.Native.Nat.{_<_}
 use native.Mathlib.Omega.{arith}
 use borrow.Author.Needs.{needs}
 use borrow.Author.Tests.{lt-ltb, le-ltb}

@@ -1,12 +1,11 @@
 -- The walk lands on a page of the dump, and the chain below that page is what is left; the records above it and those are the whole chain.
-use Prim.Native.Nat.{_+_, _≤_, _<_}
-use mathlib.Core.Path.{_≡_, sym, _∙_}
+use mathlib.Core.Path.{sym, _∙_}
 use native.Mathlib.Omega.{arith}
 use borrow.Author.Needs.{needs}
 use Rattle.page.specs.Kinds.{kindAt}
 use Rattle.chunk.specs.Records.{ageOf}
 use Rattle.index.specs.Chains.{objects, top}
-use Rattle.index.specs.Walks.{recordsIn, chunkReached, chunkWalk, under, below}
+use Rattle.index.specs.Walks.{chunkReached, chunkWalk, under}
 use Rattle.index.specs.declared.walks.Met.the-variants.{Nothing}
 use Rattle.index.proofs.Turning.{few, lands}
 use Rattle.index.proofs.Visiting.{reach-visits}

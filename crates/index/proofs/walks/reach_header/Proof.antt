@@ -1,7 +1,7 @@
 -- The loop's invariant: what the chain from the first link on reaches is what the chain from here on reaches, and the records visited and
 -- those still ahead are no more than the pages. Each turn goes on to an older record, so that the bound falls.
 use Prim.Native.Nat.{_+_, _≤_}
-use mathlib.Core.Bool.{true, false}
+use mathlib.Core.Bool.{false}
 use mathlib.Core.Path.{_≡_, refl, sym, _∙_}
 use native.Mathlib.Omega.{arith}
 use borrow.Author.Needs.{needs}

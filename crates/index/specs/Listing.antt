@@ -1,0 +1,84 @@
+-- Listing the live objects by the index, on any cells (document 01, "Index" and the refusal table's last sentences). The table of objects is
+-- gone over slot by slot, and of each object the links are met that a size lookup of it meets: those down to its newest header.
+use Prim.Native.Nat.{ℕ}
+use mathlib.Core.Bool.{Bool, true, false, _&&_}
+use mathlib.Core.List.{List, []}
+use lib.ListN.{length}
+use lib.Dec.{eqb, ltb}
+use Rattle.page.specs.Choice.{pick}
+use Rattle.page.specs.Search.{count}
+use Rattle.page.specs.Kinds.{kindAt}
+use Rattle.page.specs.Lengths.{openedOf}
+use Rattle.page.specs.Refusals.{refusalNumber}
+use Rattle.page.specs.declared.kind.Kind.{Kind}
+use Rattle.page.specs.declared.layout.Layout.{Layout}
+use Rattle.page.specs.declared.refusal.Refusal.the-variants.{ShortIndex, IndexDamaged}
+use Rattle.chunk.specs.Records.{isGone}
+use Rattle.chunk.specs.Answers.{onPages}
+use Rattle.chunk.specs.Live.{idsOf}
+use Rattle.chunk.specs.Lists.{listedBy}
+use Rattle.chunk.specs.declared.answer.Listed.{Listed}
+use Rattle.chunk.specs.declared.answer.Listed.the-variants as listed
+use Rattle.index.specs.Cells.{cellsFor, keys}
+use Rattle.index.specs.Slots.{slot, used}
+use Rattle.index.specs.Walks.{reach, chainOf}
+use Rattle.index.specs.declared.list.Standing.{Standing}
+use Rattle.index.specs.declared.list.Standing.the-variants.{Live, Damaged, Other}
+use Rattle.index.specs.declared.walks.Met.the-variants.{Nothing}
+use Rattle.index.specs.declared.walks.Reached.{Reached}
+use Rattle.index.specs.declared.walks.Reached.the-variants as reached
+
+abbrev pub isLive : Standing → Bool
+isLive Live = true
+isLive Damaged = false
+isLive Other = false
+
+abbrev pub isDamaged : Standing → Bool
+isDamaged Live = false
+isDamaged Damaged = true
+isDamaged Other = false
+
+-- how an object stands by what the walk to its newest header reached: live if that header's parent is neither 3 nor 4
+unfoldable pub standing : (ℕ → Kind) → Reached → Standing
+standing says (reached.Header h end m v) = pick (isGone (says (h .0))) Other Live
+standing says (reached.Refused r v) = pick (eqb (refusalNumber r) 13) Damaged Other
+
+-- whether slot s of n is used, and is where its object is looked for
+abbrev pub isOwn : List ℕ → ℕ → ℕ → Bool
+isOwn cells n s = used (keys cells) s && eqb (slot n (keys cells) (keys cells s)) s
+
+-- the listing on the cells of n pages
+module _ (says : ℕ → Kind) (P : ℕ) (cells : List ℕ) (n : ℕ) where
+  -- how object o stands, by the walk of a size lookup
+  abbrev pub standingOf : ℕ → Standing
+  standingOf o = standing says (reach says P 0 0 Nothing 0 (chainOf says P cells o n))
+
+  -- how the object of slot s stands, if that is its slot
+  unfoldable pub standingAt : ℕ → Standing
+  standingAt s = pick (isOwn cells n s) (standingOf (keys cells s)) Other
+
+  abbrev pub liveSlot : ℕ → Bool
+  liveSlot s = isLive (standingAt s)
+
+  abbrev pub damagedSlot : ℕ → Bool
+  damagedSlot s = isDamaged (standingAt s)
+
+  -- the ids of the live objects, ascending
+  unfoldable pub slotIds : List ℕ
+  slotIds = idsOf liveSlot (keys cells) n
+
+  -- listing them into so many words: every link is met before they are counted
+  unfoldable pub listIn : ℕ → Listed
+  listIn room =
+      pick (ltb (length cells) (cellsFor n)) (listed.Refused ShortIndex 0)
+      (pick (ltb 0 (count damagedSlot n)) (listed.Refused IndexDamaged 0)
+      (listedBy room slotIds))
+
+-- the listing on a dump of a named layout in blocks of k, by any cells
+module _ (l : Layout) (k : ℕ) (dump cells : List ℕ) where
+  -- the ids; none where the dump is refused
+  unfoldable pub idsFrom : List ℕ
+  idsFrom = onPages (λ r. []) (λ n. slotIds (kindAt l dump) (l .«data») cells n) (openedOf l k (length dump))
+
+  unfoldable pub listFrom : ℕ → Listed
+  listFrom room = onPages (λ r. listed.Refused r 0) (λ n. listIn (kindAt l dump) (l .«data») cells n room) (openedOf l k (length dump))
