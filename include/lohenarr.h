@@ -117,6 +117,20 @@ typedef struct {
     size_t length;
 } lohenarr_place_answer;
 
+/* How many ids a listing wrote. Beside ShortBuffer, need is how many words it
+ * needs. */
+typedef struct {
+    uint32_t refusal;
+    uint32_t need;
+    uint32_t count;
+} lohenarr_list_answer;
+
+/* A number of objects. */
+typedef struct {
+    uint32_t refusal;
+    uint32_t count;
+} lohenarr_tally_answer;
+
 /* The most bytes that a dump has. */
 size_t lohenarr_most_bytes(void);
 
@@ -161,6 +175,31 @@ lohenarr_chunk_answer lohenarr_dump_read(const uint8_t *dump, size_t len, uint32
 
 /* The valid bytes of chunk n of an object, as a part of the dump. */
 lohenarr_place_answer lohenarr_dump_part(const uint8_t *dump, size_t len, uint32_t layout, uint32_t k, uint32_t object, uint32_t n);
+
+/* The ids of the live objects, written in ascending order, from the dump alone. */
+lohenarr_list_answer lohenarr_dump_list(const uint8_t *dump, size_t len, uint32_t layout, uint32_t k, uint32_t *words, size_t words_len);
+
+/* How many objects are live. */
+lohenarr_tally_answer lohenarr_dump_live(const uint8_t *dump, size_t len, uint32_t layout, uint32_t k);
+
+/* How many objects have records. */
+lohenarr_tally_answer lohenarr_dump_objects(const uint8_t *dump, size_t len, uint32_t layout, uint32_t k);
+
+/* An index is lent as words: at least 4 for each page and 16. Between its start
+ * and a lookup nobody else may write to it; whatever it holds, every call ends.
+ * Every call on it is given the same dump and layout.
+ *
+ * Makes an index empty, whatever its words held: the refusal's number, or 0. */
+uint32_t lohenarr_start(const uint8_t *dump, size_t len, uint32_t layout, uint32_t k, uint32_t *cells, size_t cells_len);
+
+/* Adds a page to an index: the refusal's number, or 0. */
+uint32_t lohenarr_add(const uint8_t *dump, size_t len, uint32_t layout, uint32_t k, uint32_t *cells, size_t cells_len, uint32_t page);
+
+/* The lookups by an index answer as if pages that were not added were blank. */
+lohenarr_size_answer lohenarr_size(const uint8_t *dump, size_t len, uint32_t layout, uint32_t k, const uint32_t *cells, size_t cells_len, uint32_t object);
+lohenarr_chunk_answer lohenarr_chunk(const uint8_t *dump, size_t len, uint32_t layout, uint32_t k, const uint32_t *cells, size_t cells_len, uint32_t object, uint32_t n);
+lohenarr_chunk_answer lohenarr_read(const uint8_t *dump, size_t len, uint32_t layout, uint32_t k, const uint32_t *cells, size_t cells_len, uint32_t object, uint32_t n, uint8_t *buffer, size_t buffer_len);
+lohenarr_place_answer lohenarr_part(const uint8_t *dump, size_t len, uint32_t layout, uint32_t k, const uint32_t *cells, size_t cells_len, uint32_t object, uint32_t n);
 
 #ifdef __cplusplus
 }

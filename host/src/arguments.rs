@@ -59,7 +59,10 @@ pub fn long(text: &str) -> Option<u64> {
     }
     digits.chars().try_fold(0u64, |n, c| {
         let digit = c.to_digit(radix)?;
-        Some(n.saturating_mul(u64::from(radix)).saturating_add(u64::from(digit)))
+        Some(
+            n.saturating_mul(u64::from(radix))
+                .saturating_add(u64::from(digit)),
+        )
     })
 }
 

@@ -45,7 +45,12 @@ fn c_name(name: &str) -> String {
 fn rust_field(field: &str) -> Vec<String> {
     let field = field.trim().trim_start_matches("pub ");
     let (name, kind) = field.split_once(':').expect("a field has a type");
-    let slice = |kind: &str| vec![format!("{kind} {name}"), format!("usize {}", length_of(name))];
+    let slice = |kind: &str| {
+        vec![
+            format!("{kind} {name}"),
+            format!("usize {}", length_of(name)),
+        ]
+    };
     match kind.trim() {
         "&[u8]" => slice("bytes"),
         "&mut [u8]" => slice("mut bytes"),
@@ -147,7 +152,11 @@ fn c() -> Declared {
         let parameters = parameters.trim_end_matches(");").split(',');
         let parameters = parameters.filter(|parameter| *parameter != "void");
         let mut all: Vec<String> = parameters.map(c_field).collect();
-        all.push(result.replace("size_t", "usize"));
+        all.push(match result {
+            "size_t" => "usize".to_string(),
+            "uint32_t" => "u32".to_string(),
+            answer => answer.to_string(),
+        });
         declared.insert(name.to_string(), all);
     }
     declared

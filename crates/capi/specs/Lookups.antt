@@ -1,4 +1,4 @@
--- What the lookups of an object answer, as the exports give it.
+-- What the lookups of an object, listings, counts of objects, starts and additions answer, as the exports give it.
 use Prim.Native.Nat.{ℕ, _*_}
 use mathlib.Core.Bool.{_&&_}
 use lib.Dec.{leb}
@@ -11,9 +11,17 @@ use Rattle.chunk.specs.declared.answer.Sized.{Sized}
 use Rattle.chunk.specs.declared.answer.Sized.the-variants as sized
 use Rattle.chunk.specs.declared.answer.Looked.{Looked}
 use Rattle.chunk.specs.declared.answer.Looked.the-variants as looked
+use Rattle.chunk.specs.declared.answer.Listed.{Listed}
+use Rattle.chunk.specs.declared.answer.Listed.the-variants as listed
+use Rattle.chunk.specs.declared.answer.Tallied.{Tallied}
+use Rattle.chunk.specs.declared.answer.Tallied.the-variants as tallied
+use Rattle.index.specs.declared.additions.Added.{Added}
+use Rattle.index.specs.declared.additions.Added.the-variants as added
 use Rattle.capi.specs.declared.answer.SizeAnswer.{SizeAnswer}
 use Rattle.capi.specs.declared.answer.ChunkAnswer.{ChunkAnswer}
 use Rattle.capi.specs.declared.answer.PlaceAnswer.{PlaceAnswer}
+use Rattle.capi.specs.declared.answer.ListAnswer.{ListAnswer}
+use Rattle.capi.specs.declared.answer.TallyAnswer.{TallyAnswer}
 
 abbrev pub sizeAnswer : Sized → SizeAnswer
 sizeAnswer (sized.Refused r v) = record { refusal = refusalNumber r; visits = v; size = 0 }
@@ -62,3 +70,16 @@ unfoldable pub placeAnswer : Layout → ℕ → Looked → PlaceAnswer
 placeAnswer l n (looked.Refused r v m) = noPlace
 placeAnswer l n (looked.Hole s v) = noPlace
 placeAnswer l n (looked.Copy p a s v) = placeOf l n (p .0) a
+
+abbrev pub listAnswer : Listed → ListAnswer
+listAnswer (listed.Refused r n) = record { refusal = refusalNumber r; need = n; count = 0 }
+listAnswer (listed.Ids m) = record { refusal = 0; need = 0; count = m }
+
+abbrev pub tallyAnswer : Tallied → TallyAnswer
+tallyAnswer (tallied.Refused r) = record { refusal = refusalNumber r; count = 0 }
+tallyAnswer (tallied.Count m) = record { refusal = 0; count = m }
+
+-- the number of a refused start or addition; 0 where it was done
+abbrev pub addedAnswer : Added → ℕ
+addedAnswer (added.Refused r) = refusalNumber r
+addedAnswer added.Done = 0

@@ -1,16 +1,25 @@
-// The lookups of an object on a dump alone. Each answers as on an index to which every page was added.
+// The lookups of an object on a dump alone, the live list, and the numbers of objects. Each answers as on an index to which every page was
+// added.
 ghost use mathlib.Core.Path.{_≡_};
 ghost use lib.ListN.{length, take, drop};
 ghost use Rattle.page.specs.Layouts.{layoutAt};
 ghost use Rattle.chunk.specs.Answers.{sizeOn, chunkOn, readBy, bufferBy, partBy};
-ghost use Rattle.capi.specs.Lookups.{sizeAnswer, chunkAnswer, placeAnswer};
+ghost use Rattle.chunk.specs.Lists.{listOn, liveOn, wordsBy, liveCountOn, objectCountOn};
+ghost use Rattle.capi.specs.Lookups.{sizeAnswer, chunkAnswer, placeAnswer, listAnswer, tallyAnswer};
 use crate::answer::ChunkAnswer;
+use crate::answer::ListAnswer;
 use crate::answer::PlaceAnswer;
 use crate::answer::SizeAnswer;
+use crate::answer::TallyAnswer;
 use crate::answer::chunk_answer;
+use crate::answer::list_answer;
 use crate::answer::place_answer;
 use crate::answer::size_answer;
+use crate::answer::tally_answer;
 use crate::layout::layout_at;
+use chunk::list::list;
+use chunk::list::live_count;
+use chunk::list::object_count;
 use chunk::lookup::chunk;
 use chunk::lookup::size;
 use chunk::read::read;
@@ -81,4 +90,29 @@ pub extern "C" fn lohenarr_dump_part(
         dump.len(),
         chunk(dump, l, k, ObjectId(object), ChunkNumber(n)),
     )
+}
+
+// The ids of the live objects, written to words in ascending order. Words past them stay, and a refusal writes nothing.
+#[no_mangle]
+pub extern "C" fn lohenarr_dump_list(dump: &[u8], layout: u32, k: u32, words: &mut [u32]) -> ListAnswer
+    ensures { λ r. ⌜ r ≡ listAnswer (listOn (layoutAt layout) k (now (dump .entry)) (length (now (words .entry)))) ⌝ }
+    ensures { λ _. ⌜ now (words .exit) ≡ wordsBy (liveOn (layoutAt layout) k (now (dump .entry))) (now (words .entry)) (listOn (layoutAt layout) k (now (dump .entry)) (length (now (words .entry)))) ⌝ }
+{
+    list_answer(list(dump, layout_at(layout), k, words))
+}
+
+// How many objects are live.
+#[no_mangle]
+pub extern "C" fn lohenarr_dump_live(dump: &[u8], layout: u32, k: u32) -> TallyAnswer
+    ensures { λ r. ⌜ r ≡ tallyAnswer (liveCountOn (layoutAt layout) k (now (dump .entry))) ⌝ }
+{
+    tally_answer(live_count(dump, layout_at(layout), k))
+}
+
+// How many objects have records.
+#[no_mangle]
+pub extern "C" fn lohenarr_dump_objects(dump: &[u8], layout: u32, k: u32) -> TallyAnswer
+    ensures { λ r. ⌜ r ≡ tallyAnswer (objectCountOn (layoutAt layout) k (now (dump .entry))) ⌝ }
+{
+    tally_answer(object_count(dump, layout_at(layout), k))
 }

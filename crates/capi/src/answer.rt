@@ -1,8 +1,11 @@
 // What the lookups of an object answer, whether on a dump alone or on an index.
 ghost use mathlib.Core.Path.{_≡_};
-ghost use Rattle.capi.specs.Lookups.{sizeAnswer, chunkAnswer, placeOf, placeAnswer};
+ghost use Rattle.capi.specs.Lookups.{sizeAnswer, chunkAnswer, placeOf, placeAnswer, listAnswer, tallyAnswer, addedAnswer};
+use chunk::answer::Listed;
 use chunk::answer::Looked;
 use chunk::answer::Sized;
+use chunk::answer::Tallied;
+use index::additions::Added;
 use page::layout::Layout;
 use page::number::PageNumber;
 
@@ -32,6 +35,21 @@ pub struct ChunkAnswer {
 pub struct PlaceAnswer {
     pub offset: usize,
     pub length: usize,
+}
+
+// How many ids a listing wrote. Beside ShortBuffer `need` is how many words it needs, and 0 else.
+#[repr(C)]
+pub struct ListAnswer {
+    pub refusal: u32,
+    pub need: u32,
+    pub count: u32,
+}
+
+// A number of objects.
+#[repr(C)]
+pub struct TallyAnswer {
+    pub refusal: u32,
+    pub count: u32,
 }
 
 pub(crate) fn size_answer(s: Sized) -> SizeAnswer
@@ -121,5 +139,47 @@ pub(crate) fn place_answer(l: Layout, len: usize, a: Looked) -> PlaceAnswer
             length: 0,
         },
         Looked::Copy(p, valid, _, _) => place_of(l, len, p, valid),
+    }
+}
+
+pub(crate) fn list_answer(a: Listed) -> ListAnswer
+    ensures { λ r. ⌜ r ≡ listAnswer a ⌝ }
+{
+    match a {
+        Listed::Refused(r, need) => ListAnswer {
+            refusal: r.number(),
+            need,
+            count: 0,
+        },
+        Listed::Ids(count) => ListAnswer {
+            refusal: 0,
+            need: 0,
+            count,
+        },
+    }
+}
+
+pub(crate) fn tally_answer(t: Tallied) -> TallyAnswer
+    ensures { λ r. ⌜ r ≡ tallyAnswer t ⌝ }
+{
+    match t {
+        Tallied::Refused(r) => TallyAnswer {
+            refusal: r.number(),
+            count: 0,
+        },
+        Tallied::Count(count) => TallyAnswer {
+            refusal: 0,
+            count,
+        },
+    }
+}
+
+// The number of a refused start or addition; 0 where it was done.
+pub(crate) fn added_answer(a: Added) -> u32
+    ensures { λ r. ⌜ r ≡ addedAnswer a ⌝ }
+{
+    match a {
+        Added::Refused(r) => r.number(),
+        Added::Done => 0,
     }
 }

@@ -4,6 +4,7 @@ pub mod alone;
 pub mod answer;
 pub mod count;
 pub mod header;
+pub mod indexed;
 pub mod kind;
 pub mod layout;
 pub mod text;

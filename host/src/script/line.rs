@@ -1,7 +1,7 @@
 //! Answers as lines.
 
 use crate::crc::crc32;
-use crate::ffi::{ChunkAnswer, CountsAnswer, PlaceAnswer, SizeAnswer};
+use crate::ffi::{ChunkAnswer, CountsAnswer, ListAnswer, PlaceAnswer, SizeAnswer};
 use crate::refusal::SHORT_BUFFER;
 
 /// A refusal with its visits; with the length needed if a buffer was too short.
@@ -62,8 +62,13 @@ pub fn part(place: PlaceAnswer, dump: &[u8]) -> String {
     format!("part={offset}+{length}/{:08x}", crc32(place.of(dump)))
 }
 
-/// Listed ids, and the length of the buffer that they were written to.
-pub fn ids(ids: &[u32], length: usize) -> String {
-    let ids: Vec<String> = ids.iter().map(u32::to_string).collect();
-    format!("ids={} words={length}", ids.join(","))
+/// The ids that a listing wrote in front of the words, and how many words it
+/// was lent.
+pub fn list(answer: ListAnswer, words: &[u32]) -> String {
+    if answer.refusal != 0 {
+        return refused(answer.refusal, 0, answer.need);
+    }
+    let ids = words.iter().take(answer.count as usize);
+    let ids: Vec<String> = ids.map(u32::to_string).collect();
+    format!("ids={} words={}", ids.join(","), words.len())
 }

@@ -46,6 +46,26 @@ pub enum Request {
     Peek { at: usize },
 }
 
+impl Request {
+    /// How many words the request names, for the index or for a list.
+    pub fn words(&self) -> Option<usize> {
+        let over = |over: Over| match over {
+            Over::Index(lent) => lent.words,
+            Over::Dump(_) => None,
+        };
+        match *self {
+            Request::Start { words, .. } => Some(words),
+            Request::Add { lent, .. } => lent.words,
+            Request::Size { over: o, .. }
+            | Request::Chunk { over: o, .. }
+            | Request::Read { over: o, .. }
+            | Request::Part { over: o, .. } => over(o),
+            Request::List { over: o, length } => over(o).max(Some(length)),
+            _ => None,
+        }
+    }
+}
+
 /// The requests of a script, or what is wrong with one of its lines.
 pub fn parse(script: &str) -> Result<Vec<Request>, String> {
     let mut requests = Vec::new();
@@ -77,7 +97,9 @@ struct Words<'l>(Vec<&'l str>);
 impl Words<'_> {
     fn request(&mut self, name: &str) -> Result<Request, String> {
         Ok(match name {
-            "find" => Request::Find { k: self.number("K")? },
+            "find" => Request::Find {
+                k: self.number("K")?,
+            },
             "pages" => Request::Pages { on: self.on()? },
             "counts" => Request::Counts { on: self.on()? },
             "kind" => Request::Kind {

@@ -5,7 +5,7 @@ use super::line;
 use super::request::{Lent, On, Over, Request};
 use crate::commands::header::Header;
 use crate::failure::Failure;
-use crate::ffi::{self, Answer as _, ChunkAnswer};
+use crate::ffi::{self, Answer as _};
 
 /// What a buffer holds before a call, and the index words before the first.
 const BYTE: u8 = 0xA5;
@@ -59,7 +59,7 @@ impl<'d> Session<'d> {
             Request::Start { on, words } => self.start(on, words),
             Request::Add { lent, page } => self.add(lent, page),
             Request::Size { over, object } => self.size(over, object),
-            Request::Chunk { over, object, n } => line::chunk(self.chunk(over, object, n)),
+            Request::Chunk { over, object, n } => self.chunk(over, object, n),
             Request::Read {
                 over,
                 object,
@@ -72,7 +72,7 @@ impl<'d> Session<'d> {
             Request::Part { over, object, n } => self.part(over, object, n),
             Request::List { over, length } => {
                 answer.words = filled(length, WORD)?;
-                self.list(over, &mut answer.words)
+                self.list(over, &mut answer.words)?
             }
             _ => self.whole(request),
         };
@@ -100,6 +100,83 @@ impl<'d> Session<'d> {
             _ => unreachable!("not about the dump as a whole"),
         };
         line.unwrap_or_else(line::done)
+    }
+
+    /// What a call on the index is given: layout and K, and how many words.
+    fn given(&self, lent: Lent) -> (On, usize) {
+        let (on, words) = self.started.unwrap_or((NONE, self.index.len()));
+        let layout = lent.layout.unwrap_or(on.layout);
+        let k = lent.k.unwrap_or(on.k);
+        (On { layout, k }, lent.words.unwrap_or(words))
+    }
+
+    fn start(&mut self, on: On, words: usize) -> String {
+        let cells = &mut self.index[..words];
+        let refusal = ffi::start(self.dump, on.layout, on.k, cells);
+        if refusal == 0 {
+            self.started = Some((on, words));
+        }
+        line::done(refusal)
+    }
+
+    fn add(&mut self, lent: Lent, page: u32) -> String {
+        let (on, words) = self.given(lent);
+        let cells = &mut self.index[..words];
+        line::done(ffi::add(self.dump, on.layout, on.k, cells, page))
+    }
+
+    fn size(&self, over: Over, object: u32) -> String {
+        line::size(match over {
+            Over::Dump(on) => ffi::dump_size(self.dump, on.layout, on.k, object),
+            Over::Index(lent) => {
+                let (on, words) = self.given(lent);
+                ffi::size(self.dump, on.layout, on.k, &self.index[..words], object)
+            }
+        })
+    }
+
+    fn chunk(&self, over: Over, object: u32, n: u32) -> String {
+        line::chunk(match over {
+            Over::Dump(on) => ffi::dump_chunk(self.dump, on.layout, on.k, object, n),
+            Over::Index(lent) => {
+                let (on, words) = self.given(lent);
+                ffi::chunk(self.dump, on.layout, on.k, &self.index[..words], object, n)
+            }
+        })
+    }
+
+    fn read(&self, over: Over, object: u32, n: u32, buffer: &mut [u8]) -> String {
+        let answer = match over {
+            Over::Dump(on) => ffi::dump_read(self.dump, on.layout, on.k, object, n, buffer),
+            Over::Index(lent) => {
+                let (on, words) = self.given(lent);
+                let cells = &self.index[..words];
+                ffi::read(self.dump, on.layout, on.k, cells, object, n, buffer)
+            }
+        };
+        line::read(answer, buffer)
+    }
+
+    fn part(&self, over: Over, object: u32, n: u32) -> String {
+        let place = match over {
+            Over::Dump(on) => ffi::dump_part(self.dump, on.layout, on.k, object, n),
+            Over::Index(lent) => {
+                let (on, words) = self.given(lent);
+                ffi::part(self.dump, on.layout, on.k, &self.index[..words], object, n)
+            }
+        };
+        line::part(place, self.dump)
+    }
+
+    fn list(&self, over: Over, words: &mut [u32]) -> Result<String, Failure> {
+        let answer = match over {
+            Over::Dump(on) => ffi::dump_list(self.dump, on.layout, on.k, words),
+            Over::Index(_) => {
+                let missing = "list on the index is not there yet".to_string();
+                return Err(Failure::Usage(missing));
+            }
+        };
+        Ok(line::list(answer, words))
     }
 
     /// A word of the index memory.
