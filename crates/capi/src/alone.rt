@@ -94,7 +94,12 @@ pub extern "C" fn lohenarr_dump_part(
 
 // The ids of the live objects, written to words in ascending order. Words past them stay, and a refusal writes nothing.
 #[no_mangle]
-pub extern "C" fn lohenarr_dump_list(dump: &[u8], layout: u32, k: u32, words: &mut [u32]) -> ListAnswer
+pub extern "C" fn lohenarr_dump_list(
+    dump: &[u8],
+    layout: u32,
+    k: u32,
+    words: &mut [u32],
+) -> ListAnswer
     ensures { λ r. ⌜ r ≡ listAnswer (listOn (layoutAt layout) k (now (dump .entry)) (length (now (words .entry)))) ⌝ }
     ensures { λ _. ⌜ now (words .exit) ≡ wordsBy (liveOn (layoutAt layout) k (now (dump .entry))) (now (words .entry)) (listOn (layoutAt layout) k (now (dump .entry)) (length (now (words .entry)))) ⌝ }
 {

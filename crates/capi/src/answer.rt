@@ -167,10 +167,7 @@ pub(crate) fn tally_answer(t: Tallied) -> TallyAnswer
             refusal: r.number(),
             count: 0,
         },
-        Tallied::Count(count) => TallyAnswer {
-            refusal: 0,
-            count,
-        },
+        Tallied::Count(count) => TallyAnswer { refusal: 0, count },
     }
 }
 

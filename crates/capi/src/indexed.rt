@@ -34,7 +34,13 @@ pub extern "C" fn lohenarr_start(dump: &[u8], layout: u32, k: u32, cells: &mut [
 
 // Adds a page to the index.
 #[no_mangle]
-pub extern "C" fn lohenarr_add(dump: &[u8], layout: u32, k: u32, cells: &mut [u32], page: u32) -> u32
+pub extern "C" fn lohenarr_add(
+    dump: &[u8],
+    layout: u32,
+    k: u32,
+    cells: &mut [u32],
+    page: u32,
+) -> u32
     ensures { λ r. ⌜ r ≡ addedAnswer (addOf (layoutAt layout) k (now (dump .entry)) (now (cells .entry)) page .answer) ⌝ }
     ensures { λ _. ⌜ now (cells .exit) ≡ addOf (layoutAt layout) k (now (dump .entry)) (now (cells .entry)) page .cells ⌝ }
 {
@@ -43,7 +49,13 @@ pub extern "C" fn lohenarr_add(dump: &[u8], layout: u32, k: u32, cells: &mut [u3
 
 // The size of an object.
 #[no_mangle]
-pub extern "C" fn lohenarr_size(dump: &[u8], layout: u32, k: u32, cells: &[u32], object: u32) -> SizeAnswer
+pub extern "C" fn lohenarr_size(
+    dump: &[u8],
+    layout: u32,
+    k: u32,
+    cells: &[u32],
+    object: u32,
+) -> SizeAnswer
     ensures { λ r. ⌜ r ≡ sizeAnswer (sizeFrom (layoutAt layout) k (now (dump .entry)) (now (cells .entry)) object) ⌝ }
 {
     size_answer(size(dump, layout_at(layout), k, cells, ObjectId(object)))
@@ -51,28 +63,69 @@ pub extern "C" fn lohenarr_size(dump: &[u8], layout: u32, k: u32, cells: &[u32],
 
 // A chunk of an object.
 #[no_mangle]
-pub extern "C" fn lohenarr_chunk(dump: &[u8], layout: u32, k: u32, cells: &[u32], object: u32, n: u32) -> ChunkAnswer
+pub extern "C" fn lohenarr_chunk(
+    dump: &[u8],
+    layout: u32,
+    k: u32,
+    cells: &[u32],
+    object: u32,
+    n: u32,
+) -> ChunkAnswer
     ensures { λ r. ⌜ r ≡ chunkAnswer (chunkFrom (layoutAt layout) k (now (dump .entry)) (now (cells .entry)) object n) ⌝ }
 {
-    chunk_answer(chunk(dump, layout_at(layout), k, cells, ObjectId(object), ChunkNumber(n)))
+    chunk_answer(chunk(
+        dump,
+        layout_at(layout),
+        k,
+        cells,
+        ObjectId(object),
+        ChunkNumber(n),
+    ))
 }
 
 // A chunk of an object, read into a buffer: the valid bytes, then zeros up to the shown length. Bytes past that stay, and a refusal writes
 // nothing.
 #[no_mangle]
-pub extern "C" fn lohenarr_read(dump: &[u8], layout: u32, k: u32, cells: &[u32], object: u32, n: u32, buffer: &mut [u8]) -> ChunkAnswer
+pub extern "C" fn lohenarr_read(
+    dump: &[u8],
+    layout: u32,
+    k: u32,
+    cells: &[u32],
+    object: u32,
+    n: u32,
+    buffer: &mut [u8],
+) -> ChunkAnswer
     ensures { λ r. ⌜ r ≡ chunkAnswer (readBy (length (now (buffer .entry))) (chunkFrom (layoutAt layout) k (now (dump .entry)) (now (cells .entry)) object n)) ⌝ }
     ensures { λ _. ⌜ now (buffer .exit) ≡ bufferBy (layoutAt layout) (now (dump .entry)) (now (buffer .entry)) (readBy (length (now (buffer .entry))) (chunkFrom (layoutAt layout) k (now (dump .entry)) (now (cells .entry)) object n)) ⌝ }
 {
-    chunk_answer(read(dump, layout_at(layout), k, cells, ObjectId(object), ChunkNumber(n), buffer))
+    chunk_answer(read(
+        dump,
+        layout_at(layout),
+        k,
+        cells,
+        ObjectId(object),
+        ChunkNumber(n),
+        buffer,
+    ))
 }
 
 // The valid bytes of a chunk of an object, as a part of the dump; an empty part for a hole or a refusal.
 #[no_mangle]
-pub extern "C" fn lohenarr_part(dump: &[u8], layout: u32, k: u32, cells: &[u32], object: u32, n: u32) -> PlaceAnswer
+pub extern "C" fn lohenarr_part(
+    dump: &[u8],
+    layout: u32,
+    k: u32,
+    cells: &[u32],
+    object: u32,
+    n: u32,
+) -> PlaceAnswer
     ensures { λ r. ⌜ r ≡ placeAnswer (layoutAt layout) (length (now (dump .entry))) (chunkFrom (layoutAt layout) k (now (dump .entry)) (now (cells .entry)) object n) ⌝ }
     ensures { λ r. ⌜ take (r .length) (drop (r .offset) (now (dump .entry))) ≡ partBy (layoutAt layout) (now (dump .entry)) (chunkFrom (layoutAt layout) k (now (dump .entry)) (now (cells .entry)) object n) ⌝ }
 {
     let l = layout_at(layout);
-    place_answer(l, dump.len(), chunk(dump, l, k, cells, ObjectId(object), ChunkNumber(n)))
+    place_answer(
+        l,
+        dump.len(),
+        chunk(dump, l, k, cells, ObjectId(object), ChunkNumber(n)),
+    )
 }

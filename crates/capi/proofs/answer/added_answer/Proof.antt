@@ -7,7 +7,7 @@ returns : tie.Need-returns
 returns c = rw (c .before .before .a .given .1, c .number .ensures)
 
 returns-2 : tie.Need-returns-2
-returns-2 c = rw (c .before .enum-told .given .1)
+returns-2 c = rw (c .enum-told .given .1)
 
 pub added-answer-spec : {M : Type 1} → statement M
 added-answer-spec = tie.close (tie.spec (search needs) (search needs) (search needs) returns returns-2)
