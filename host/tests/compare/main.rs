@@ -4,9 +4,12 @@
 //! - `second`: the second reader, written from document 01 alone.
 //! - `generator`: dumps and requests from a seed.
 //! - `library`: the library's answers to the same requests.
+//! - `corpus`: dumps that the YAFFS2 driver wrote.
 //!
 //! `LOHENARR_SEEDS=N` compares N dumps instead of the usual number.
 
+#[cfg(test)]
+mod corpus;
 mod digest;
 mod generator;
 mod library;
