@@ -9,8 +9,9 @@ use std::path::Path;
 const DATA: usize = 2048;
 const PAGE: usize = DATA + 64;
 const BLOCK: usize = super::BLOCK as usize * PAGE;
-const LONG: u32 = 257;
-const SHORT: u32 = 1000;
+/// The id of the long file; those of the short ones follow.
+pub const LONG: u32 = 257;
+pub const SHORT: u32 = 1000;
 
 /// Writes a dump of 2048/64/0 with at most so many MiB.
 pub fn write(path: &Path, mib: usize) -> io::Result<()> {
