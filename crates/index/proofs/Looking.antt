@@ -88,22 +88,19 @@ module _
         let some : 1 ≤ length dump / pageLen l = rw (f .pages) (opened-some l k (length dump) n e) in
         omega (arith, length-most (length dump) (f .long), div-mul-le-self (length dump) (pageLen l), mul-le-mul-right (pageLen l) some)
 
+    few-pages : n ≤ 4294967296
+    few-pages = omega (arith, pages-most l dump k n e)
+
     abbrev D : ℕ → Kind
     D = seenSays (kindAt l dump) added
 
     pub size-from-held :
         (sizeFrom l k dump cells o ≡ sizedOf D o n (l .«data»)) × (sizeVisits (sizeFrom l k dump cells o) ≤ records D o n)
     unfolding sizeFrom
-    size-from-held = rw e (size-held (kindAt l dump) n few (ages-below l dump k n e) added cells held o (l .«data»))
-      where
-        few : n ≤ 4294967296
-        few = omega (arith, pages-most l dump k n e)
+    size-from-held = rw e (size-held (kindAt l dump) n few-pages (ages-below l dump k n e) added cells held o (l .«data»))
 
     pub chunk-from-held :
         (c : ℕ) →
         (chunkFrom l k dump cells o c ≡ lookedOf D o n (l .«data») c) × (chunkVisits (chunkFrom l k dump cells o c) ≤ records D o n)
     unfolding chunkFrom
-    chunk-from-held c = rw e (chunk-held (kindAt l dump) n few (ages-below l dump k n e) added cells held o (l .«data») data-most c)
-      where
-        few : n ≤ 4294967296
-        few = omega (arith, pages-most l dump k n e)
+    chunk-from-held c = rw e (chunk-held (kindAt l dump) n few-pages (ages-below l dump k n e) added cells held o (l .«data») data-most c)

@@ -1,5 +1,5 @@
 -- Walks down a chain. Down to the newest header, a walk goes through the list of the records above it; below that, through the list of the
--- records above the copy. On any chain no lookup visits more records than the chain has.
+-- records above the copy, which is hidden or not by the lowest cut of the headers there.
 use Prim.Native.Nat.{ℕ, suc, _+_, _-_, _≤_, _<_, max}
 use mathlib.Core.Bool.{Bool, true, false}
 use mathlib.Core.List.{List, [], _∷_, _++_}
@@ -29,20 +29,20 @@ use Rattle.index.proofs.Parting.{Fails}
 
 -- a record is a header or data
 module _ (o : ℕ) (pos : 0 < o) where
-  none : {A : Type 0} → 0 ≡ o → A
-  none e = absurd (omega arith)
+  no-record : {A : Type 0} → 0 ≡ o → A
+  no-record e = absurd (omega arith)
 
   pub other-data : (k : Kind) → objectOf k ≡ o → isHeader k ≡ false → isData k ≡ true
-  other-data Blank e f = none e
-  other-data Foreign e f = none e
-  other-data Damaged e f = none e
+  other-data Blank e f = no-record e
+  other-data Foreign e f = no-record e
+  other-data Damaged e f = no-record e
   other-data (Header s i t p z m) e f = sym f
   other-data (Data s i c n) e f = refl
 
   pub other-header : (k : Kind) → objectOf k ≡ o → isData k ≡ false → isHeader k ≡ true
-  other-header Blank e f = none e
-  other-header Foreign e f = none e
-  other-header Damaged e f = none e
+  other-header Blank e f = no-record e
+  other-header Foreign e f = no-record e
+  other-header Damaged e f = no-record e
   other-header (Header s i t p z m) e f = refl
   other-header (Data s i c n) e f = sym f
 
@@ -136,7 +136,6 @@ module _ (says : ℕ → Kind) where
           (seek-hidden B (cutBy says false q cut) (v + 1) (omega (arith, cut-lower false q cut)) ∙ ap hole (omega arith)))
           (λ t. rw (e, t, lt-ltb (baseOf P c) cut (leb-false _ _ t)))
       seek-at (p ∷ A) q B cut v f e =
-          let d : through (cutBy says false) (cutBy says false p cut) A ≡ through (cutBy says false) cut (p ∷ A) = refl in
           let w : v + 1 + (length A + 1) ≡ v + (suc (length A) + 1) = omega arith in
           let u : v + 1 + (length A + 1 + length B) ≡ v + (suc (length A) + 1 + length B) = omega arith in
           rw (f p (inl refl)) (rw (← w, ← u) (seek-at A q B (cutBy says false p cut) (v + 1) (λ x i. f x (inr i)) e))

@@ -138,7 +138,7 @@ module _ (says : ℕ → Kind) where
     unfoldable pub chunkWalk : Trace → Looked
     chunkWalk t = chunkReached (behind t) (reach 0 Nothing 0 t)
 
-  -- a size lookup; no copy has chunk number 0
+  -- a size lookup, which asks for no chunk: none has the number 0
   unfoldable pub sizeWalk : ℕ → Trace → Sized
   sizeWalk P t = sizeReached (reach P 0 0 Nothing 0 t)
 
