@@ -6,36 +6,42 @@
 -- looked for are the same. So the ids of the live slots are those of the live objects, each once; both lists ascend, and are the same.
 use Prim.Native.Nat.{ℕ, _+_, _≤_, _<_}
 use mathlib.Core.Bool.{Bool, true, false}
-use mathlib.Core.List.{List, [], _∷_, _++_}
+use mathlib.Core.List.{List, [], _∷_}
+use mathlib.Core.Logic.{⊎-elim}
 use mathlib.Core.Option.{Option, none, some}
 use mathlib.Core.Path.{_≡_, refl, sym, ap, _∙_}
 use native.Mathlib.Omega.{arith}
 use lib.ListN.{length}
 use lib.Dec.{eqb, ltb}
+use types.Run.{OneOf}
+use denote.Enum.Declared.{tagOf}
 use borrow.Author.Tests.{eqb-true, eqb-false, eq-eqb, ne-eqb, lt-ltb, le-ltb}
 use Rattle.page.specs.Choice.{pick}
 use Rattle.page.specs.Counts.{isHeader}
 use Rattle.page.specs.Search.{count}
 use Rattle.page.specs.declared.kind.Kind.{Kind}
-use Rattle.page.specs.declared.kind.Kind.the-variants.{Blank}
-use Rattle.page.specs.declared.refusal.Refusal.the-variants.{ShortIndex}
-use Rattle.page.proofs.Searching.{by-test}
-use Rattle.chunk.specs.Records.{ageOf, objectOf, isOf, headerOf, isGone}
+use Rattle.page.specs.declared.kind.Kind.the-variants.{Blank, Foreign, Damaged, Header, Data}
+use Rattle.page.specs.declared.refusal.Refusal.the-variants.{ShortBuffer, ShortIndex, IndexDamaged}
+use Rattle.page.specs.declared.refusal.Refusal.{Refusal}
+use Rattle.page.proofs.Searching.{by-test, pick-cases}
+use Rattle.chunk.specs.Records.{ageOf, isOf, headerOf, isGone}
 use Rattle.chunk.specs.Newest.{newestHeader}
-use Rattle.chunk.specs.Live.{idsOf, liveIds}
+use Rattle.chunk.specs.Live.{liveIds}
 use Rattle.chunk.specs.Lists.{listedBy}
 use Rattle.chunk.specs.declared.answer.Listed.the-variants as listed
+use Rattle.chunk.specs.declared.answer.Tallied.the-variants as tallied
 use Rattle.chunk.proofs.Ascending.{same-members}
-use Rattle.chunk.proofs.Living.{Bears, Live, newest-found, ids-in, ids-of, ids-ascend, live-ids-ascend, live-in, live-of}
+use Rattle.chunk.proofs.Living.{Bears, Live, newest-found, ids-in, ids-of, ids-length, ids-ascend, count-below, live-ids-ascend, live-in, live-of}
 use Rattle.index.specs.Cells.{cellsFor, keys}
 use Rattle.index.specs.Slots.{slot}
 use Rattle.index.specs.Chains.{objects, top, clean, trace, chain}
 use Rattle.index.specs.Held.{seen, recs, fromList, Held}
 use Rattle.index.specs.Walks.{seenSays, reach}
-use Rattle.index.specs.Listing.{isLive, isDamaged, standing, standingOf, isOwn, standingAt, liveSlot, damagedSlot, slotIds, listIn}
+use Rattle.index.specs.Listing.{isLive, isDamaged, standing, standingOf, isOwn, standingAt, liveSlot, damagedSlot, slotIds, tallyIn, listIn}
 use Rattle.index.specs.declared.list.Standing.{Standing}
 use Rattle.index.specs.declared.list.Standing.the-variants as standing
 use Rattle.index.specs.declared.walks.Met.the-variants.{Nothing}
+use Rattle.index.proofs.list.Standing.{the-type}
 use Rattle.index.proofs.Records.{In}
 use Rattle.index.proofs.Counts.{count-nothing}
 use Rattle.index.proofs.Ordering.{never}
@@ -54,6 +60,20 @@ some-chain x [] i e = i
 some-chain x (q ∷ L) i e = let z : _≡_ {A = ℕ} 0 1 = cc in omega arith
 
 -- ---- on any cells
+
+-- a page that is no header has no parent
+pub other-gone : (k : Kind) → isHeader k ≡ false → isGone k ≡ false
+other-gone Blank e = refl
+other-gone Foreign e = refl
+other-gone Damaged e = refl
+other-gone (Header s o t p z m) e = never (sym e)
+other-gone (Data s o c n) e = refl
+
+-- what a `let .. else` on a live slot leaves: one that is not
+pub else-live : (x : Standing) → OneOf (1 ∷ 2 ∷ []) (tagOf the-type x) → isLive x ≡ false
+else-live standing.Live h = absurd (⊎-elim (λ e. omega arith) (λ e. omega arith) h)
+else-live standing.Damaged h = refl
+else-live standing.Other h = refl
 
 -- a slot that is where its object is looked for
 module _ (c : List ℕ) (n s : ℕ) where
@@ -79,6 +99,39 @@ module _ (says : ℕ → Kind) (P : ℕ) (c : List ℕ) (n : ℕ) where
   unfolding listIn
   list-short room h = rw (lt-ltb (length c) (cellsFor n) h)
 
+  -- the tally: a damaged slot refuses it, and else it counts the live slots
+  pub tally-damaged : (s : ℕ) → s < n → standingAt says P c n s ≡ standing.Damaged → tallyIn says P c n ≡ tallied.Refused IndexDamaged
+  unfolding tallyIn
+  tally-damaged s h e =
+      let k = count-below (damagedSlot says P c n) s n h (rw e) in
+      rw (lt-ltb 0 (count (damagedSlot says P c n) n) (omega arith))
+
+  pub tally-whole : count (damagedSlot says P c n) n ≡ 0 → tallyIn says P c n ≡ tallied.Count (count (liveSlot says P c n) n)
+  unfolding tallyIn
+  tally-whole e = rw e
+
+  -- what a tally of m tells of a listing into so many words
+  abbrev pub Counted : ℕ → ℕ → Type 0
+  Counted room m = (m ≡ count (liveSlot says P c n) n) × (listIn says P c n room ≡ pick (ltb room m) (listed.Refused ShortBuffer m) (listed.Ids m))
+
+  -- and a listing goes by it
+  module _ (room : ℕ) (enough : cellsFor n ≤ length c) where
+    pub list-refused : (r : Refusal) → tallyIn says P c n ≡ tallied.Refused r → listIn says P c n room ≡ listed.Refused r 0
+    unfolding tallyIn listIn
+    list-refused r e =
+        rw (le-ltb (length c) (cellsFor n) enough)
+        (pick-cases (ltb 0 (count (damagedSlot says P c n) n)) _ _ _ _ e
+        (λ t q. let same : IndexDamaged ≡ r = cc in rw (t, same))
+        (λ t q. let z : _≡_ {A = ℕ} 0 1 = cc in absurd (omega arith)))
+
+    pub list-counted : (m : ℕ) → tallyIn says P c n ≡ tallied.Count m → Counted room m
+    unfolding tallyIn listIn listedBy slotIds
+    list-counted m e =
+        rw (le-ltb (length c) (cellsFor n) enough, ids-length (liveSlot says P c n) (keys c) n)
+        (pick-cases (ltb 0 (count (damagedSlot says P c n) n)) _ _ _ _ e
+        (λ t q. let z : _≡_ {A = ℕ} 0 1 = cc in absurd (omega arith))
+        (λ t q. let same : m ≡ count (liveSlot says P c n) n = cc in (same, rw (t, same))))
+
   -- a live slot is one where its object is looked for, and its object is live
   live-slot : (s : ℕ) → liveSlot says P c n s ≡ true → (isOwn c n s ≡ true) × (isLive (standingOf says P c n (keys c s)) ≡ true)
   live-slot s e =
@@ -87,7 +140,7 @@ module _ (says : ℕ → Kind) (P : ℕ) (c : List ℕ) (n : ℕ) where
       (λ t. never (rw (at-other s t) at e))
 
   -- one object is looked for in one slot
-  slots-apart : (s s′ : ℕ) → liveSlot says P c n s ≡ true → liveSlot says P c n s′ ≡ true → keys c s ≡ keys c s′ → s ≡ s′
+  pub slots-apart : (s s′ : ℕ) → liveSlot says P c n s ≡ true → liveSlot says P c n s′ ≡ true → keys c s ≡ keys c s′ → s ≡ s′
   slots-apart s s′ t u e =
       sym (own-key c n s (live-slot s t .0) .1) ∙ ap (slot n (keys c)) e ∙ own-key c n s′ (live-slot s′ u .0) .1
 

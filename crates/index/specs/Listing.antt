@@ -19,6 +19,8 @@ use Rattle.chunk.specs.Live.{idsOf}
 use Rattle.chunk.specs.Lists.{listedBy}
 use Rattle.chunk.specs.declared.answer.Listed.{Listed}
 use Rattle.chunk.specs.declared.answer.Listed.the-variants as listed
+use Rattle.chunk.specs.declared.answer.Tallied.{Tallied}
+use Rattle.chunk.specs.declared.answer.Tallied.the-variants as tallied
 use Rattle.index.specs.Cells.{cellsFor, keys}
 use Rattle.index.specs.Slots.{slot, used}
 use Rattle.index.specs.Walks.{reach, chainOf}
@@ -67,7 +69,11 @@ module _ (says : ℕ → Kind) (P : ℕ) (cells : List ℕ) (n : ℕ) where
   unfoldable pub slotIds : List ℕ
   slotIds = idsOf liveSlot (keys cells) n
 
-  -- listing them into so many words: every link is met before they are counted
+  -- how many they are, if no damaged link is met
+  unfoldable pub tallyIn : Tallied
+  tallyIn = pick (ltb 0 (count damagedSlot n)) (tallied.Refused IndexDamaged) (tallied.Count (count liveSlot n))
+
+  -- listing them into so many words
   unfoldable pub listIn : ℕ → Listed
   listIn room =
       pick (ltb (length cells) (cellsFor n)) (listed.Refused ShortIndex 0)

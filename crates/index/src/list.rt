@@ -1,8 +1,177 @@
-// Listing the live objects by the index.
+// Listing the live objects by the index, on any cells: slot by slot, down each object's chain to its newest header.
+ghost use mathlib.Core.Path.{_≡_};
+ghost use Prim.Native.Nat.{_≤_, _<_};
+ghost use lib.ListN.{length};
+ghost use Rattle.page.specs.Search.{count};
+ghost use Rattle.page.specs.Kinds.{kindAt};
+ghost use Rattle.chunk.specs.Records.{isGone};
+ghost use Rattle.chunk.specs.Lists.{inFront, wordsBy};
+ghost use Rattle.index.specs.Cells.{cellsFor};
+ghost use Rattle.index.specs.Listing.{standing, standingAt, liveSlot, slotIds, tallyIn, listIn, idsFrom, listFrom};
+use crate::cells::cells_for;
+use crate::cells::key_at;
+use crate::slots::first_of;
+use crate::slots::slot_of;
+use crate::walks::Reached;
+use crate::walks::reach_header;
+use chunk::answer::Listed;
+use chunk::answer::Tallied;
+use chunk::list::insert_id;
+use chunk::scan::DELETED;
+use chunk::scan::UNLINKED;
+use page::kind::Kind;
+use page::kind::kind_at;
+use page::layout::Layout;
+use page::layout::Opened;
+use page::number::ChunkNumber;
+use page::number::ObjectId;
+use page::refusal::Refusal;
 
-// How the object of a slot stands: live, met by a damaged link, or neither.
+// How an object stands: it is live, a damaged link was met, or neither.
 pub enum Standing {
     Live,
     Damaged,
     Other,
+}
+
+// Whether a page that says k is a header under parent 3 or 4.
+fn is_gone(k: Kind) -> bool
+    ensures { λ r. ⌜ r ≡ isGone k ⌝ }
+{
+    let Kind::Header {
+        sequence: _,
+        object: _,
+        page_type: _,
+        parent,
+        size: _,
+        shrink: _,
+    } = k
+    else {
+        return false;
+    };
+    if parent.0 == UNLINKED {
+        return true;
+    }
+    parent.0 == DELETED
+}
+
+// How an object stands by what the walk to its newest header reached.
+fn standing_of(dump: &[u8], l: Layout, r: Reached) -> Standing
+    ensures { λ s. ⌜ s ≡ standing (kindAt l (now (dump .entry))) r ⌝ }
+{
+    match r {
+        Reached::Refused(no, _) => {
+            if no.number() == 13 {
+                return Standing::Damaged;
+            }
+            Standing::Other
+        }
+        Reached::Header(h, _, _, _) => {
+            if is_gone(kind_at(dump, l, h)) {
+                return Standing::Other;
+            }
+            Standing::Live
+        }
+    }
+}
+
+// How the object of slot s stands, if that is where the object is looked for.
+fn standing_at(dump: &[u8], l: Layout, pages: u32, cells: &[u32], s: u32) -> Standing
+    requires { ⌜ s < pages ⌝ }
+    requires { ⌜ cellsFor pages ≤ length (now cells) ⌝ }
+    ensures { λ r. ⌜ r ≡ standingAt (kindAt l (now (dump .entry))) (l .«data») (now (cells .entry)) pages s ⌝ }
+{
+    let i = key_at(s);
+    let o = ObjectId(cells[i]);
+    if o.0 == 0 {
+        return Standing::Other;
+    }
+    if slot_of(cells, o, pages) != s {
+        return Standing::Other;
+    }
+    let first = first_of(cells, o, s);
+    standing_of(
+        dump,
+        l,
+        reach_header(dump, l, pages, cells, o, ChunkNumber(0), first),
+    )
+}
+
+// How many slots are live, if no damaged link is met.
+fn tally_in(dump: &[u8], l: Layout, pages: u32, cells: &[u32]) -> Tallied
+    requires { ⌜ cellsFor pages ≤ length (now cells) ⌝ }
+    ensures { λ r. ⌜ r ≡ tallyIn (kindAt l (now (dump .entry))) (l .«data») (now (cells .entry)) pages ⌝ }
+{
+    let mut count: u32 = 0;
+    let mut s: u32 = 0;
+    while s < pages {
+        let standing = standing_at(dump, l, pages, cells, s);
+        s += 1;
+        match standing {
+            Standing::Live => {
+                count += 1;
+            }
+            Standing::Damaged => {
+                return Tallied::Refused(Refusal::IndexDamaged);
+            }
+            Standing::Other => {
+                continue;
+            }
+        }
+    }
+    Tallied::Count(count)
+}
+
+// Writes the ids of the live slots, ascending, to words that have room for them.
+fn write_ids(dump: &[u8], l: Layout, pages: u32, cells: &[u32], words: &mut [u32])
+    requires { ⌜ cellsFor pages ≤ length (now cells) ⌝ }
+    requires { ⌜ count (liveSlot (kindAt l (now dump)) (l .«data») (now cells) pages) pages ≤ length (now words) ⌝ }
+    ensures { λ _. ⌜ now (words .exit) ≡ inFront (slotIds (kindAt l (now (dump .entry))) (l .«data») (now (cells .entry)) pages) (now (words .entry)) ⌝ }
+{
+    let mut count: usize = 0;
+    let mut s: u32 = 0;
+    while s < pages {
+        let standing = standing_at(dump, l, pages, cells, s);
+        let i = key_at(s);
+        s += 1;
+        let Standing::Live = standing else {
+            continue;
+        };
+        insert_id(words, count, ObjectId(cells[i]));
+        count += 1;
+    }
+}
+
+// Lists the live objects of a dump of so many pages.
+fn list_in(dump: &[u8], l: Layout, pages: u32, cells: &[u32], words: &mut [u32]) -> Listed
+    ensures { λ r. ⌜ r ≡ listIn (kindAt l (now (dump .entry))) (l .«data») (now (cells .entry)) pages (length (now (words .entry))) ⌝ }
+    ensures { λ r. ⌜ now (words .exit) ≡ wordsBy (slotIds (kindAt l (now (dump .entry))) (l .«data») (now (cells .entry)) pages) (now (words .entry)) r ⌝ }
+{
+    if cells.len() < cells_for(pages) {
+        return Listed::Refused(Refusal::ShortIndex, 0);
+    }
+    let tally = tally_in(dump, l, pages, cells);
+    match tally {
+        Tallied::Refused(r) => Listed::Refused(r, 0),
+        Tallied::Count(need) => {
+            if words.len() < (need as usize) {
+                return Listed::Refused(Refusal::ShortBuffer, need);
+            }
+            write_ids(dump, l, pages, cells, words);
+            Listed::Ids(need)
+        }
+    }
+}
+
+// Lists the live objects of a dump of a named layout in blocks of k, by its index: their ids, ascending, are written to the words, if they all
+// fit.
+pub fn list(dump: &[u8], l: Layout, k: u32, cells: &[u32], words: &mut [u32]) -> Listed
+    ensures { λ r. ⌜ r ≡ listFrom l k (now (dump .entry)) (now (cells .entry)) (length (now (words .entry))) ⌝ }
+    ensures { λ r. ⌜ now (words .exit) ≡ wordsBy (idsFrom l k (now (dump .entry)) (now (cells .entry))) (now (words .entry)) r ⌝ }
+{
+    let p = l.opened(dump.len(), k);
+    match p {
+        Opened::Refused(r) => Listed::Refused(r, 0),
+        Opened::Pages(pages) => list_in(dump, l, pages, cells, words),
+    }
 }

@@ -1,0 +1,89 @@
+-- The loop's invariant: the ids of the live slots passed stand in front of the words, ascending, and the count is how many they are.
+use Prim.Native.Nat.{_≤_, _<_, _-_}
+use mathlib.Core.Bool.{true}
+use mathlib.Core.Path.{_≡_, refl, sym, ap, _∙_}
+use lib.ListN.{length}
+use native.Mathlib.Omega.{arith}
+use borrow.Author.Needs.{needs}
+use Rattle.page.specs.Search.{count}
+use Rattle.page.specs.Kinds.{kindAt}
+use Rattle.page.proofs.Searching.{count-none}
+use Rattle.chunk.specs.Live.{idsOf}
+use Rattle.chunk.specs.Lists.{inFront}
+use Rattle.chunk.proofs.Living.{count-skip, count-take, count-below, ids-none, ids-skip, ids-written, ids-ascend}
+use Rattle.index.specs.Cells.{keys}
+use Rattle.index.specs.Listing.{isLive, liveSlot, slotIds}
+use Rattle.index.proofs.Listing.{else-live, slots-apart}
+use Rattle.index.proofs.list.write_ids.Statement.{statement}
+use Rattle.index.proofs.list.write_ids.Tie as tie
+
+abbrev Inv-loop : tie.InvT-loop
+Inv-loop dump l pages cells words₀ count₀ s₀ words count₁ s =
+    (s ≤ pages)
+    × (count₁ ≤ s)
+    × (length words ≡ length words₀)
+    × (count₁ ≡ count (liveSlot (kindAt l dump) (l .«data») cells pages) s)
+    × (words ≡ inFront (idsOf (liveSlot (kindAt l dump) (l .«data») cells pages) (keys cells) s) words₀)
+
+abbrev μ-loop : tie.MeasureT-loop
+μ-loop dump l pages cells words₀ count₀ s₀ words count₁ s = pages - s
+
+loop-holds : tie.Need-loop-holds Inv-loop μ-loop
+loop-holds c = (search needs, search needs, refl, rw count-none, rw ids-none)
+
+loop-again : tie.Need-loop-again Inv-loop μ-loop
+loop-again c =
+    let a = c .before .before in
+    let q = a .before .before .loop in
+    let t = ap isLive (sym (a .standing-at .ensures)) ∙ else-live (a .standing-at .result) (c .match .keys2) in
+    (search needs, search needs, search needs, rw (count-skip _ (q .s) t) (q .inv .3), rw (ids-skip _ _ (q .s) t) (q .inv .4))
+
+loop-again-2 : tie.Need-loop-again-2 Inv-loop μ-loop
+loop-again-2 c =
+    let w = c .before .before in
+    let m = w .before .before .before in
+    let i = m .before .before in
+    let a = i .before in
+    let q = a .before .before .loop in
+    let s = a .before .before .before .before .before .before in
+    let says = kindAt (s .args .l) (s .args .dump .now) in
+    let test = liveSlot says (s .args .l .«data») (s .args .cells .now) (s .args .pages) in
+    let t : test (q .s) ≡ true = ap isLive (sym (a .standing-at .ensures) ∙ m .enum-told .given .1) in
+    let room : q .count < length (s .args .words .now) = omega (arith, count-below test (q .s) (s .args .pages) (a .before .loop-test .taken) t, s .pre .1, q .inv .3) in (
+      search needs,
+      search needs,
+      w .insert-id .kept .0 ∙ q .inv .2,
+      rw (count-take test (q .s) t, q .inv .3),
+      w .insert-id .ensures
+          ∙ rw (i .key-at .ensures)
+          (ids-written test (keys (s .args .cells .now)) (q .words) (s .args .words .now) (q .count) (q .s)
+          (ids-ascend test (keys (s .args .cells .now)) (slots-apart says (s .args .l .«data») (s .args .cells .now) (s .args .pages)) (q .s)) t (q .inv .3) room (q .inv .4)),
+    )
+
+returns : tie.Need-returns Inv-loop μ-loop
+unfolding slotIds
+returns c =
+    let e : c .before .loop .s ≡ c .before .before .before .before .before .args .pages = omega arith in
+    rw e at (c .before .loop .inv .4)
+
+pub write-ids-spec : {M : Type 1} → statement M
+write-ids-spec =
+    tie.close
+    (tie.spec
+    Inv-loop
+    μ-loop
+    loop-holds
+    (search needs)
+    (search needs)
+    (search needs)
+    (search needs)
+    (search needs)
+    loop-again
+    (search needs)
+    (search needs)
+    (search needs)
+    (search needs)
+    (search needs)
+    loop-again-2
+    (search needs)
+    returns)
