@@ -201,6 +201,9 @@ lohenarr_chunk_answer lohenarr_chunk(const uint8_t *dump, size_t len, uint32_t l
 lohenarr_chunk_answer lohenarr_read(const uint8_t *dump, size_t len, uint32_t layout, uint32_t k, const uint32_t *cells, size_t cells_len, uint32_t object, uint32_t n, uint8_t *buffer, size_t buffer_len);
 lohenarr_place_answer lohenarr_part(const uint8_t *dump, size_t len, uint32_t layout, uint32_t k, const uint32_t *cells, size_t cells_len, uint32_t object, uint32_t n);
 
+/* The ids of the live objects, written in ascending order, by an index. */
+lohenarr_list_answer lohenarr_list(const uint8_t *dump, size_t len, uint32_t layout, uint32_t k, const uint32_t *cells, size_t cells_len, uint32_t *words, size_t words_len);
+
 #ifdef __cplusplus
 }
 #endif

@@ -227,6 +227,7 @@ extern "C" {
     fn lohenarr_chunk(dump: *const u8, len: usize, layout: u32, k: u32, cells: *const u32, cells_len: usize, object: u32, n: u32) -> ChunkAnswer;
     fn lohenarr_read(dump: *const u8, len: usize, layout: u32, k: u32, cells: *const u32, cells_len: usize, object: u32, n: u32, buffer: *mut u8, buffer_len: usize) -> ChunkAnswer;
     fn lohenarr_part(dump: *const u8, len: usize, layout: u32, k: u32, cells: *const u32, cells_len: usize, object: u32, n: u32) -> PlaceAnswer;
+    fn lohenarr_list(dump: *const u8, len: usize, layout: u32, k: u32, cells: *const u32, cells_len: usize, words: *mut u32, words_len: usize) -> ListAnswer;
 }
 
 /// The most bytes that a dump has.
@@ -364,4 +365,11 @@ pub fn read(dump: &[u8], layout: u32, k: u32, cells: &[u32], object: u32, n: u32
 pub fn part(dump: &[u8], layout: u32, k: u32, cells: &[u32], object: u32, n: u32) -> PlaceAnswer {
     let (at, words) = (cells.as_ptr(), cells.len());
     unsafe { lohenarr_part(dump.as_ptr(), dump.len(), layout, k, at, words, object, n) }
+}
+
+/// The ids of the live objects, ascending, by the index.
+pub fn list(dump: &[u8], layout: u32, k: u32, cells: &[u32], words: &mut [u32]) -> ListAnswer {
+    let (at, count) = (cells.as_ptr(), cells.len());
+    let (to, room) = (words.as_mut_ptr(), words.len());
+    unsafe { lohenarr_list(dump.as_ptr(), dump.len(), layout, k, at, count, to, room) }
 }

@@ -61,7 +61,7 @@ impl<'d> Objects<'d> {
     }
 
     fn list_into(&self, words: &mut [u32]) -> ListAnswer {
-        ffi::dump_list(self.dump, self.layout, self.k, words)
+        ffi::list(self.dump, self.layout, self.k, &self.cells, words)
     }
 }
 

@@ -1,21 +1,26 @@
-// Starting an index in lent words, adding pages to it, and the lookups of an object by it.
+// Starting an index in lent words, adding pages to it, and the lookups of an object and the live list by it.
 ghost use mathlib.Core.Path.{_≡_};
 ghost use lib.ListN.{length, take, drop};
 ghost use Rattle.page.specs.Layouts.{layoutAt};
 ghost use Rattle.chunk.specs.Answers.{readBy, bufferBy, partBy};
+ghost use Rattle.chunk.specs.Lists.{wordsBy};
 ghost use Rattle.index.specs.Additions.{startOf, addOf};
+ghost use Rattle.index.specs.Listing.{listFrom, idsFrom};
 ghost use Rattle.index.specs.Walks.{sizeFrom, chunkFrom};
-ghost use Rattle.capi.specs.Lookups.{sizeAnswer, chunkAnswer, placeAnswer, addedAnswer};
+ghost use Rattle.capi.specs.Lookups.{sizeAnswer, chunkAnswer, placeAnswer, listAnswer, addedAnswer};
 use crate::answer::ChunkAnswer;
+use crate::answer::ListAnswer;
 use crate::answer::PlaceAnswer;
 use crate::answer::SizeAnswer;
 use crate::answer::added_answer;
 use crate::answer::chunk_answer;
+use crate::answer::list_answer;
 use crate::answer::place_answer;
 use crate::answer::size_answer;
 use crate::layout::layout_at;
 use index::additions::add;
 use index::additions::start;
+use index::list::list;
 use index::lookups::chunk;
 use index::lookups::read;
 use index::lookups::size;
@@ -128,4 +133,19 @@ pub extern "C" fn lohenarr_part(
         dump.len(),
         chunk(dump, l, k, cells, ObjectId(object), ChunkNumber(n)),
     )
+}
+
+// The ids of the live objects, written to words in ascending order. Words past them stay, and a refusal writes nothing.
+#[no_mangle]
+pub extern "C" fn lohenarr_list(
+    dump: &[u8],
+    layout: u32,
+    k: u32,
+    cells: &[u32],
+    words: &mut [u32],
+) -> ListAnswer
+    ensures { λ r. ⌜ r ≡ listAnswer (listFrom (layoutAt layout) k (now (dump .entry)) (now (cells .entry)) (length (now (words .entry)))) ⌝ }
+    ensures { λ _. ⌜ now (words .exit) ≡ wordsBy (idsFrom (layoutAt layout) k (now (dump .entry)) (now (cells .entry))) (now (words .entry)) (listFrom (layoutAt layout) k (now (dump .entry)) (now (cells .entry)) (length (now (words .entry)))) ⌝ }
+{
+    list_answer(list(dump, layout_at(layout), k, cells, words))
 }

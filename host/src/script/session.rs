@@ -72,7 +72,7 @@ impl<'d> Session<'d> {
             Request::Part { over, object, n } => self.part(over, object, n),
             Request::List { over, length } => {
                 answer.words = filled(length, WORD)?;
-                self.list(over, &mut answer.words)?
+                self.list(over, &mut answer.words)
             }
             _ => self.whole(request),
         };
@@ -168,15 +168,15 @@ impl<'d> Session<'d> {
         line::part(place, self.dump)
     }
 
-    fn list(&self, over: Over, words: &mut [u32]) -> Result<String, Failure> {
+    fn list(&self, over: Over, words: &mut [u32]) -> String {
         let answer = match over {
             Over::Dump(on) => ffi::dump_list(self.dump, on.layout, on.k, words),
-            Over::Index(_) => {
-                let missing = "list on the index is not there yet".to_string();
-                return Err(Failure::Usage(missing));
+            Over::Index(lent) => {
+                let (on, count) = self.given(lent);
+                ffi::list(self.dump, on.layout, on.k, &self.index[..count], words)
             }
         };
-        Ok(line::list(answer, words))
+        line::list(answer, words)
     }
 
     /// A word of the index memory.

@@ -4,7 +4,7 @@
 use lohenarr::script::request;
 use lohenarr::script::session::{Answer, Session};
 
-use crate::second::index::{Lent, Over};
+use crate::second::index::Lent;
 use crate::second::script::Request;
 
 /// The library with the memory that it is lent.
@@ -25,16 +25,9 @@ impl<'d> Library<'d> {
         }
     }
 
-    /// The answer to a request, or nothing for a call that is not there yet.
-    /// No words of the index may change but those that the call may write to.
-    pub fn answer(&mut self, request: &Request) -> Option<Answer> {
-        if let Request::List {
-            over: Over::Index(_),
-            ..
-        } = request
-        {
-            return None;
-        }
+    /// The answer to a request. No words of the index may change but those
+    /// that the call may write to.
+    pub fn answer(&mut self, request: &Request) -> Answer {
         self.before.clone_from(&self.session.index);
         let answer = self.session.answer(&read(request));
         let answer = answer.unwrap_or_else(|_| panic!("no answer to {request}"));
@@ -44,7 +37,7 @@ impl<'d> Library<'d> {
         };
         let kept = self.before[written..] == self.session.index[written..];
         assert!(kept, "{request} changed words that must stay");
-        Some(answer)
+        answer
     }
 
     /// How many words of the index a call may write to.

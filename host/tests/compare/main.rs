@@ -32,9 +32,7 @@ fn the_library_and_the_second_reader_agree() {
         let expected = case.answers(Wrong::None);
         let mut library = Library::new(&case.dump.bytes, &case.requests);
         for (request, expected) in case.requests.iter().zip(expected) {
-            let Some(answer) = library.answer(request) else {
-                continue;
-            };
+            let answer = library.answer(request);
             let place = || format!("seed {}: {request}", case.seed);
             assert_eq!(answer.line, expected.line, "{}", place());
             assert!(answer.bytes == expected.bytes, "{}: the buffer", place());
