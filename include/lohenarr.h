@@ -1,8 +1,9 @@
 /* Lohenarr: reads raw NAND dumps under YAFFS2. The calls of the proved
  * library libcapi.a, which `rt staticlib capi` builds.
  *
- * A dump is lent as a pointer and a length, and is only read. Every call takes
- * any bytes and any numbers, ends, and keeps nothing. A layout is given by its
+ * A dump is lent as a pointer and a length, and is only read; a buffer is lent
+ * to be written. Every call takes any bytes and any numbers, ends, and keeps
+ * nothing; one that is refused writes nothing. A layout is given by its
  * number in the table, 0 to 12; any other number is refused as BadLayout. k is
  * the number of pages in a block.
  *
@@ -90,6 +91,46 @@ typedef struct {
     size_t length;
 } lohenarr_part_answer;
 
+/* The size of a file, and the records visited. */
+typedef struct {
+    uint32_t refusal;
+    uint32_t visits;
+    uint64_t size;
+} lohenarr_size_answer;
+
+/* A chunk of a file: 1 in copy and the page that holds it, or a hole; the valid
+ * and the shown length, and the records visited. Beside ShortBuffer, need is
+ * the length needed. The visits count beside a refusal too. */
+typedef struct {
+    uint32_t refusal;
+    uint32_t visits;
+    uint32_t need;
+    uint32_t copy;
+    uint32_t page;
+    uint32_t valid;
+    uint32_t shown;
+} lohenarr_chunk_answer;
+
+/* A part of the dump; empty for a hole or a refusal. */
+typedef struct {
+    size_t offset;
+    size_t length;
+} lohenarr_place_answer;
+
+/* How many ids a listing wrote. Beside ShortBuffer, need is how many words it
+ * needs. */
+typedef struct {
+    uint32_t refusal;
+    uint32_t need;
+    uint32_t count;
+} lohenarr_list_answer;
+
+/* A number of objects. */
+typedef struct {
+    uint32_t refusal;
+    uint32_t count;
+} lohenarr_tally_answer;
+
 /* The most bytes that a dump has. */
 size_t lohenarr_most_bytes(void);
 
@@ -122,6 +163,46 @@ lohenarr_part_answer lohenarr_header_alias(const uint8_t *dump, size_t len, uint
 
 /* The reserved bytes of a header, 8 bytes. */
 lohenarr_part_answer lohenarr_header_reserved(const uint8_t *dump, size_t len, uint32_t layout, uint32_t k, uint32_t page);
+
+/* The size of an object, from the dump alone. */
+lohenarr_size_answer lohenarr_dump_size(const uint8_t *dump, size_t len, uint32_t layout, uint32_t k, uint32_t object);
+
+/* Chunk n of an object, numbered from 1, from the dump alone. */
+lohenarr_chunk_answer lohenarr_dump_chunk(const uint8_t *dump, size_t len, uint32_t layout, uint32_t k, uint32_t object, uint32_t n);
+
+/* Chunk n of an object, read into a buffer: the valid bytes, then zeros up to the shown length. */
+lohenarr_chunk_answer lohenarr_dump_read(const uint8_t *dump, size_t len, uint32_t layout, uint32_t k, uint32_t object, uint32_t n, uint8_t *buffer, size_t buffer_len);
+
+/* The valid bytes of chunk n of an object, as a part of the dump. */
+lohenarr_place_answer lohenarr_dump_part(const uint8_t *dump, size_t len, uint32_t layout, uint32_t k, uint32_t object, uint32_t n);
+
+/* The ids of the live objects, written in ascending order, from the dump alone. */
+lohenarr_list_answer lohenarr_dump_list(const uint8_t *dump, size_t len, uint32_t layout, uint32_t k, uint32_t *words, size_t words_len);
+
+/* How many objects are live. */
+lohenarr_tally_answer lohenarr_dump_live(const uint8_t *dump, size_t len, uint32_t layout, uint32_t k);
+
+/* How many objects have records. */
+lohenarr_tally_answer lohenarr_dump_objects(const uint8_t *dump, size_t len, uint32_t layout, uint32_t k);
+
+/* An index is lent as words: at least 4 for each page and 16. Between its start
+ * and a lookup nobody else may write to it; whatever it holds, every call ends.
+ * Every call on it is given the same dump and layout.
+ *
+ * Makes an index empty, whatever its words held: the refusal's number, or 0. */
+uint32_t lohenarr_start(const uint8_t *dump, size_t len, uint32_t layout, uint32_t k, uint32_t *cells, size_t cells_len);
+
+/* Adds a page to an index: the refusal's number, or 0. */
+uint32_t lohenarr_add(const uint8_t *dump, size_t len, uint32_t layout, uint32_t k, uint32_t *cells, size_t cells_len, uint32_t page);
+
+/* The lookups by an index answer as if pages that were not added were blank. */
+lohenarr_size_answer lohenarr_size(const uint8_t *dump, size_t len, uint32_t layout, uint32_t k, const uint32_t *cells, size_t cells_len, uint32_t object);
+lohenarr_chunk_answer lohenarr_chunk(const uint8_t *dump, size_t len, uint32_t layout, uint32_t k, const uint32_t *cells, size_t cells_len, uint32_t object, uint32_t n);
+lohenarr_chunk_answer lohenarr_read(const uint8_t *dump, size_t len, uint32_t layout, uint32_t k, const uint32_t *cells, size_t cells_len, uint32_t object, uint32_t n, uint8_t *buffer, size_t buffer_len);
+lohenarr_place_answer lohenarr_part(const uint8_t *dump, size_t len, uint32_t layout, uint32_t k, const uint32_t *cells, size_t cells_len, uint32_t object, uint32_t n);
+
+/* The ids of the live objects, written in ascending order, by an index. */
+lohenarr_list_answer lohenarr_list(const uint8_t *dump, size_t len, uint32_t layout, uint32_t k, const uint32_t *cells, size_t cells_len, uint32_t *words, size_t words_len);
 
 #ifdef __cplusplus
 }

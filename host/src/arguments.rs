@@ -45,6 +45,11 @@ impl std::fmt::Display for Named {
 /// A number, decimal or with 0x. One beyond 32 bits is taken as the largest
 /// of these, which every call refuses alike.
 pub fn number(text: &str) -> Option<u32> {
+    long(text).map(|n| u32::try_from(n).unwrap_or(u32::MAX))
+}
+
+/// A number of 64 bits, or the largest of these for one beyond them.
+pub fn long(text: &str) -> Option<u64> {
     let (digits, radix) = match text.strip_prefix("0x") {
         Some(digits) => (digits, 16),
         None => (text, 10),
@@ -52,9 +57,12 @@ pub fn number(text: &str) -> Option<u32> {
     if digits.is_empty() {
         return None;
     }
-    digits.chars().try_fold(0u32, |n, c| {
+    digits.chars().try_fold(0u64, |n, c| {
         let digit = c.to_digit(radix)?;
-        Some(n.saturating_mul(radix).saturating_add(digit))
+        Some(
+            n.saturating_mul(u64::from(radix))
+                .saturating_add(u64::from(digit)),
+        )
     })
 }
 

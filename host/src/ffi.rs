@@ -31,7 +31,10 @@ macro_rules! answers {
     };
 }
 
-answers! { LayoutAnswer PagesAnswer CountsAnswer KindAnswer HeaderAnswer PartAnswer }
+answers! {
+    LayoutAnswer PagesAnswer CountsAnswer KindAnswer HeaderAnswer PartAnswer SizeAnswer ChunkAnswer
+    ListAnswer TallyAnswer
+}
 
 /// A layout with its number in the table; beside a refusal the number is 13.
 #[repr(C)]
@@ -135,6 +138,69 @@ impl PartAnswer {
     }
 }
 
+/// The size of a file, and the records visited.
+#[repr(C)]
+#[derive(Clone, Copy, Debug, PartialEq, Eq)]
+pub struct SizeAnswer {
+    pub refusal: u32,
+    pub visits: u32,
+    pub size: u64,
+}
+
+/// A chunk of a file: a copy on a page where `copy` is 1, or a hole. Beside
+/// ShortBuffer `need` is the length needed.
+#[repr(C)]
+#[derive(Clone, Copy, Debug, PartialEq, Eq)]
+pub struct ChunkAnswer {
+    pub refusal: u32,
+    pub visits: u32,
+    pub need: u32,
+    pub copy: u32,
+    pub page: u32,
+    pub valid: u32,
+    pub shown: u32,
+}
+
+impl ChunkAnswer {
+    /// The page that holds the copy, unless it is a hole.
+    pub fn page(&self) -> Option<u32> {
+        (self.copy == 1).then_some(self.page)
+    }
+}
+
+/// A part of the dump; empty for a hole or a refusal.
+#[repr(C)]
+#[derive(Clone, Copy, Debug, PartialEq, Eq)]
+pub struct PlaceAnswer {
+    pub offset: usize,
+    pub length: usize,
+}
+
+impl PlaceAnswer {
+    /// The bytes of the part, in the dump that the call was given.
+    pub fn of(self, dump: &[u8]) -> &[u8] {
+        &dump[self.offset..self.offset + self.length]
+    }
+}
+
+/// How many ids a listing wrote. Beside ShortBuffer `need` is how many words
+/// it needs.
+#[repr(C)]
+#[derive(Clone, Copy, Debug, PartialEq, Eq)]
+pub struct ListAnswer {
+    pub refusal: u32,
+    pub need: u32,
+    pub count: u32,
+}
+
+/// A number of objects.
+#[repr(C)]
+#[derive(Clone, Copy, Debug, PartialEq, Eq)]
+pub struct TallyAnswer {
+    pub refusal: u32,
+    pub count: u32,
+}
+
 #[rustfmt::skip]
 extern "C" {
     fn lohenarr_most_bytes() -> usize;
@@ -148,6 +214,20 @@ extern "C" {
     fn lohenarr_header_name(dump: *const u8, len: usize, layout: u32, k: u32, page: u32) -> PartAnswer;
     fn lohenarr_header_alias(dump: *const u8, len: usize, layout: u32, k: u32, page: u32) -> PartAnswer;
     fn lohenarr_header_reserved(dump: *const u8, len: usize, layout: u32, k: u32, page: u32) -> PartAnswer;
+    fn lohenarr_dump_size(dump: *const u8, len: usize, layout: u32, k: u32, object: u32) -> SizeAnswer;
+    fn lohenarr_dump_chunk(dump: *const u8, len: usize, layout: u32, k: u32, object: u32, n: u32) -> ChunkAnswer;
+    fn lohenarr_dump_read(dump: *const u8, len: usize, layout: u32, k: u32, object: u32, n: u32, buffer: *mut u8, buffer_len: usize) -> ChunkAnswer;
+    fn lohenarr_dump_part(dump: *const u8, len: usize, layout: u32, k: u32, object: u32, n: u32) -> PlaceAnswer;
+    fn lohenarr_dump_list(dump: *const u8, len: usize, layout: u32, k: u32, words: *mut u32, words_len: usize) -> ListAnswer;
+    fn lohenarr_dump_live(dump: *const u8, len: usize, layout: u32, k: u32) -> TallyAnswer;
+    fn lohenarr_dump_objects(dump: *const u8, len: usize, layout: u32, k: u32) -> TallyAnswer;
+    fn lohenarr_start(dump: *const u8, len: usize, layout: u32, k: u32, cells: *mut u32, cells_len: usize) -> u32;
+    fn lohenarr_add(dump: *const u8, len: usize, layout: u32, k: u32, cells: *mut u32, cells_len: usize, page: u32) -> u32;
+    fn lohenarr_size(dump: *const u8, len: usize, layout: u32, k: u32, cells: *const u32, cells_len: usize, object: u32) -> SizeAnswer;
+    fn lohenarr_chunk(dump: *const u8, len: usize, layout: u32, k: u32, cells: *const u32, cells_len: usize, object: u32, n: u32) -> ChunkAnswer;
+    fn lohenarr_read(dump: *const u8, len: usize, layout: u32, k: u32, cells: *const u32, cells_len: usize, object: u32, n: u32, buffer: *mut u8, buffer_len: usize) -> ChunkAnswer;
+    fn lohenarr_part(dump: *const u8, len: usize, layout: u32, k: u32, cells: *const u32, cells_len: usize, object: u32, n: u32) -> PlaceAnswer;
+    fn lohenarr_list(dump: *const u8, len: usize, layout: u32, k: u32, cells: *const u32, cells_len: usize, words: *mut u32, words_len: usize) -> ListAnswer;
 }
 
 /// The most bytes that a dump has.
@@ -203,4 +283,93 @@ pub fn header_alias(dump: &[u8], layout: u32, k: u32, page: u32) -> PartAnswer {
 /// The reserved bytes of a header, as a part of the dump.
 pub fn header_reserved(dump: &[u8], layout: u32, k: u32, page: u32) -> PartAnswer {
     unsafe { lohenarr_header_reserved(dump.as_ptr(), dump.len(), layout, k, page) }
+}
+
+/// The size of an object, from the dump alone.
+pub fn dump_size(dump: &[u8], layout: u32, k: u32, object: u32) -> SizeAnswer {
+    unsafe { lohenarr_dump_size(dump.as_ptr(), dump.len(), layout, k, object) }
+}
+
+/// A chunk of an object, from the dump alone.
+pub fn dump_chunk(dump: &[u8], layout: u32, k: u32, object: u32, n: u32) -> ChunkAnswer {
+    unsafe { lohenarr_dump_chunk(dump.as_ptr(), dump.len(), layout, k, object, n) }
+}
+
+/// A chunk of an object read into a buffer, from the dump alone.
+pub fn dump_read(
+    dump: &[u8],
+    layout: u32,
+    k: u32,
+    object: u32,
+    n: u32,
+    buffer: &mut [u8],
+) -> ChunkAnswer {
+    let (to, room) = (buffer.as_mut_ptr(), buffer.len());
+    unsafe { lohenarr_dump_read(dump.as_ptr(), dump.len(), layout, k, object, n, to, room) }
+}
+
+/// The valid bytes of a chunk, as a part of the dump, from the dump alone.
+pub fn dump_part(dump: &[u8], layout: u32, k: u32, object: u32, n: u32) -> PlaceAnswer {
+    unsafe { lohenarr_dump_part(dump.as_ptr(), dump.len(), layout, k, object, n) }
+}
+
+/// The ids of the live objects, ascending, from the dump alone.
+pub fn dump_list(dump: &[u8], layout: u32, k: u32, words: &mut [u32]) -> ListAnswer {
+    let (to, room) = (words.as_mut_ptr(), words.len());
+    unsafe { lohenarr_dump_list(dump.as_ptr(), dump.len(), layout, k, to, room) }
+}
+
+/// How many objects are live.
+pub fn dump_live(dump: &[u8], layout: u32, k: u32) -> TallyAnswer {
+    unsafe { lohenarr_dump_live(dump.as_ptr(), dump.len(), layout, k) }
+}
+
+/// How many objects have records.
+pub fn dump_objects(dump: &[u8], layout: u32, k: u32) -> TallyAnswer {
+    unsafe { lohenarr_dump_objects(dump.as_ptr(), dump.len(), layout, k) }
+}
+
+/// Makes an index empty: the number of the refusal, or 0.
+pub fn start(dump: &[u8], layout: u32, k: u32, cells: &mut [u32]) -> u32 {
+    let (at, words) = (cells.as_mut_ptr(), cells.len());
+    unsafe { lohenarr_start(dump.as_ptr(), dump.len(), layout, k, at, words) }
+}
+
+/// Adds a page to an index: the number of the refusal, or 0.
+pub fn add(dump: &[u8], layout: u32, k: u32, cells: &mut [u32], page: u32) -> u32 {
+    let (at, words) = (cells.as_mut_ptr(), cells.len());
+    unsafe { lohenarr_add(dump.as_ptr(), dump.len(), layout, k, at, words, page) }
+}
+
+/// The size of an object, by the index.
+pub fn size(dump: &[u8], layout: u32, k: u32, cells: &[u32], object: u32) -> SizeAnswer {
+    let (at, words) = (cells.as_ptr(), cells.len());
+    unsafe { lohenarr_size(dump.as_ptr(), dump.len(), layout, k, at, words, object) }
+}
+
+/// A chunk of an object, by the index.
+pub fn chunk(dump: &[u8], layout: u32, k: u32, cells: &[u32], object: u32, n: u32) -> ChunkAnswer {
+    let (at, words) = (cells.as_ptr(), cells.len());
+    unsafe { lohenarr_chunk(dump.as_ptr(), dump.len(), layout, k, at, words, object, n) }
+}
+
+/// A chunk of an object read into a buffer, by the index.
+#[rustfmt::skip]
+pub fn read(dump: &[u8], layout: u32, k: u32, cells: &[u32], object: u32, n: u32, buffer: &mut [u8]) -> ChunkAnswer {
+    let (at, words) = (cells.as_ptr(), cells.len());
+    let (to, room) = (buffer.as_mut_ptr(), buffer.len());
+    unsafe { lohenarr_read(dump.as_ptr(), dump.len(), layout, k, at, words, object, n, to, room) }
+}
+
+/// The valid bytes of a chunk, as a part of the dump, by the index.
+pub fn part(dump: &[u8], layout: u32, k: u32, cells: &[u32], object: u32, n: u32) -> PlaceAnswer {
+    let (at, words) = (cells.as_ptr(), cells.len());
+    unsafe { lohenarr_part(dump.as_ptr(), dump.len(), layout, k, at, words, object, n) }
+}
+
+/// The ids of the live objects, ascending, by the index.
+pub fn list(dump: &[u8], layout: u32, k: u32, cells: &[u32], words: &mut [u32]) -> ListAnswer {
+    let (at, count) = (cells.as_ptr(), cells.len());
+    let (to, room) = (words.as_mut_ptr(), words.len());
+    unsafe { lohenarr_list(dump.as_ptr(), dump.len(), layout, k, at, count, to, room) }
 }

@@ -7,11 +7,17 @@
 //! - `arguments`: what was typed.
 //! - `refusal`: the names of the refusals, and what each means.
 //! - `failure`: why a command ends without its answer.
+//! - `objects`: the objects of a dump and their chunks, as the commands ask for them.
 //! - `commands`: a file for each command.
+//! - `script`: the requests of a script and their answers.
+//! - `crc`: CRC-32, by which a script's answers show bytes.
 
 pub mod arguments;
 pub mod commands;
+pub mod crc;
 pub mod failure;
 pub mod ffi;
 pub mod map;
+pub mod objects;
 pub mod refusal;
+pub mod script;

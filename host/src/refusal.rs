@@ -23,6 +23,10 @@ const NAMES: [&str; 16] = [
     "NotHeader",
 ];
 
+/// Refusals that a command acts on.
+pub const NOT_A_FILE: u32 = 9;
+pub const SHORT_BUFFER: u32 = 11;
+
 /// The name of a refusal.
 pub fn name(refusal: u32) -> &'static str {
     let name = NAMES.get((refusal as usize).wrapping_sub(1));
@@ -38,6 +42,13 @@ pub struct Asked<'a> {
     pub page: u32,
     pub object: u32,
     pub chunk: u32,
+}
+
+impl Asked<'_> {
+    /// The same asked of an object.
+    pub fn of(self, object: u32) -> Self {
+        Asked { object, ..self }
+    }
 }
 
 /// One sentence on why a request was refused.
@@ -59,6 +70,7 @@ pub fn meaning(refusal: u32, asked: Asked<'_>) -> String {
         "NoHeader" => format!("object {object} has data pages and no header"),
         "Deleted" => format!("the newest header of object {object} says that it is deleted"),
         "NotAFile" => format!("object {object} is no file"),
+        "PastEnd" => past_end(asked),
         "BadPage" => bad_page(asked),
         "NotHeader" => format!("page {page} is no header: it is {}", kind_of(asked)),
         _ => "see the table of refusals in the README".to_string(),
@@ -86,6 +98,13 @@ fn bad_length(asked: Asked<'_>) -> String {
         Some(named) => format!("{len} bytes are no whole blocks of {block} pages of {named}"),
         None => format!("{len} bytes are no whole blocks of {block} pages"),
     }
+}
+
+fn past_end(asked: Asked<'_>) -> String {
+    let layout = asked.layout.map_or(0, Named::number);
+    let Asked { object, chunk, .. } = asked;
+    let size = ffi::dump_size(asked.dump, layout, asked.block, object).size;
+    format!("object {object} ends at byte {size}, before chunk {chunk}")
 }
 
 fn bad_page(asked: Asked<'_>) -> String {

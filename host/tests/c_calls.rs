@@ -40,6 +40,11 @@ fn places() -> String {
         ),
         ("header_answer.shrink", offset_of!(HeaderAnswer, shrink)),
         ("part_answer.length", offset_of!(PartAnswer, length)),
+        ("size_answer.size", offset_of!(SizeAnswer, size)),
+        ("chunk_answer.shown", offset_of!(ChunkAnswer, shown)),
+        ("place_answer.length", offset_of!(PlaceAnswer, length)),
+        ("list_answer.count", offset_of!(ListAnswer, count)),
+        ("tally_answer.count", offset_of!(TallyAnswer, count)),
     ];
     let lines = fields.map(|(field, offset)| format!("lohenarr_{field} {offset}\n"));
     let sizes = [
@@ -49,6 +54,11 @@ fn places() -> String {
         size_of::<KindAnswer>(),
         size_of::<HeaderAnswer>(),
         size_of::<PartAnswer>(),
+        size_of::<SizeAnswer>(),
+        size_of::<ChunkAnswer>(),
+        size_of::<PlaceAnswer>(),
+        size_of::<ListAnswer>(),
+        size_of::<TallyAnswer>(),
     ];
     let sizes = sizes.map(|size| format!(" {size}"));
     format!("{}sizes{}\n", lines.concat(), sizes.concat())
@@ -62,6 +72,19 @@ counts 0: 1 0 0 3 4
 header 0: 612 0
 name 0: 1594+256
 refused 14
+size 0: 1034, visits 3
+live 0: 1, 257 7
+start 0
+add 0
+add 0
+add 0
+add 0
+add 0
+add 0
+add 0
+read 0: copy 1 page 1 valid 300 shown 512, visits 5
+read 11: need 512
+part 528+300
 ";
     let shelf = File::open(Path::new(HOST).join("tests/data/W")).unwrap();
     let output = Command::new(compiled()).stdin(shelf).output().unwrap();

@@ -45,10 +45,30 @@ fn c_name(name: &str) -> String {
 fn rust_field(field: &str) -> Vec<String> {
     let field = field.trim().trim_start_matches("pub ");
     let (name, kind) = field.split_once(':').expect("a field has a type");
+    let slice = |kind: &str| {
+        vec![
+            format!("{kind} {name}"),
+            format!("usize {}", length_of(name)),
+        ]
+    };
     match kind.trim() {
-        "&[u8]" => vec![format!("bytes {name}"), "usize len".to_string()],
+        "&[u8]" => slice("bytes"),
+        "&mut [u8]" => slice("mut bytes"),
+        "&[u32]" => slice("words"),
+        "&mut [u32]" => slice("mut words"),
         "*const u8" => vec![format!("bytes {name}")],
+        "*mut u8" => vec![format!("mut bytes {name}")],
+        "*const u32" => vec![format!("words {name}")],
+        "*mut u32" => vec![format!("mut words {name}")],
         kind => vec![format!("{kind} {name}")],
+    }
+}
+
+/// The name of a slice's length: `len` for the dump, and else its own.
+fn length_of(name: &str) -> String {
+    match name {
+        "dump" => "len".to_string(),
+        _ => format!("{name}_len"),
     }
 }
 
@@ -100,13 +120,17 @@ fn host() -> Declared {
 /// `uint32_t name` as `u32 name`.
 fn c_field(field: &str) -> String {
     let (kind, name) = field.trim().rsplit_once(' ').expect("a field has a type");
-    match kind {
-        "uint32_t" => format!("u32 {name}"),
-        "uint64_t" => format!("u64 {name}"),
-        "size_t" => format!("usize {name}"),
-        "const uint8_t" => format!("bytes {}", name.trim_start_matches('*')),
-        kind => panic!("unknown type {kind}"),
-    }
+    let kind = match (kind, name.starts_with('*')) {
+        ("uint32_t", false) => "u32",
+        ("uint64_t", false) => "u64",
+        ("size_t", false) => "usize",
+        ("const uint8_t", true) => "bytes",
+        ("uint8_t", true) => "mut bytes",
+        ("const uint32_t", true) => "words",
+        ("uint32_t", true) => "mut words",
+        _ => panic!("unknown type of {field}"),
+    };
+    format!("{kind} {}", name.trim_start_matches('*'))
 }
 
 fn c() -> Declared {
@@ -128,7 +152,11 @@ fn c() -> Declared {
         let parameters = parameters.trim_end_matches(");").split(',');
         let parameters = parameters.filter(|parameter| *parameter != "void");
         let mut all: Vec<String> = parameters.map(c_field).collect();
-        all.push(result.replace("size_t", "usize"));
+        all.push(match result {
+            "size_t" => "usize".to_string(),
+            "uint32_t" => "u32".to_string(),
+            answer => answer.to_string(),
+        });
         declared.insert(name.to_string(), all);
     }
     declared

@@ -2,3 +2,4 @@ pub mod Layouts
 pub mod Counts
 pub mod Kinds
 pub mod Headers
+pub mod Lookups

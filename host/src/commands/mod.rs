@@ -1,8 +1,15 @@
 //! The commands, a file for each.
 
+mod chunk;
+mod extract;
 mod find;
 pub mod header;
+mod list;
 mod pages;
+mod read;
+mod report;
+mod script;
+mod size;
 
 use std::ffi::OsStr;
 use std::io::Write;
@@ -11,14 +18,24 @@ use crate::arguments::{number, Arguments, Named};
 use crate::failure::Failure;
 use crate::ffi;
 use crate::map::Dump;
+use crate::objects::Objects;
 use crate::refusal::{meaning, Asked};
 
 pub const USAGE: &str = "\
 usage: lohenarr COMMAND DUMP [ARGUMENTS] [--layout P/S/T] [--block K] [--copy]
 
-  find DUMP            the layout
-  pages DUMP           a line for each page
-  header DUMP PAGE     the fields of a header page
+  report DUMP               layout, page kinds and objects, in ten lines
+  find DUMP                 the layout
+  pages DUMP                a line for each page
+  header DUMP PAGE          the fields of a header page
+  list DUMP                 the live objects
+  size DUMP OBJECT          the size of a file
+  chunk DUMP OBJECT N       where chunk N of a file stands
+  read DUMP OBJECT [--out FILE]
+                            the bytes of a file, to standard output or a new FILE
+  extract DUMP [OBJECT]     which pages hold a file, or every live file
+  script DUMP [SCRIPT]      an answer for each request of a script, which is
+                            standard input if left out
   help, --version
 
 DUMP is a file, opened read-only, or - for standard input. K is the number of
@@ -32,16 +49,45 @@ pub fn run(arguments: &Arguments, out: &mut impl Write) -> Result<(), Failure> {
     let Some((command, rest)) = arguments.words.split_first() else {
         return Err(Failure::Usage("no command".to_string()));
     };
-    let open = |dump| Opened::open(dump, arguments);
-    match (command.to_str().unwrap_or_default(), rest) {
+    let open = |dump: &OsStr| Opened::open(dump, arguments);
+    let name = command.to_str().unwrap_or_default();
+    if arguments.out.is_some() && name != "read" {
+        return Err(Failure::Usage("--out goes with read alone".to_string()));
+    }
+    match (name, rest) {
         ("help" | "--help", []) => Ok(out.write_all(USAGE.as_bytes())?),
         ("--version", []) => Ok(writeln!(out, "lohenarr {}", env!("CARGO_PKG_VERSION"))?),
+        ("report", [dump]) => report::report(&open(dump)?, out),
         ("find", [dump]) => find::find(&open(dump)?, out),
         ("pages", [dump]) => pages::pages(&open(dump)?, out),
         ("header", [dump, page]) => {
             let page = argument("PAGE", page)?;
             header::header(&open(dump)?, page, out)
         }
+        ("list", [dump]) => list::list(&open(dump)?, out),
+        ("size", [dump, object]) => {
+            let object = argument("OBJECT", object)?;
+            size::size(&open(dump)?, object, out)
+        }
+        ("chunk", [dump, object, n]) => {
+            let (object, n) = (argument("OBJECT", object)?, argument("N", n)?);
+            chunk::chunk(&open(dump)?, object, n, out)
+        }
+        ("read", [dump, object]) => {
+            let object = argument("OBJECT", object)?;
+            read::read(&open(dump)?, object, arguments.out.as_deref(), out)
+        }
+        ("extract", [dump]) => extract::extract(&open(dump)?, None, out),
+        ("extract", [dump, object]) => {
+            let object = argument("OBJECT", object)?;
+            extract::extract(&open(dump)?, Some(object), out)
+        }
+        ("script", [dump]) if dump == "-" => {
+            let both = "dump and script cannot both be standard input";
+            Err(Failure::Usage(both.to_string()))
+        }
+        ("script", [dump]) => script::script(&open(dump)?, OsStr::new("-"), out),
+        ("script", [dump, script]) => script::script(&open(dump)?, script, out),
         (known, _) if COMMANDS.contains(&known) => Err(Failure::Usage(format!(
             "{known} does not take these arguments"
         ))),
@@ -52,7 +98,11 @@ pub fn run(arguments: &Arguments, out: &mut impl Write) -> Result<(), Failure> {
     }
 }
 
-const COMMANDS: [&str; 6] = ["help", "--help", "--version", "find", "pages", "header"];
+#[rustfmt::skip]
+const COMMANDS: [&str; 13] = [
+    "help", "--help", "--version", "report", "find", "pages", "header", "list", "size", "chunk",
+    "read", "extract", "script",
+];
 
 /// An argument that is a number.
 fn argument(name: &str, word: &OsStr) -> Result<u32, Failure> {
@@ -87,6 +137,14 @@ impl Opened {
         self.given(found, self.asked())
     }
 
+    /// The objects, and what is asked of this dump.
+    pub fn objects(&self) -> Result<(Objects<'_>, Asked<'_>), Failure> {
+        let layout = self.layout()?;
+        let asked = self.asked_of(layout);
+        let objects = Objects::of(&self.dump, layout.number, self.block);
+        Ok((self.done(objects, asked)?, asked))
+    }
+
     /// What is asked of this dump under a layout.
     pub fn asked_of(&self, layout: ffi::LayoutAnswer) -> Asked<'_> {
         let layout = Some(Named::Sizes(layout.data, layout.spare, layout.tag));
@@ -110,7 +168,12 @@ impl Opened {
 
     /// The library's answer, or the refusal with what it means here.
     pub fn given<A: ffi::Answer>(&self, answer: A, asked: Asked<'_>) -> Result<A, Failure> {
+        self.done(answer.given(), asked)
+    }
+
+    /// What was done, or the refusal with what it means here.
+    pub fn done<T>(&self, answer: Result<T, u32>, asked: Asked<'_>) -> Result<T, Failure> {
         let refused = |number| Failure::Refused(number, meaning(number, asked));
-        answer.given().map_err(refused)
+        answer.map_err(refused)
     }
 }

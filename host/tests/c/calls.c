@@ -6,6 +6,8 @@
 #define FIELD(type, field) printf(#type "." #field " %zu\n", offsetof(type, field))
 
 static uint8_t dump[65536];
+static uint8_t buffer[512];
+static uint32_t cells[48];
 
 int main(void) {
     size_t len = fread(dump, 1, sizeof dump, stdin);
@@ -19,14 +21,36 @@ int main(void) {
     lohenarr_part_answer name = lohenarr_header_name(dump, len, found.number, 4, 3);
     printf("name %u: %zu+%zu\n", name.refusal, name.offset, name.length);
     printf("refused %u\n", lohenarr_kind(dump, len, found.number, 4, 8).refusal);
+    lohenarr_size_answer size = lohenarr_dump_size(dump, len, found.number, 4, 257);
+    printf("size %u: %llu, visits %u\n", size.refusal, (unsigned long long)size.size, size.visits);
+    uint32_t ids[2] = {0, 7};
+    lohenarr_list_answer live = lohenarr_dump_list(dump, len, found.number, 4, ids, 2);
+    printf("live %u: %u, %u %u\n", live.refusal, live.count, ids[0], ids[1]);
+    printf("start %u\n", lohenarr_start(dump, len, found.number, 4, cells, 48));
+    for (uint32_t page = 0; page < 8; page++)
+        if (page != 5)
+            printf("add %u\n", lohenarr_add(dump, len, found.number, 4, cells, 48, page));
+    lohenarr_chunk_answer chunk = lohenarr_read(dump, len, found.number, 4, cells, 48, 257, 1, buffer, sizeof buffer);
+    printf("read %u: copy %u page %u valid %u shown %u, visits %u\n", chunk.refusal, chunk.copy, chunk.page, chunk.valid,
+           chunk.shown, chunk.visits);
+    chunk = lohenarr_read(dump, len, found.number, 4, cells, 48, 257, 1, buffer, 511);
+    printf("read %u: need %u\n", chunk.refusal, chunk.need);
+    lohenarr_place_answer part = lohenarr_part(dump, len, found.number, 4, cells, 48, 257, 1);
+    printf("part %zu+%zu\n", part.offset, part.length);
     FIELD(lohenarr_layout_answer, tag);
     FIELD(lohenarr_kind_answer, count);
     FIELD(lohenarr_header_answer, rdev);
     FIELD(lohenarr_header_answer, win_created);
     FIELD(lohenarr_header_answer, shrink);
     FIELD(lohenarr_part_answer, length);
-    printf("sizes %zu %zu %zu %zu %zu %zu\n", sizeof(lohenarr_layout_answer), sizeof(lohenarr_pages_answer),
+    FIELD(lohenarr_size_answer, size);
+    FIELD(lohenarr_chunk_answer, shown);
+    FIELD(lohenarr_place_answer, length);
+    FIELD(lohenarr_list_answer, count);
+    FIELD(lohenarr_tally_answer, count);
+    printf("sizes %zu %zu %zu %zu %zu %zu %zu %zu %zu %zu %zu\n", sizeof(lohenarr_layout_answer), sizeof(lohenarr_pages_answer),
            sizeof(lohenarr_counts_answer), sizeof(lohenarr_kind_answer), sizeof(lohenarr_header_answer),
-           sizeof(lohenarr_part_answer));
+           sizeof(lohenarr_part_answer), sizeof(lohenarr_size_answer), sizeof(lohenarr_chunk_answer),
+           sizeof(lohenarr_place_answer), sizeof(lohenarr_list_answer), sizeof(lohenarr_tally_answer));
     return 0;
 }

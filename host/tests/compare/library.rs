@@ -1,49 +1,63 @@
-//! The library's answers to requests, as the lines of a script.
+//! The library's answers to the same requests: each is put to it as a line of
+//! a script, as the command would.
 
-use lohenarr::arguments::Named;
-use lohenarr::commands::header::Header;
-use lohenarr::ffi::{self, Answer};
+use lohenarr::script::request;
+use lohenarr::script::session::{Answer, Session};
 
-use crate::second::layout;
+use crate::second::index::Lent;
 use crate::second::script::Request;
 
-/// The answer line, or nothing for a call that is not there yet.
-pub fn answer(dump: &[u8], request: &Request) -> Option<String> {
-    let line = match *request {
-        Request::Find { k } => ffi::find(dump, narrow(k))
-            .given()
-            .map(|found| format!("layout={found}")),
-        Request::Pages { layout, k } => ffi::pages(dump, number(layout), narrow(k))
-            .given()
-            .map(|answer| format!("pages={}", answer.pages)),
-        Request::Counts { layout, k } => ffi::counts(dump, number(layout), narrow(k))
-            .given()
-            .map(|c| {
-                let (blank, foreign, damaged) = (c.blank, c.foreign, c.damaged);
-                let (headers, data) = (c.headers, c.data);
-                format!(
-                    "blank={blank} foreign={foreign} damaged={damaged} headers={headers} data={data}"
-                )
-            }),
-        Request::Kind { layout, k, page } => {
-            ffi::kind(dump, number(layout), narrow(k), narrow(page))
-                .given()
-                .map(|kind| kind.to_string())
-        }
-        Request::Header { layout, k, page } => {
-            let header = Header::of(dump, number(layout), narrow(k), narrow(page));
-            header.numbers.given().map(|_| header.line())
-        }
-        _ => return None,
-    };
-    Some(line.unwrap_or_else(|refusal| format!("refusal={refusal} visits=0")))
+/// The library with the memory that it is lent.
+pub struct Library<'d> {
+    dump: &'d [u8],
+    session: Session<'d>,
+    before: Vec<u32>,
 }
 
-/// A number of any width, as the command takes it.
-fn narrow(number: u64) -> u32 {
-    lohenarr::arguments::number(&number.to_string()).unwrap()
+impl<'d> Library<'d> {
+    pub fn new(dump: &'d [u8], requests: &[Request]) -> Library<'d> {
+        let lines: Vec<_> = requests.iter().map(read).collect();
+        let session = Session::new(dump, &lines);
+        Library {
+            dump,
+            session: session.unwrap_or_else(|_| panic!("no memory for the index")),
+            before: Vec::new(),
+        }
+    }
+
+    /// The answer to a request. No words of the index may change but those
+    /// that the call may write to.
+    pub fn answer(&mut self, request: &Request) -> Answer {
+        self.before.clone_from(&self.session.index);
+        let answer = self.session.answer(&read(request));
+        let answer = answer.unwrap_or_else(|_| panic!("no answer to {request}"));
+        let written = match answer.line.as_str() {
+            "done" => self.writes(request),
+            _ => 0,
+        };
+        let kept = self.before[written..] == self.session.index[written..];
+        assert!(kept, "{request} changed words that must stay");
+        answer
+    }
+
+    /// How many words of the index a call may write to.
+    fn writes(&self, request: &Request) -> usize {
+        match *request {
+            Request::Start { lent } | Request::Add { lent, .. } => self.need(lent),
+            Request::Fill { .. } => self.before.len(),
+            _ => 0,
+        }
+    }
+
+    /// The words that the pages of a dump need.
+    fn need(&self, lent: Lent) -> usize {
+        let layout = lent.layout.layout();
+        layout.map_or(0, |layout| 4 * (self.dump.len() / layout.page()) + 16)
+    }
 }
 
-fn number(named: layout::Named) -> u32 {
-    Named::parse(&named.to_string()).unwrap().number()
+/// The request as the command reads it.
+fn read(request: &Request) -> request::Request {
+    let read = request::request(&request.to_string());
+    read.unwrap().expect("a request")
 }

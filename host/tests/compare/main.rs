@@ -4,9 +4,12 @@
 //! - `second`: the second reader, written from document 01 alone.
 //! - `generator`: dumps and requests from a seed.
 //! - `library`: the library's answers to the same requests.
+//! - `corpus`: dumps that the YAFFS2 driver wrote.
 //!
 //! `LOHENARR_SEEDS=N` compares N dumps instead of the usual number.
 
+#[cfg(test)]
+mod corpus;
 mod digest;
 mod generator;
 mod library;
@@ -15,6 +18,7 @@ mod second;
 use std::env;
 
 use generator::case;
+use library::Library;
 use second::wrong::Wrong;
 
 const SEEDS: u64 = 3000;
@@ -26,16 +30,18 @@ fn the_library_and_the_second_reader_agree() {
     for seed in 0..seeds {
         let case = case(seed);
         let expected = case.answers(Wrong::None);
+        let mut library = Library::new(&case.dump.bytes, &case.requests);
         for (request, expected) in case.requests.iter().zip(expected) {
-            let Some(line) = library::answer(&case.dump.bytes, request) else {
-                continue;
-            };
-            assert_eq!(line, expected.line, "seed {}: {request}", case.seed);
+            let answer = library.answer(request);
+            let place = || format!("seed {}: {request}", case.seed);
+            assert_eq!(answer.line, expected.line, "{}", place());
+            assert!(answer.bytes == expected.bytes, "{}: the buffer", place());
+            assert!(answer.words == expected.words, "{}: the words", place());
             answers += 1;
         }
     }
     println!("{answers} answers on {seeds} dumps");
-    assert!(answers > seeds, "too few answers to compare");
+    assert!(answers > 50 * seeds, "too few answers to compare");
 }
 
 #[test]

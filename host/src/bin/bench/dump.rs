@@ -1,5 +1,5 @@
-//! A generated dump: one long file among many short ones, in blocks that
-//! were written in another order than they stand.
+//! A generated dump: one long file among many short ones below a root, in
+//! blocks that were written in another order than they stand.
 
 use std::fs::File;
 use std::io;
@@ -9,8 +9,9 @@ use std::path::Path;
 const DATA: usize = 2048;
 const PAGE: usize = DATA + 64;
 const BLOCK: usize = super::BLOCK as usize * PAGE;
-const LONG: u32 = 257;
-const SHORT: u32 = 1000;
+/// The id of the long file; those of the short ones follow.
+pub const LONG: u32 = 257;
+pub const SHORT: u32 = 1000;
 
 /// Writes a dump of 2048/64/0 with at most so many MiB.
 pub fn write(path: &Path, mib: usize) -> io::Result<()> {
@@ -51,12 +52,17 @@ fn stride(n: usize) -> usize {
 struct Log {
     seed: u64,
     chunks: Vec<u32>,
+    root: bool,
 }
 
 impl Log {
     fn new() -> Log {
         let chunks = vec![0; SHORT as usize + 1];
-        Log { seed: 1, chunks }
+        Log {
+            seed: 1,
+            chunks,
+            root: false,
+        }
     }
 
     /// xorshift64
@@ -81,16 +87,17 @@ impl Log {
             eight.copy_from_slice(&self.random().to_le_bytes());
         }
         let tags = match chance {
+            _ if !self.root => {
+                self.root = true;
+                header(page, sequence, 3, 1, 0)
+            }
             0..=899 => {
                 self.chunks[which] += 1;
                 [sequence, object, self.chunks[which], DATA as u32]
             }
             900..=989 => {
                 let size = self.chunks[which] * DATA as u32;
-                put(page, 0, &[1, 1]);
-                put(page, 0x124, &[size]);
-                put(page, 0x1DC, &[0]);
-                [sequence, 1 << 28 | object, 1 << 31 | 1, 0]
+                header(page, sequence, 1, object, size)
             }
             990..=994 => [sequence, object, 1, DATA as u32 + 1],
             _ => [7, 7, 7, 7],
@@ -98,6 +105,16 @@ impl Log {
         page[DATA..].fill(0xFF);
         put(page, DATA, &tags);
     }
+}
+
+/// Makes a page a header below the root, and gives its tags.
+fn header(page: &mut [u8], sequence: u32, file_type: u32, object: u32, size: u32) -> [u32; 4] {
+    let name = format!("object-{object}");
+    put(page, 0, &[file_type, 1]);
+    page[0x8..0x200].fill(0);
+    page[0xA..0xA + name.len()].copy_from_slice(name.as_bytes());
+    put(page, 0x124, &[size]);
+    [sequence, file_type << 28 | object, 1 << 31 | 1, 0]
 }
 
 fn put(page: &mut [u8], at: usize, words: &[u32]) {

@@ -20,6 +20,9 @@ use std::process::{self, ExitCode};
 
 use lohenarr::ffi;
 use lohenarr::map::Dump;
+use lohenarr::objects::Objects;
+
+use dump::LONG;
 
 const BLOCK: u32 = 64;
 
@@ -78,6 +81,65 @@ fn measure(dump: &[u8], rounds: usize) {
         },
         || plain::counts(dump, layout.number),
     );
+    lookups(dump, layout.number, rounds);
+}
+
+/// The index of every page, and lookups by it.
+fn lookups(dump: &[u8], layout: u32, rounds: usize) {
+    let anonymous = memory("RssAnon");
+    let library = Objects::of(dump, layout, BLOCK).expect("the dump is accepted");
+    let anonymous = memory("RssAnon").saturating_sub(anonymous);
+    let plain = plain::Index::of(dump, layout, BLOCK as usize);
+    timing::compare(
+        "index",
+        rounds,
+        || Objects::of(dump, layout, BLOCK).map(|objects| objects.size(LONG).size),
+        || {
+            Ok(plain::Index::of(dump, layout, BLOCK as usize)
+                .size(LONG)
+                .unwrap_or(0))
+        },
+    );
+    let files = || LONG..LONG + dump::SHORT;
+    timing::compare(
+        "size",
+        rounds,
+        || files().map(|object| library.size(object).size).sum::<u64>(),
+        || files().filter_map(|object| plain.size(object)).sum::<u64>(),
+    );
+    let chunks = || (1..200).map(|i| i * 100);
+    timing::compare(
+        "chunk",
+        rounds,
+        || {
+            chunks()
+                .map(|n| copy(library.chunk(LONG, n)))
+                .collect::<Vec<_>>()
+        },
+        || chunks().map(|n| plain.chunk(LONG, n)).collect(),
+    );
+    let pages = ffi::pages(dump, layout, BLOCK).pages;
+    println!(
+        "memory: the index has {} bytes a page; at most {} KiB in all, {} of them mapped",
+        anonymous * 1024 / u64::from(pages),
+        memory("VmHWM"),
+        memory("RssFile")
+    );
+}
+
+/// Page and valid length of a copy.
+fn copy(chunk: ffi::ChunkAnswer) -> Option<(u32, u32)> {
+    chunk.page().map(|page| (page, chunk.valid))
+}
+
+/// A line of what the system says of this process's memory, in KiB.
+fn memory(name: &str) -> u64 {
+    let status = fs::read_to_string("/proc/self/status").unwrap_or_default();
+    let line = status
+        .lines()
+        .find_map(|line| line.strip_prefix(name)?.strip_prefix(':'));
+    let number = line.and_then(|line| line.split_whitespace().next());
+    number.and_then(|number| number.parse().ok()).unwrap_or(0)
 }
 
 /// The name of a file that goes when this does.

@@ -1,0 +1,85 @@
+-- What the lookups of an object, listings, counts of objects, starts and additions answer, as the exports give it.
+use Prim.Native.Nat.{ℕ, _*_}
+use mathlib.Core.Bool.{_&&_}
+use lib.Dec.{leb}
+use Rattle.page.specs.Choice.{pick}
+use Rattle.page.specs.Refusals.{refusalNumber}
+use Rattle.page.specs.Layouts.{pageLen}
+use Rattle.page.specs.Lengths.{pageIn}
+use Rattle.page.specs.declared.layout.Layout.{Layout}
+use Rattle.chunk.specs.declared.answer.Sized.{Sized}
+use Rattle.chunk.specs.declared.answer.Sized.the-variants as sized
+use Rattle.chunk.specs.declared.answer.Looked.{Looked}
+use Rattle.chunk.specs.declared.answer.Looked.the-variants as looked
+use Rattle.chunk.specs.declared.answer.Listed.{Listed}
+use Rattle.chunk.specs.declared.answer.Listed.the-variants as listed
+use Rattle.chunk.specs.declared.answer.Tallied.{Tallied}
+use Rattle.chunk.specs.declared.answer.Tallied.the-variants as tallied
+use Rattle.index.specs.declared.additions.Added.{Added}
+use Rattle.index.specs.declared.additions.Added.the-variants as added
+use Rattle.capi.specs.declared.answer.SizeAnswer.{SizeAnswer}
+use Rattle.capi.specs.declared.answer.ChunkAnswer.{ChunkAnswer}
+use Rattle.capi.specs.declared.answer.PlaceAnswer.{PlaceAnswer}
+use Rattle.capi.specs.declared.answer.ListAnswer.{ListAnswer}
+use Rattle.capi.specs.declared.answer.TallyAnswer.{TallyAnswer}
+
+abbrev pub sizeAnswer : Sized → SizeAnswer
+sizeAnswer (sized.Refused r v) = record { refusal = refusalNumber r; visits = v; size = 0 }
+sizeAnswer (sized.Size n v) = record { refusal = 0; visits = v; size = n }
+
+-- a copy is marked by 1, a hole by 0
+abbrev pub chunkAnswer : Looked → ChunkAnswer
+chunkAnswer (looked.Refused r v n) = record {
+  refusal = refusalNumber r;
+  visits = v;
+  need = n;
+  copy = 0;
+  page = 0;
+  valid = 0;
+  shown = 0;
+}
+chunkAnswer (looked.Hole s v) = record {
+  refusal = 0;
+  visits = v;
+  need = 0;
+  copy = 0;
+  page = 0;
+  valid = 0;
+  shown = s;
+}
+chunkAnswer (looked.Copy p a s v) = record {
+  refusal = 0;
+  visits = v;
+  need = 0;
+  copy = 1;
+  page = p .0;
+  valid = a;
+  shown = s;
+}
+
+-- a part that is empty
+abbrev pub noPlace : PlaceAnswer
+noPlace = record { offset = 0; length = 0 }
+
+-- where the first bytes of page p stand in a dump of n bytes; nowhere where the page is not in the dump or has not so many
+abbrev pub placeOf : Layout → ℕ → ℕ → ℕ → PlaceAnswer
+placeOf l n p valid = pick (pageIn l n p && leb valid (l .«data»)) (record { offset = p * pageLen l; length = valid }) noPlace
+
+-- where the valid bytes of a chunk stand; nowhere for a hole or a refusal
+unfoldable pub placeAnswer : Layout → ℕ → Looked → PlaceAnswer
+placeAnswer l n (looked.Refused r v m) = noPlace
+placeAnswer l n (looked.Hole s v) = noPlace
+placeAnswer l n (looked.Copy p a s v) = placeOf l n (p .0) a
+
+abbrev pub listAnswer : Listed → ListAnswer
+listAnswer (listed.Refused r n) = record { refusal = refusalNumber r; need = n; count = 0 }
+listAnswer (listed.Ids m) = record { refusal = 0; need = 0; count = m }
+
+abbrev pub tallyAnswer : Tallied → TallyAnswer
+tallyAnswer (tallied.Refused r) = record { refusal = refusalNumber r; count = 0 }
+tallyAnswer (tallied.Count m) = record { refusal = 0; count = m }
+
+-- the number of a refused start or addition; 0 where it was done
+abbrev pub addedAnswer : Added → ℕ
+addedAnswer (added.Refused r) = refusalNumber r
+addedAnswer added.Done = 0

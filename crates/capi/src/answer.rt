@@ -1,0 +1,182 @@
+// What the lookups of an object answer, whether on a dump alone or on an index.
+ghost use mathlib.Core.Path.{_≡_};
+ghost use Rattle.capi.specs.Lookups.{sizeAnswer, chunkAnswer, placeOf, placeAnswer, listAnswer, tallyAnswer, addedAnswer};
+use chunk::answer::Listed;
+use chunk::answer::Looked;
+use chunk::answer::Sized;
+use chunk::answer::Tallied;
+use index::additions::Added;
+use page::layout::Layout;
+use page::number::PageNumber;
+
+// The size of a file, and the records visited.
+#[repr(C)]
+pub struct SizeAnswer {
+    pub refusal: u32,
+    pub visits: u32,
+    pub size: u64,
+}
+
+// A chunk of a file: 1 in `copy` and the page that holds it, or a hole; the valid and the shown length. Beside ShortBuffer `need` is the
+// length needed, and 0 else.
+#[repr(C)]
+pub struct ChunkAnswer {
+    pub refusal: u32,
+    pub visits: u32,
+    pub need: u32,
+    pub copy: u32,
+    pub page: u32,
+    pub valid: u32,
+    pub shown: u32,
+}
+
+// A part of the dump: where it begins and how long it is. An empty one is at 0.
+#[repr(C)]
+pub struct PlaceAnswer {
+    pub offset: usize,
+    pub length: usize,
+}
+
+// How many ids a listing wrote. Beside ShortBuffer `need` is how many words it needs, and 0 else.
+#[repr(C)]
+pub struct ListAnswer {
+    pub refusal: u32,
+    pub need: u32,
+    pub count: u32,
+}
+
+// A number of objects.
+#[repr(C)]
+pub struct TallyAnswer {
+    pub refusal: u32,
+    pub count: u32,
+}
+
+pub(crate) fn size_answer(s: Sized) -> SizeAnswer
+    ensures { λ r. ⌜ r ≡ sizeAnswer s ⌝ }
+{
+    match s {
+        Sized::Refused(r, visits) => SizeAnswer {
+            refusal: r.number(),
+            visits,
+            size: 0,
+        },
+        Sized::Size(size, visits) => SizeAnswer {
+            refusal: 0,
+            visits,
+            size,
+        },
+    }
+}
+
+pub(crate) fn chunk_answer(a: Looked) -> ChunkAnswer
+    ensures { λ r. ⌜ r ≡ chunkAnswer a ⌝ }
+{
+    match a {
+        Looked::Refused(r, visits, need) => ChunkAnswer {
+            refusal: r.number(),
+            visits,
+            need,
+            copy: 0,
+            page: 0,
+            valid: 0,
+            shown: 0,
+        },
+        Looked::Hole(shown, visits) => ChunkAnswer {
+            refusal: 0,
+            visits,
+            need: 0,
+            copy: 0,
+            page: 0,
+            valid: 0,
+            shown,
+        },
+        Looked::Copy(p, valid, shown, visits) => ChunkAnswer {
+            refusal: 0,
+            visits,
+            need: 0,
+            copy: 1,
+            page: p.0,
+            valid,
+            shown,
+        },
+    }
+}
+
+// Where the first bytes of page p stand in a dump of this length; nowhere where the page is not in the dump or has not so many.
+fn place_of(l: Layout, len: usize, p: PageNumber, valid: u32) -> PlaceAnswer
+    ensures { λ r. ⌜ r ≡ placeOf l len (p .0) valid ⌝ }
+{
+    if !l.holds(len, p) {
+        return PlaceAnswer {
+            offset: 0,
+            length: 0,
+        };
+    }
+    if (l.data as u32) < valid {
+        return PlaceAnswer {
+            offset: 0,
+            length: 0,
+        };
+    }
+    PlaceAnswer {
+        offset: (p.0 as usize) * l.page_len(),
+        length: valid as usize,
+    }
+}
+
+// Where in a dump of this length the valid bytes of a chunk that was looked up stand; nowhere for a hole or a refusal.
+pub(crate) fn place_answer(l: Layout, len: usize, a: Looked) -> PlaceAnswer
+    ensures { λ r. ⌜ r ≡ placeAnswer l len a ⌝ }
+{
+    match a {
+        Looked::Refused(_, _, _) => PlaceAnswer {
+            offset: 0,
+            length: 0,
+        },
+        Looked::Hole(_, _) => PlaceAnswer {
+            offset: 0,
+            length: 0,
+        },
+        Looked::Copy(p, valid, _, _) => place_of(l, len, p, valid),
+    }
+}
+
+pub(crate) fn list_answer(a: Listed) -> ListAnswer
+    ensures { λ r. ⌜ r ≡ listAnswer a ⌝ }
+{
+    match a {
+        Listed::Refused(r, need) => ListAnswer {
+            refusal: r.number(),
+            need,
+            count: 0,
+        },
+        Listed::Ids(count) => ListAnswer {
+            refusal: 0,
+            need: 0,
+            count,
+        },
+    }
+}
+
+pub(crate) fn tally_answer(t: Tallied) -> TallyAnswer
+    ensures { λ r. ⌜ r ≡ tallyAnswer t ⌝ }
+{
+    match t {
+        Tallied::Refused(r) => TallyAnswer {
+            refusal: r.number(),
+            count: 0,
+        },
+        Tallied::Count(count) => TallyAnswer { refusal: 0, count },
+    }
+}
+
+// The number of a refused start or addition; 0 where it was done.
+pub(crate) fn added_answer(a: Added) -> u32
+    ensures { λ r. ⌜ r ≡ addedAnswer a ⌝ }
+{
+    match a {
+        Added::Refused(r) => r.number(),
+        Added::Done => 0,
+    }
+}

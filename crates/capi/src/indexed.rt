@@ -1,0 +1,151 @@
+// Starting an index in lent words, adding pages to it, and the lookups of an object and the live list by it.
+ghost use mathlib.Core.Path.{_≡_};
+ghost use lib.ListN.{length, take, drop};
+ghost use Rattle.page.specs.Layouts.{layoutAt};
+ghost use Rattle.chunk.specs.Answers.{readBy, bufferBy, partBy};
+ghost use Rattle.chunk.specs.Lists.{wordsBy};
+ghost use Rattle.index.specs.Additions.{startOf, addOf};
+ghost use Rattle.index.specs.Listing.{listFrom, idsFrom};
+ghost use Rattle.index.specs.Walks.{sizeFrom, chunkFrom};
+ghost use Rattle.capi.specs.Lookups.{sizeAnswer, chunkAnswer, placeAnswer, listAnswer, addedAnswer};
+use crate::answer::ChunkAnswer;
+use crate::answer::ListAnswer;
+use crate::answer::PlaceAnswer;
+use crate::answer::SizeAnswer;
+use crate::answer::added_answer;
+use crate::answer::chunk_answer;
+use crate::answer::list_answer;
+use crate::answer::place_answer;
+use crate::answer::size_answer;
+use crate::layout::layout_at;
+use index::additions::add;
+use index::additions::start;
+use index::list::list;
+use index::lookups::chunk;
+use index::lookups::read;
+use index::lookups::size;
+use page::number::ChunkNumber;
+use page::number::ObjectId;
+use page::number::PageNumber;
+
+// Makes the index empty, whatever its words held.
+#[no_mangle]
+pub extern "C" fn lohenarr_start(dump: &[u8], layout: u32, k: u32, cells: &mut [u32]) -> u32
+    ensures { λ r. ⌜ r ≡ addedAnswer (startOf (layoutAt layout) k (now (dump .entry)) (now (cells .entry)) .answer) ⌝ }
+    ensures { λ _. ⌜ now (cells .exit) ≡ startOf (layoutAt layout) k (now (dump .entry)) (now (cells .entry)) .cells ⌝ }
+{
+    added_answer(start(dump, layout_at(layout), k, cells))
+}
+
+// Adds a page to the index.
+#[no_mangle]
+pub extern "C" fn lohenarr_add(
+    dump: &[u8],
+    layout: u32,
+    k: u32,
+    cells: &mut [u32],
+    page: u32,
+) -> u32
+    ensures { λ r. ⌜ r ≡ addedAnswer (addOf (layoutAt layout) k (now (dump .entry)) (now (cells .entry)) page .answer) ⌝ }
+    ensures { λ _. ⌜ now (cells .exit) ≡ addOf (layoutAt layout) k (now (dump .entry)) (now (cells .entry)) page .cells ⌝ }
+{
+    added_answer(add(dump, layout_at(layout), k, cells, PageNumber(page)))
+}
+
+// The size of an object.
+#[no_mangle]
+pub extern "C" fn lohenarr_size(
+    dump: &[u8],
+    layout: u32,
+    k: u32,
+    cells: &[u32],
+    object: u32,
+) -> SizeAnswer
+    ensures { λ r. ⌜ r ≡ sizeAnswer (sizeFrom (layoutAt layout) k (now (dump .entry)) (now (cells .entry)) object) ⌝ }
+{
+    size_answer(size(dump, layout_at(layout), k, cells, ObjectId(object)))
+}
+
+// A chunk of an object.
+#[no_mangle]
+pub extern "C" fn lohenarr_chunk(
+    dump: &[u8],
+    layout: u32,
+    k: u32,
+    cells: &[u32],
+    object: u32,
+    n: u32,
+) -> ChunkAnswer
+    ensures { λ r. ⌜ r ≡ chunkAnswer (chunkFrom (layoutAt layout) k (now (dump .entry)) (now (cells .entry)) object n) ⌝ }
+{
+    chunk_answer(chunk(
+        dump,
+        layout_at(layout),
+        k,
+        cells,
+        ObjectId(object),
+        ChunkNumber(n),
+    ))
+}
+
+// A chunk of an object, read into a buffer: the valid bytes, then zeros up to the shown length. Bytes past that stay, and a refusal writes
+// nothing.
+#[no_mangle]
+pub extern "C" fn lohenarr_read(
+    dump: &[u8],
+    layout: u32,
+    k: u32,
+    cells: &[u32],
+    object: u32,
+    n: u32,
+    buffer: &mut [u8],
+) -> ChunkAnswer
+    ensures { λ r. ⌜ r ≡ chunkAnswer (readBy (length (now (buffer .entry))) (chunkFrom (layoutAt layout) k (now (dump .entry)) (now (cells .entry)) object n)) ⌝ }
+    ensures { λ _. ⌜ now (buffer .exit) ≡ bufferBy (layoutAt layout) (now (dump .entry)) (now (buffer .entry)) (readBy (length (now (buffer .entry))) (chunkFrom (layoutAt layout) k (now (dump .entry)) (now (cells .entry)) object n)) ⌝ }
+{
+    chunk_answer(read(
+        dump,
+        layout_at(layout),
+        k,
+        cells,
+        ObjectId(object),
+        ChunkNumber(n),
+        buffer,
+    ))
+}
+
+// The valid bytes of a chunk of an object, as a part of the dump; an empty part for a hole or a refusal.
+#[no_mangle]
+pub extern "C" fn lohenarr_part(
+    dump: &[u8],
+    layout: u32,
+    k: u32,
+    cells: &[u32],
+    object: u32,
+    n: u32,
+) -> PlaceAnswer
+    ensures { λ r. ⌜ r ≡ placeAnswer (layoutAt layout) (length (now (dump .entry))) (chunkFrom (layoutAt layout) k (now (dump .entry)) (now (cells .entry)) object n) ⌝ }
+    ensures { λ r. ⌜ take (r .length) (drop (r .offset) (now (dump .entry))) ≡ partBy (layoutAt layout) (now (dump .entry)) (chunkFrom (layoutAt layout) k (now (dump .entry)) (now (cells .entry)) object n) ⌝ }
+{
+    let l = layout_at(layout);
+    place_answer(
+        l,
+        dump.len(),
+        chunk(dump, l, k, cells, ObjectId(object), ChunkNumber(n)),
+    )
+}
+
+// The ids of the live objects, written to words in ascending order. Words past them stay, and a refusal writes nothing.
+#[no_mangle]
+pub extern "C" fn lohenarr_list(
+    dump: &[u8],
+    layout: u32,
+    k: u32,
+    cells: &[u32],
+    words: &mut [u32],
+) -> ListAnswer
+    ensures { λ r. ⌜ r ≡ listAnswer (listFrom (layoutAt layout) k (now (dump .entry)) (now (cells .entry)) (length (now (words .entry)))) ⌝ }
+    ensures { λ _. ⌜ now (words .exit) ≡ wordsBy (idsFrom (layoutAt layout) k (now (dump .entry)) (now (cells .entry))) (now (words .entry)) (listFrom (layoutAt layout) k (now (dump .entry)) (now (cells .entry)) (length (now (words .entry)))) ⌝ }
+{
+    list_answer(list(dump, layout_at(layout), k, cells, words))
+}

@@ -1,0 +1,74 @@
+//! Answers as lines.
+
+use crate::crc::crc32;
+use crate::ffi::{ChunkAnswer, CountsAnswer, ListAnswer, PlaceAnswer, SizeAnswer};
+use crate::refusal::SHORT_BUFFER;
+
+/// A refusal with its visits; with the length needed if a buffer was too short.
+pub fn refused(number: u32, visits: u32, need: u32) -> String {
+    match number {
+        SHORT_BUFFER => format!("refusal={number} visits={visits} need={need}"),
+        _ => format!("refusal={number} visits={visits}"),
+    }
+}
+
+/// What was done, or the number of its refusal.
+pub fn done(number: u32) -> String {
+    match number {
+        0 => "done".to_string(),
+        _ => refused(number, 0, 0),
+    }
+}
+
+pub fn counts(c: CountsAnswer) -> String {
+    let (blank, foreign, damaged) = (c.blank, c.foreign, c.damaged);
+    let (headers, data) = (c.headers, c.data);
+    format!("blank={blank} foreign={foreign} damaged={damaged} headers={headers} data={data}")
+}
+
+pub fn size(answer: SizeAnswer) -> String {
+    match answer.refusal {
+        0 => format!("size={} visits={}", answer.size, answer.visits),
+        number => refused(number, answer.visits, 0),
+    }
+}
+
+pub fn chunk(answer: ChunkAnswer) -> String {
+    if answer.refusal != 0 {
+        return refused(answer.refusal, answer.visits, answer.need);
+    }
+    let place = match answer.page() {
+        Some(page) => format!("page={page}"),
+        None => "hole".to_string(),
+    };
+    let (valid, shown, visits) = (answer.valid, answer.shown, answer.visits);
+    format!("{place} valid={valid} shown={shown} visits={visits}")
+}
+
+/// A read's answer, with the whole buffer as it was left.
+pub fn read(answer: ChunkAnswer, buffer: &[u8]) -> String {
+    let line = chunk(answer);
+    match answer.refusal {
+        0 => format!("{line} buffer={}/{:08x}", buffer.len(), crc32(buffer)),
+        _ => line,
+    }
+}
+
+pub fn part(place: PlaceAnswer, dump: &[u8]) -> String {
+    if place.length == 0 {
+        return "part=empty".to_string();
+    }
+    let (offset, length) = (place.offset, place.length);
+    format!("part={offset}+{length}/{:08x}", crc32(place.of(dump)))
+}
+
+/// The ids that a listing wrote in front of the words, and how many words it
+/// was lent.
+pub fn list(answer: ListAnswer, words: &[u32]) -> String {
+    if answer.refusal != 0 {
+        return refused(answer.refusal, 0, answer.need);
+    }
+    let ids = words.iter().take(answer.count as usize);
+    let ids: Vec<String> = ids.map(u32::to_string).collect();
+    format!("ids={} words={}", ids.join(","), words.len())
+}

@@ -1,0 +1,279 @@
+//! The requests of a script, and reading them.
+
+use crate::arguments::{long, number, Named};
+
+/// A layout by its number in the table, and K.
+#[derive(Clone, Copy, Debug, PartialEq, Eq)]
+pub struct On {
+    pub layout: u32,
+    pub k: u32,
+}
+
+/// What a call on the index is given by options of its own: layout, K and how
+/// many words of the index it is lent.
+#[derive(Clone, Copy, Debug, Default, PartialEq, Eq)]
+pub struct Lent {
+    pub layout: Option<u32>,
+    pub k: Option<u32>,
+    pub words: Option<usize>,
+}
+
+/// What a lookup reads: the dump alone, or the index.
+#[derive(Clone, Copy, Debug, PartialEq, Eq)]
+pub enum Over {
+    Dump(On),
+    Index(Lent),
+}
+
+/// One line of a script. Lengths are of a buffer, in bytes or in words.
+#[derive(Clone, Copy, Debug, PartialEq, Eq)]
+#[rustfmt::skip]
+pub enum Request {
+    Find { k: u32 },
+    Pages { on: On },
+    Counts { on: On },
+    Kind { on: On, page: u32 },
+    Header { on: On, page: u32 },
+    Start { on: On, words: usize },
+    Add { lent: Lent, page: u32 },
+    Size { over: Over, object: u32 },
+    Chunk { over: Over, object: u32, n: u32 },
+    Read { over: Over, object: u32, n: u32, length: usize },
+    Part { over: Over, object: u32, n: u32 },
+    List { over: Over, length: usize },
+    Fill { word: u32 },
+    Poke { at: usize, word: u32 },
+    Peek { at: usize },
+}
+
+impl Request {
+    /// How many words the request names, for the index or for a list.
+    pub fn words(&self) -> Option<usize> {
+        let over = |over: Over| match over {
+            Over::Index(lent) => lent.words,
+            Over::Dump(_) => None,
+        };
+        match *self {
+            Request::Start { words, .. } => Some(words),
+            Request::Add { lent, .. } => lent.words,
+            Request::Size { over: o, .. }
+            | Request::Chunk { over: o, .. }
+            | Request::Read { over: o, .. }
+            | Request::Part { over: o, .. } => over(o),
+            Request::List { over: o, length } => over(o).max(Some(length)),
+            _ => None,
+        }
+    }
+}
+
+/// The requests of a script, or what is wrong with one of its lines.
+pub fn parse(script: &str) -> Result<Vec<Request>, String> {
+    let mut requests = Vec::new();
+    for (i, line) in script.lines().enumerate() {
+        let request = request(line).map_err(|wrong| format!("line {}: {wrong}", i + 1))?;
+        requests.extend(request);
+    }
+    Ok(requests)
+}
+
+/// The request of a line; none where it is empty or a comment.
+pub fn request(line: &str) -> Result<Option<Request>, String> {
+    let line = line.split('#').next().unwrap_or_default();
+    let mut words = Words(line.split_whitespace().collect());
+    if words.0.is_empty() {
+        return Ok(None);
+    }
+    let name = words.0.remove(0);
+    let request = words.request(name)?;
+    match words.0.first() {
+        Some(word) => Err(format!("{name} does not take {word}")),
+        None => Ok(Some(request)),
+    }
+}
+
+/// The words of a line that have not been read yet.
+struct Words<'l>(Vec<&'l str>);
+
+impl Words<'_> {
+    fn request(&mut self, name: &str) -> Result<Request, String> {
+        Ok(match name {
+            "find" => Request::Find {
+                k: self.number("K")?,
+            },
+            "pages" => Request::Pages { on: self.on()? },
+            "counts" => Request::Counts { on: self.on()? },
+            "kind" => Request::Kind {
+                on: self.on()?,
+                page: self.number("PAGE")?,
+            },
+            "header" => Request::Header {
+                on: self.on()?,
+                page: self.number("PAGE")?,
+            },
+            "start" => Request::Start {
+                on: self.on()?,
+                words: self.length("WORDS")?,
+            },
+            "add" => {
+                let lent = self.lent()?;
+                let page = self.number("PAGE")?;
+                Request::Add { lent, page }
+            }
+            "fill" => Request::Fill { word: self.word()? },
+            "poke" => Request::Poke {
+                at: self.length("I")?,
+                word: self.word()?,
+            },
+            "peek" => Request::Peek {
+                at: self.length("I")?,
+            },
+            "dsize" | "dchunk" | "dread" | "dpart" | "dlist" => {
+                let over = Over::Dump(self.on()?);
+                self.lookup(&name[1..], over)?
+            }
+            "size" | "chunk" | "read" | "part" | "list" => {
+                let over = Over::Index(self.lent()?);
+                self.lookup(name, over)?
+            }
+            _ => return Err(format!("there is no request {name}")),
+        })
+    }
+
+    fn lookup(&mut self, name: &str, over: Over) -> Result<Request, String> {
+        if name == "list" {
+            let length = self.length("WORDS")?;
+            return Ok(Request::List { over, length });
+        }
+        let object = self.number("OBJ")?;
+        if name == "size" {
+            return Ok(Request::Size { over, object });
+        }
+        let n = self.number("N")?;
+        Ok(match name {
+            "chunk" => Request::Chunk { over, object, n },
+            "part" => Request::Part { over, object, n },
+            _ => {
+                let length = self.length("BUFLEN")?;
+                Request::Read {
+                    over,
+                    object,
+                    n,
+                    length,
+                }
+            }
+        })
+    }
+
+    /// The next word, read.
+    fn next<T>(&mut self, name: &str, read: impl Fn(&str) -> Option<T>) -> Result<T, String> {
+        if self.0.is_empty() {
+            return Err(format!("{name} is missing"));
+        }
+        let word = self.0.remove(0);
+        read(word).ok_or_else(|| format!("{name} cannot be {word}"))
+    }
+
+    fn number(&mut self, name: &str) -> Result<u32, String> {
+        self.next(name, number)
+    }
+
+    fn length(&mut self, name: &str) -> Result<usize, String> {
+        self.next(name, length)
+    }
+
+    /// A word of the index, which has 32 bits.
+    fn word(&mut self) -> Result<u32, String> {
+        self.next("X", |word| u32::try_from(long(word)?).ok())
+    }
+
+    fn on(&mut self) -> Result<On, String> {
+        Ok(On {
+            layout: self.next("L", layout)?,
+            k: self.number("K")?,
+        })
+    }
+
+    /// The options, which stand behind the arguments.
+    fn lent(&mut self) -> Result<Lent, String> {
+        let mut lent = Lent::default();
+        while let Some((name, value)) = self.0.last().and_then(|word| word.split_once('=')) {
+            let cannot = || format!("{name} cannot be {value}");
+            match name {
+                "k" => lent.k = Some(number(value).ok_or_else(cannot)?),
+                "words" => lent.words = Some(length(value).ok_or_else(cannot)?),
+                "layout" => lent.layout = Some(layout(value).ok_or_else(cannot)?),
+                _ => return Err(format!("there is no option {name}=")),
+            }
+            self.0.pop();
+        }
+        Ok(lent)
+    }
+}
+
+fn layout(word: &str) -> Option<u32> {
+    Named::parse(word).map(Named::number)
+}
+
+fn length(word: &str) -> Option<usize> {
+    usize::try_from(long(word)?).ok()
+}
+
+#[cfg(test)]
+mod tests {
+    use super::*;
+
+    #[test]
+    fn lines_are_read() {
+        let on = On { layout: 6, k: 4 };
+        let lines = [
+            ("find 0x4 # K", Request::Find { k: 4 }),
+            ("kind 512/16/0 4 3", Request::Kind { on, page: 3 }),
+            ("start 6 4 48", Request::Start { on, words: 48 }),
+            (
+                "  dread 6 4 257 1 512",
+                Request::Read {
+                    over: Over::Dump(on),
+                    object: 257,
+                    n: 1,
+                    length: 512,
+                },
+            ),
+            (
+                "list 2 k=4 words=48 layout=6",
+                Request::List {
+                    over: Over::Index(Lent {
+                        layout: Some(6),
+                        k: Some(4),
+                        words: Some(48),
+                    }),
+                    length: 2,
+                },
+            ),
+            ("poke 1 0xFFFFFFFF", Request::Poke { at: 1, word: !0 }),
+        ];
+        for (line, expected) in lines {
+            assert_eq!(request(line), Ok(Some(expected)), "{line}");
+        }
+        assert_eq!(parse("\n# none\n   \n"), Ok(vec![]));
+    }
+
+    #[test]
+    fn what_is_wrong_is_said() {
+        let wrong = [
+            ("look 1", "there is no request look"),
+            ("find", "K is missing"),
+            ("find four", "K cannot be four"),
+            ("find 4 5", "find does not take 5"),
+            ("size 257 j=4", "there is no option j="),
+            ("dsize 6 4 257 k=4", "dsize does not take k=4"),
+            ("pages 512/16 4", "L cannot be 512/16"),
+            ("fill 0x100000000", "X cannot be 0x100000000"),
+            ("size 257 k=", "k cannot be "),
+        ];
+        for (line, said) in wrong {
+            assert_eq!(request(line), Err(said.to_string()), "{line}");
+        }
+        let said = "line 2: there is no request look".to_string();
+        assert_eq!(parse("find 4\nlook"), Err(said));
+    }
+}

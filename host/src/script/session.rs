@@ -1,0 +1,197 @@
+//! A script's requests put to the library, with the memory that its calls are
+//! lent.
+
+use super::line;
+use super::request::{Lent, On, Over, Request};
+use crate::commands::header::Header;
+use crate::failure::Failure;
+use crate::ffi::{self, Answer as _};
+
+/// What a buffer holds before a call, and the index words before the first.
+const BYTE: u8 = 0xA5;
+const WORD: u32 = 0xA5A5_A5A5;
+
+/// The dump, the index words, and what the last accepted start was given.
+pub struct Session<'d> {
+    dump: &'d [u8],
+    pub index: Vec<u32>,
+    started: Option<(On, usize)>,
+}
+
+/// An answer: its line, and the lent buffer as the call left it.
+#[derive(Debug, Default, PartialEq, Eq)]
+pub struct Answer {
+    pub line: String,
+    pub bytes: Vec<u8>,
+    pub words: Vec<u32>,
+}
+
+/// A layout and a K that every call refuses: those of no start.
+const NONE: On = On {
+    layout: u32::MAX,
+    k: 0,
+};
+
+impl<'d> Session<'d> {
+    /// A session with index memory for the most words that a request names.
+    pub fn new(dump: &'d [u8], requests: &[Request]) -> Result<Session<'d>, Failure> {
+        let words = requests.iter().filter_map(Request::words).max();
+        Ok(Session {
+            dump,
+            index: filled(words.unwrap_or(0), WORD)?,
+            started: None,
+        })
+    }
+
+    /// Puts a request to the library.
+    pub fn answer(&mut self, request: &Request) -> Result<Answer, Failure> {
+        let mut answer = Answer::default();
+        answer.line = match *request {
+            Request::Fill { word } => {
+                self.index.fill(word);
+                line::done(0)
+            }
+            Request::Poke { at, word } => {
+                *self.cell(at)? = word;
+                line::done(0)
+            }
+            Request::Peek { at } => format!("word={}", self.cell(at)?),
+            Request::Start { on, words } => self.start(on, words),
+            Request::Add { lent, page } => self.add(lent, page),
+            Request::Size { over, object } => self.size(over, object),
+            Request::Chunk { over, object, n } => self.chunk(over, object, n),
+            Request::Read {
+                over,
+                object,
+                n,
+                length,
+            } => {
+                answer.bytes = filled(length, BYTE)?;
+                self.read(over, object, n, &mut answer.bytes)
+            }
+            Request::Part { over, object, n } => self.part(over, object, n),
+            Request::List { over, length } => {
+                answer.words = filled(length, WORD)?;
+                self.list(over, &mut answer.words)
+            }
+            _ => self.whole(request),
+        };
+        Ok(answer)
+    }
+
+    /// The requests about the dump as a whole or one of its pages.
+    fn whole(&self, request: &Request) -> String {
+        let dump = self.dump;
+        let line = match *request {
+            Request::Find { k } => ffi::find(dump, k)
+                .given()
+                .map(|found| format!("layout={found}")),
+            Request::Pages { on } => ffi::pages(dump, on.layout, on.k)
+                .given()
+                .map(|answer| format!("pages={}", answer.pages)),
+            Request::Counts { on } => ffi::counts(dump, on.layout, on.k).given().map(line::counts),
+            Request::Kind { on, page } => ffi::kind(dump, on.layout, on.k, page)
+                .given()
+                .map(|kind| kind.to_string()),
+            Request::Header { on, page } => {
+                let header = Header::of(dump, on.layout, on.k, page);
+                header.numbers.given().map(|_| header.line())
+            }
+            _ => unreachable!("not about the dump as a whole"),
+        };
+        line.unwrap_or_else(line::done)
+    }
+
+    /// What a call on the index is given: layout and K, and how many words.
+    fn given(&self, lent: Lent) -> (On, usize) {
+        let (on, words) = self.started.unwrap_or((NONE, self.index.len()));
+        let layout = lent.layout.unwrap_or(on.layout);
+        let k = lent.k.unwrap_or(on.k);
+        (On { layout, k }, lent.words.unwrap_or(words))
+    }
+
+    fn start(&mut self, on: On, words: usize) -> String {
+        let cells = &mut self.index[..words];
+        let refusal = ffi::start(self.dump, on.layout, on.k, cells);
+        if refusal == 0 {
+            self.started = Some((on, words));
+        }
+        line::done(refusal)
+    }
+
+    fn add(&mut self, lent: Lent, page: u32) -> String {
+        let (on, words) = self.given(lent);
+        let cells = &mut self.index[..words];
+        line::done(ffi::add(self.dump, on.layout, on.k, cells, page))
+    }
+
+    fn size(&self, over: Over, object: u32) -> String {
+        line::size(match over {
+            Over::Dump(on) => ffi::dump_size(self.dump, on.layout, on.k, object),
+            Over::Index(lent) => {
+                let (on, words) = self.given(lent);
+                ffi::size(self.dump, on.layout, on.k, &self.index[..words], object)
+            }
+        })
+    }
+
+    fn chunk(&self, over: Over, object: u32, n: u32) -> String {
+        line::chunk(match over {
+            Over::Dump(on) => ffi::dump_chunk(self.dump, on.layout, on.k, object, n),
+            Over::Index(lent) => {
+                let (on, words) = self.given(lent);
+                ffi::chunk(self.dump, on.layout, on.k, &self.index[..words], object, n)
+            }
+        })
+    }
+
+    fn read(&self, over: Over, object: u32, n: u32, buffer: &mut [u8]) -> String {
+        let answer = match over {
+            Over::Dump(on) => ffi::dump_read(self.dump, on.layout, on.k, object, n, buffer),
+            Over::Index(lent) => {
+                let (on, words) = self.given(lent);
+                let cells = &self.index[..words];
+                ffi::read(self.dump, on.layout, on.k, cells, object, n, buffer)
+            }
+        };
+        line::read(answer, buffer)
+    }
+
+    fn part(&self, over: Over, object: u32, n: u32) -> String {
+        let place = match over {
+            Over::Dump(on) => ffi::dump_part(self.dump, on.layout, on.k, object, n),
+            Over::Index(lent) => {
+                let (on, words) = self.given(lent);
+                ffi::part(self.dump, on.layout, on.k, &self.index[..words], object, n)
+            }
+        };
+        line::part(place, self.dump)
+    }
+
+    fn list(&self, over: Over, words: &mut [u32]) -> String {
+        let answer = match over {
+            Over::Dump(on) => ffi::dump_list(self.dump, on.layout, on.k, words),
+            Over::Index(lent) => {
+                let (on, count) = self.given(lent);
+                ffi::list(self.dump, on.layout, on.k, &self.index[..count], words)
+            }
+        };
+        line::list(answer, words)
+    }
+
+    /// A word of the index memory.
+    fn cell(&mut self, at: usize) -> Result<&mut u32, Failure> {
+        let words = self.index.len();
+        let outside = || Failure::Usage(format!("the index has {words} words and no word {at}"));
+        self.index.get_mut(at).ok_or_else(outside)
+    }
+}
+
+/// Memory with the same value throughout.
+fn filled<T: Copy>(length: usize, value: T) -> Result<Vec<T>, Failure> {
+    let mut memory = Vec::new();
+    let scarce = |_| Failure::File(format!("there is no memory for a length of {length}"));
+    memory.try_reserve_exact(length).map_err(scarce)?;
+    memory.resize(length, value);
+    Ok(memory)
+}
