@@ -1,11 +1,17 @@
 //! The objects of a dump and their chunks, by an index of all its pages.
 
+use std::io;
+
 use crate::ffi::{self, Answer as _, ChunkAnswer, KindAnswer, ListAnswer, SizeAnswer};
+use crate::refusal::SHORT_BUFFER;
 
 /// How many words an index has for each page, and how many besides. With
 /// fewer the library refuses the start.
 const PER_PAGE: usize = 4;
 const SHARED: usize = 16;
+
+/// Room for the ids that a dump mostly has, so that one listing is enough.
+const SOME: usize = 4096;
 
 /// A dump with the index of all its pages.
 pub struct Objects<'d> {
@@ -47,16 +53,34 @@ impl<'d> Objects<'d> {
         all.take_while(|(_, chunk)| chunk.refusal == 0)
     }
 
-    /// The valid bytes of a chunk, as they stand in the dump.
-    pub fn part(&self, object: u32, n: u32) -> &'d [u8] {
-        ffi::part(self.dump, self.layout, self.k, &self.cells, object, n).of(self.dump)
+    /// Hands on the bytes of a live file chunk by chunk: of each the valid
+    /// ones, then zeros up to the shown length. It ends as `chunks` does.
+    pub fn contents(
+        &self,
+        object: u32,
+        mut hand_on: impl FnMut(&[u8]) -> io::Result<()>,
+    ) -> io::Result<()> {
+        let (dump, layout, k, cells) = (self.dump, self.layout, self.k, &self.cells);
+        let mut buffer = vec![0; ffi::layout(layout).data as usize];
+        for n in 1.. {
+            let chunk = ffi::read(dump, layout, k, cells, object, n, &mut buffer);
+            if chunk.refusal != 0 {
+                break;
+            }
+            hand_on(&buffer[..chunk.shown as usize])?;
+        }
+        Ok(())
     }
 
     /// The ids of the live objects, ascending, or the number of the refusal.
     pub fn list(&self) -> Result<Vec<u32>, u32> {
-        let room = self.list_into(&mut []);
-        let mut ids = vec![0; room.need as usize];
-        self.list_into(&mut ids).given()?;
+        let mut ids = vec![0; SOME];
+        let mut answer = self.list_into(&mut ids);
+        if answer.refusal == SHORT_BUFFER {
+            ids.resize(answer.need as usize, 0);
+            answer = self.list_into(&mut ids);
+        }
+        ids.truncate(answer.given()?.count as usize);
         Ok(ids)
     }
 

@@ -32,9 +32,8 @@ pub fn read(
     written.map_err(unwritten)
 }
 
-/// Writes the file's bytes: of each chunk the valid ones, then zeros up to the
-/// shown length. Where no chunk has a number any more there is no copy, and
-/// zeros follow up to the size.
+/// Writes the file's bytes. Where chunks have no numbers any more there is no
+/// copy, and zeros follow up to the size.
 fn copy(
     objects: &Objects<'_>,
     object: u32,
@@ -43,13 +42,12 @@ fn copy(
     mut written: impl FnMut(u64),
 ) -> io::Result<()> {
     let mut done = 0;
-    for (n, chunk) in objects.chunks(object) {
-        let bytes = objects.part(object, n);
+    objects.contents(object, |bytes| {
         out.write_all(bytes)?;
-        zeros(u64::from(chunk.shown) - bytes.len() as u64, out)?;
-        done += u64::from(chunk.shown);
+        done += bytes.len() as u64;
         written(done);
-    }
+        Ok(())
+    })?;
     zeros(size - done, out)
 }
 

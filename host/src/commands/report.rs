@@ -7,13 +7,14 @@ use crate::failure::Failure;
 use crate::ffi;
 
 pub fn report(opened: &Opened, out: &mut impl Write) -> Result<(), Failure> {
+    let (objects, _) = opened.objects()?;
     let layout = opened.layout()?;
     let (dump, number, block) = (&opened.dump, layout.number, opened.block);
     let asked = opened.asked_of(layout);
     let pages = opened.given(ffi::pages(dump, number, block), asked)?.pages;
     let counts = opened.given(ffi::counts(dump, number, block), asked)?;
+    let live = opened.done(objects.list(), asked)?.len();
     let objects = opened.given(ffi::dump_objects(dump, number, block), asked)?;
-    let live = opened.given(ffi::dump_live(dump, number, block), asked)?;
     writeln!(out, "layout={layout}\nblock={block}\npages={pages}")?;
     writeln!(out, "blank={}", counts.blank)?;
     writeln!(out, "foreign={}", counts.foreign)?;
@@ -21,6 +22,6 @@ pub fn report(opened: &Opened, out: &mut impl Write) -> Result<(), Failure> {
     writeln!(out, "headers={}", counts.headers)?;
     writeln!(out, "data={}", counts.data)?;
     writeln!(out, "objects={}", objects.count)?;
-    writeln!(out, "live={}", live.count)?;
+    writeln!(out, "live={live}")?;
     Ok(())
 }

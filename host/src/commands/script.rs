@@ -7,7 +7,7 @@ use std::io::{self, Write};
 use super::Opened;
 use crate::failure::Failure;
 use crate::script::request;
-use crate::script::session::Session;
+use crate::script::runner::Runner;
 
 pub fn script(opened: &Opened, name: &OsStr, out: &mut impl Write) -> Result<(), Failure> {
     let unread = |error| Failure::File(format!("cannot read {}: {error}", name.display()));
@@ -17,9 +17,9 @@ pub fn script(opened: &Opened, name: &OsStr, out: &mut impl Write) -> Result<(),
     };
     let wrong = |wrong| Failure::Usage(format!("{}: {wrong}", name.display()));
     let requests = request::parse(&text.map_err(unread)?).map_err(wrong)?;
-    let mut session = Session::new(&opened.dump, &requests)?;
+    let mut runner = Runner::new(&opened.dump, &requests)?;
     for request in &requests {
-        writeln!(out, "{}", session.answer(request)?.line)?;
+        writeln!(out, "{}", runner.answer(request)?.line)?;
     }
     Ok(())
 }

@@ -2,9 +2,9 @@
 //! each.
 //!
 //! - `request`: the requests, and reading them.
-//! - `session`: the lent memory, and the library's answers.
+//! - `runner`: the lent memory, and the library's answers.
 //! - `line`: answers as lines.
 
 pub mod line;
 pub mod request;
-pub mod session;
+pub mod runner;

@@ -2,7 +2,7 @@
 //! a script, as the command would.
 
 use lohenarr::script::request;
-use lohenarr::script::session::{Answer, Session};
+use lohenarr::script::runner::{Answer, Runner};
 
 use crate::second::index::Lent;
 use crate::second::script::Request;
@@ -10,17 +10,17 @@ use crate::second::script::Request;
 /// The library with the memory that it is lent.
 pub struct Library<'d> {
     dump: &'d [u8],
-    session: Session<'d>,
+    runner: Runner<'d>,
     before: Vec<u32>,
 }
 
 impl<'d> Library<'d> {
     pub fn new(dump: &'d [u8], requests: &[Request]) -> Library<'d> {
         let lines: Vec<_> = requests.iter().map(read).collect();
-        let session = Session::new(dump, &lines);
+        let runner = Runner::new(dump, &lines);
         Library {
             dump,
-            session: session.unwrap_or_else(|_| panic!("no memory for the index")),
+            runner: runner.unwrap_or_else(|_| panic!("no memory for the index")),
             before: Vec::new(),
         }
     }
@@ -28,14 +28,14 @@ impl<'d> Library<'d> {
     /// The answer to a request. No words of the index may change but those
     /// that the call may write to.
     pub fn answer(&mut self, request: &Request) -> Answer {
-        self.before.clone_from(&self.session.index);
-        let answer = self.session.answer(&read(request));
+        self.before.clone_from(&self.runner.index);
+        let answer = self.runner.answer(&read(request));
         let answer = answer.unwrap_or_else(|_| panic!("no answer to {request}"));
         let written = match answer.line.as_str() {
             "done" => self.writes(request),
             _ => 0,
         };
-        let kept = self.before[written..] == self.session.index[written..];
+        let kept = self.before[written..] == self.runner.index[written..];
         assert!(kept, "{request} changed words that must stay");
         answer
     }

@@ -11,10 +11,12 @@
 
 mod dump;
 mod plain;
+mod sleuthkit;
 mod timing;
 
 use std::env;
 use std::fs;
+use std::hint::black_box;
 use std::path::PathBuf;
 use std::process::{self, ExitCode};
 
@@ -40,7 +42,10 @@ fn main() -> ExitCode {
         return ExitCode::from(2);
     }
     match Dump::open(file.0.as_os_str(), false) {
-        Ok(dump) => measure(&dump, rounds),
+        Ok(dump) => {
+            measure(&dump, rounds);
+            sleuthkit::compare(&file.0, LONG + 1);
+        }
         Err(error) => {
             eprintln!("cannot read {}: {error}", file.0.display());
             return ExitCode::from(2);
@@ -118,6 +123,18 @@ fn lookups(dump: &[u8], layout: u32, rounds: usize) {
         },
         || chunks().map(|n| plain.chunk(LONG, n)).collect(),
     );
+    timing::compare("list", rounds, || library.list(), || Ok(plain.list()));
+    timing::compare(
+        "read",
+        rounds,
+        || {
+            files()
+                .skip(1)
+                .map(|object| whole(&library, object))
+                .sum::<usize>()
+        },
+        || files().skip(1).map(|object| plain.whole(object)).sum(),
+    );
     let pages = ffi::pages(dump, layout, BLOCK).pages;
     println!(
         "memory: the index has {} bytes a page; at most {} KiB in all, {} of them mapped",
@@ -125,6 +142,16 @@ fn lookups(dump: &[u8], layout: u32, rounds: usize) {
         memory("VmHWM"),
         memory("RssFile")
     );
+}
+
+/// How many bytes a file has that is read whole.
+fn whole(library: &Objects<'_>, object: u32) -> usize {
+    let mut length = 0;
+    let read = library.contents(object, |bytes| {
+        length += black_box(bytes).len();
+        Ok(())
+    });
+    read.map_or(0, |()| length)
 }
 
 /// Page and valid length of a copy.

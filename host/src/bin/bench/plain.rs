@@ -1,5 +1,7 @@
 //! The same rules in plain Rust, as one would write them by hand.
 
+use std::hint::black_box;
+
 /// The table: data size, spare size and tag offset.
 const LAYOUTS: [(usize, usize, usize); 13] = [
     (2048, 64, 0),
@@ -271,6 +273,40 @@ impl<'d> Index<'d> {
         let (page, count, cut) = copy?;
         let valid = u64::from(count).min(cut.saturating_sub(self.end(n, 0)));
         (valid > 0).then_some((page, valid as u32))
+    }
+
+    /// The ids of the live objects, ascending.
+    pub fn list(&self) -> Vec<u32> {
+        let keys = (0..self.pages).map(|slot| self.cells[4 * slot + KEY]);
+        let mut ids: Vec<u32> = keys.filter(|&key| key != 0 && self.is_live(key)).collect();
+        ids.sort_unstable();
+        ids
+    }
+
+    /// Whether the newest header is there and says that the object is live.
+    fn is_live(&self, object: u32) -> bool {
+        let mut walk = self.walk(object, self.slot(object));
+        while let Some((page, chunk)) = walk.next(self) {
+            if chunk == 0 {
+                return !matches!(word(self.page(page), 4), 3 | 4);
+            }
+        }
+        false
+    }
+
+    /// How many bytes a live file has that is read whole, chunk by chunk.
+    pub fn whole(&self, object: u32) -> usize {
+        let size = self.size(object).unwrap_or(0) as usize;
+        let mut buffer = vec![0; self.data];
+        for n in 1..=size.div_ceil(self.data) {
+            let shown = self.data.min(size - (n - 1) * self.data);
+            let (page, valid) = self.chunk(object, n as u32).unwrap_or((0, 0));
+            let valid = shown.min(valid as usize);
+            buffer[..valid].copy_from_slice(&self.page(page as usize)[..valid]);
+            buffer[valid..shown].fill(0);
+            black_box(&buffer);
+        }
+        size
     }
 
     /// Where a header cuts.

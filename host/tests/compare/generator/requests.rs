@@ -24,7 +24,7 @@ pub fn requests(rng: &mut Rng, dump: &Dump) -> Vec<Request> {
         asker.lookup(over);
     }
     for _ in 0..asker.rng.pick(&[1, 1, 2]) {
-        asker.session();
+        asker.index_calls();
     }
     asker.list
 }
@@ -129,7 +129,7 @@ impl Asker<'_> {
 
     /// Starts, and then additions and lookups in between. A dump that cannot
     /// be started gets the refused calls alone.
-    fn session(&mut self) {
+    fn index_calls(&mut self) {
         if self.rng.chance(30) {
             self.start();
         }

@@ -12,7 +12,7 @@ const BYTE: u8 = 0xA5;
 const WORD: u32 = 0xA5A5_A5A5;
 
 /// The dump, the index words, and what the last accepted start was given.
-pub struct Session<'d> {
+pub struct Runner<'d> {
     dump: &'d [u8],
     pub index: Vec<u32>,
     started: Option<(On, usize)>,
@@ -32,11 +32,11 @@ const NONE: On = On {
     k: 0,
 };
 
-impl<'d> Session<'d> {
-    /// A session with index memory for the most words that a request names.
-    pub fn new(dump: &'d [u8], requests: &[Request]) -> Result<Session<'d>, Failure> {
+impl<'d> Runner<'d> {
+    /// A runner with index memory for the most words that a request names.
+    pub fn new(dump: &'d [u8], requests: &[Request]) -> Result<Runner<'d>, Failure> {
         let words = requests.iter().filter_map(Request::words).max();
-        Ok(Session {
+        Ok(Runner {
             dump,
             index: filled(words.unwrap_or(0), WORD)?,
             started: None,
