@@ -14,7 +14,6 @@ pub mod Walking
 pub mod Ruling
 pub mod Visiting
 pub mod Bridging
-pub mod Entries
 pub mod Placing
 pub mod Turning
 pub mod Listing

@@ -10,10 +10,12 @@ use native.Mathlib.Omega.{arith}
 use lib.Dec.{ltb, eqb}
 use borrow.Author.Tests.{ltb-true, ltb-false, lt-ltb, le-ltb, eqb-true, eq-eqb, ne-eqb}
 use Rattle.page.specs.Choice.{pick}
+use Rattle.page.specs.declared.kind.Kind.{Kind}
+use Rattle.chunk.specs.Records.{ageOf}
 use Rattle.index.specs.Cells.{word, linkAt, linkTo}
-use Rattle.index.specs.Chains.{Trace, clean, broken, rec, by, leadOf, traceBy, trace}
-use Rattle.index.specs.declared.chains.Lead.{Lead}
-use Rattle.index.specs.declared.chains.Lead.the-variants.{End, Damaged, Record}
+use Rattle.index.specs.Chains.{objects, Lead, End, Damaged, Record, stepOf, Trace, clean, broken, rec, by, leadOf, traceBy, trace}
+use Rattle.index.specs.declared.chains.Step.{Step}
+use Rattle.index.specs.declared.chains.Step.the-variants as step
 
 -- the link w leads to the record q of object o below the age b
 pub record Leads (n : ℕ) (obj age : ℕ → ℕ) (o b w q : ℕ) : Type 0 where
@@ -156,6 +158,25 @@ module _ (n : ℕ) (obj age : ℕ → ℕ) (o : ℕ) (c : List ℕ) where
             let f = k .2 in
             let same : p .0 ≡ q = cc in
             (rw same at (k .1), cc)
+
+-- what a walk along a chain learns from a step: what the link tells, and what the page there says
+module _ (says : ℕ → Kind) (n o : ℕ) (c : List ℕ) (b w : ℕ) where
+  abbrev there : Lead
+  there = leadOf n (objects says) (ageOf says) o b w
+
+  abbrev pub Stepped : Step → Type 0
+  Stepped step.End = Told n (objects says) (ageOf says) o c b w End
+  Stepped step.Damaged = Told n (objects says) (ageOf says) o c b w Damaged
+  Stepped (step.Record q a k) = Told n (objects says) (ageOf says) o c b w (Record q a) × (k ≡ says (q .0))
+
+  pub stepped : (s : Step) → s ≡ stepOf says there → Stepped s
+  unfolding stepOf
+  stepped s e = rw e (go there (told n (objects says) (ageOf says) o c b w there refl))
+    where
+      go : (l : Lead) → Told n (objects says) (ageOf says) o c b w l → Stepped (stepOf says l)
+      go End k = k
+      go Damaged k = k
+      go (Record q a) k = (k, refl)
 
 -- a chain reads only the links of its object's pages below its bound
 module _ (n : ℕ) (obj age : ℕ → ℕ) (o : ℕ) (c c′ : List ℕ) where

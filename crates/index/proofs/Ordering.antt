@@ -11,15 +11,12 @@ use Rattle.page.specs.Kinds.{kindAt}
 use Rattle.page.specs.Lengths.{openedOf}
 use Rattle.page.specs.declared.kind.Kind.{Kind}
 use Rattle.page.specs.declared.kind.Kind.the-variants.{Blank, Foreign, Damaged, Header, Data}
-use Rattle.page.specs.declared.number.ObjectId.{ObjectId}
 use Rattle.page.specs.declared.layout.Layout.{Layout}
 use Rattle.page.specs.declared.layout.Opened.the-variants.{Pages}
 use Rattle.page.proofs.Lengths.{opened-most}
 use Rattle.page.proofs.Within.{header-within, data-within}
 use Rattle.chunk.specs.Records.{objectOf, sequenceOf, orderOf, ageOf}
 use Rattle.index.specs.Chains.{objects, top}
-use Rattle.index.specs.Entries.{entryOf}
-use Rattle.index.specs.declared.entry.Entry.the-variants.{Record}
 
 -- a test comes out one way only
 pub never : {A : Type 0} → false ≡ true → A
@@ -40,18 +37,6 @@ module _ (l : Layout) (dump : List ℕ) where
       go Damaged e = omega arith
       go (Header s o t p z m) e = omega (arith, header-within l dump i s o t p z m e .sequence .most)
       go (Data s o c n) e = omega (arith, data-within l dump i s o c n e .sequence .most)
-
-  -- a record has an object
-  pub record-object : (i : ℕ) (o : ObjectId) (a : ℕ) → Record o a ≡ entryOf (kindAt l dump i) i → 0 < o .0
-  unfolding entryOf
-  record-object i o a = go (kindAt l dump i) refl
-    where
-      go : (k : Kind) → kindAt l dump i ≡ k → Record o a ≡ entryOf k i → 0 < o .0
-      go Blank e q = let z : _≡_ {A = ℕ} 0 1 = cc in absurd (omega arith)
-      go Foreign e q = let z : _≡_ {A = ℕ} 0 1 = cc in absurd (omega arith)
-      go Damaged e q = let z : _≡_ {A = ℕ} 0 1 = cc in absurd (omega arith)
-      go (Header s o′ t p z m) e q = let same : o′ .0 ≡ o .0 = cc in omega (arith, header-within l dump i s o′ t p z m e .object .least)
-      go (Data s o′ c n) e q = let same : o′ .0 ≡ o .0 = cc in omega (arith, data-within l dump i s o′ c n e .object .least)
 
   pub header-object : (i : ℕ) → isHeader (kindAt l dump i) ≡ true → 0 < objects (kindAt l dump) i
   header-object i = go (kindAt l dump i) refl

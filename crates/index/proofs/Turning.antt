@@ -21,10 +21,8 @@ use Rattle.chunk.specs.Lookups.{fileAt}
 use Rattle.chunk.specs.declared.answer.File.the-variants as file
 use Rattle.chunk.specs.declared.answer.Looked.the-variants as looked
 use Rattle.index.specs.Cells.{word, linkAt}
-use Rattle.index.specs.Chains.{objects, Trace, clean, broken, rec, by, leadOf, traceBy, trace}
+use Rattle.index.specs.Chains.{objects, Lead, End, Damaged, Record, Trace, clean, broken, rec, by, leadOf, traceBy, trace}
 use Rattle.index.specs.Walks.{recordsIn, behind, cutBy, metWith, reach, shownIn, found, isShown, seek, copyFrom, chunkFile, under, below}
-use Rattle.index.specs.declared.chains.Lead.{Lead}
-use Rattle.index.specs.declared.chains.Lead.the-variants.{End, Damaged, Record}
 use Rattle.index.specs.declared.walks.Met.{Met}
 use Rattle.index.specs.declared.walks.Met.the-variants.{Nothing}
 use Rattle.index.specs.declared.walks.Reached.{Reached}

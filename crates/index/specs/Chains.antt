@@ -8,8 +8,9 @@ use Rattle.page.specs.declared.kind.Kind.{Kind}
 use Rattle.chunk.specs.Records.{objectOf}
 use Rattle.index.specs.Cells.{word, linkAt}
 use Rattle.index.specs.Slots.{first}
-use Rattle.index.specs.declared.chains.Lead.{Lead}
-use Rattle.index.specs.declared.chains.Lead.the-variants.{End, Damaged, Record}
+use Rattle.page.specs.declared.number.PageNumber.{PageNumber}
+use Rattle.index.specs.declared.chains.Step.{Step}
+use Rattle.index.specs.declared.chains.Step.the-variants as step
 
 -- the objects of the pages that say this
 abbrev pub objects : (ℕ → Kind) → ℕ → ℕ
@@ -18,6 +19,18 @@ objects says p = objectOf (says p)
 -- an age that is above that of every record
 abbrev pub top : ℕ
 top = 18446744073709551615
+
+-- where a link leads: nowhere, where it may not, or to a record and its age
+pub data Lead : Type 0 where
+  End : Lead
+  Damaged : Lead
+  Record : PageNumber → ℕ → Lead
+
+-- the step down a chain by such a link, with what the page there says
+unfoldable pub stepOf : (ℕ → Kind) → Lead → Step
+stepOf says End = step.End
+stepOf says Damaged = step.Damaged
+stepOf says (Record q a) = step.Record q a (says (q .0))
 
 -- the records that the links lead to, from the newest on: an end, a link that is damaged, or a record and the rest
 pub data Trace : Type 0 where

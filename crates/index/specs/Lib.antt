@@ -1,6 +1,5 @@
 pub mod Cells
 pub mod Slots
-pub mod Entries
 pub mod Chains
 pub mod Places
 pub mod Additions

@@ -13,14 +13,16 @@ ghost use Rattle.index.specs.Additions.{outcome, startIn, startOf, addOt
 use crate::cells::LAST;
 use crate::cells::cells_for;
 use crate::cells::link_at;
-use crate::entry::Entry;
-use crate::entry::entry_at;
 use crate::places::Place;
 use crate::places::is_marked;
 use crate::places::place_of;
 use crate::places::put_link;
 use crate::slots::claim;
 use crate::slots::slot_of;
+use chunk::record::object_of;
+use chunk::record::order_of;
+use chunk::record::sequence_of;
+use page::kind::kind_at;
 use page::layout::Layout;
 use page::layout::Opened;
 use page::number::ObjectId;
@@ -129,11 +131,12 @@ fn add_page(dump: &[u8], l: Layout, pages: u32, cells: &mut [u32], p: PageNumber
     if pages <= p.0 {
         return Added::Refused(Refusal::BadPage);
     }
-    let e = entry_at(dump, l, p);
-    let Entry::Record(o, age) = e else {
+    let k = kind_at(dump, l, p);
+    let o = ObjectId(object_of(k));
+    if o.0 == 0 {
         return add_other(cells, p);
-    };
-    add_record(dump, l, pages, cells, o, p, age)
+    }
+    add_record(dump, l, pages, cells, o, p, order_of(sequence_of(k), p))
 }
 
 // Adds page p of a dump of a named layout in blocks of k to its index.

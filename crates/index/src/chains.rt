@@ -1,12 +1,14 @@
 // The chain of an object: its added records, from the newest to the oldest.
 ghost use mathlib.Core.Path.{_≡_};
-ghost use Prim.Native.Nat.{_<_};
 ghost use Rattle.page.specs.Kinds.{kindAt};
 ghost use Rattle.chunk.specs.Records.{ageOf};
-ghost use Rattle.index.specs.Chains.{objects, leadOf};
+ghost use Rattle.index.specs.Chains.{objects, leadOf, stepOf};
 use crate::cells::LINKS;
-use crate::entry::Entry;
-use crate::entry::entry_at;
+use chunk::record::object_of;
+use chunk::record::order_of;
+use chunk::record::sequence_of;
+use page::kind::Kind;
+use page::kind::kind_at;
 use page::layout::Layout;
 use page::number::ObjectId;
 use page::number::PageNumber;
@@ -14,35 +16,32 @@ use page::number::PageNumber;
 // An age that is above that of every record.
 pub(crate) const TOP: u64 = 18_446_744_073_709_551_615;
 
-// Where a link leads: nowhere, where it may not, or to a record and its age.
-pub enum Lead {
+// A step down a chain by a link: it leads nowhere, where it may not, or to a record, with its age and what its page says.
+pub enum Step {
     End,
     Damaged,
-    Record(PageNumber, u64),
+    Record(PageNumber, u64, Kind),
 }
 
 // Where a link leads in the chain of object o below an age, in a dump of so many pages. A link may not lead outside the dump, to a page that
 // is not a record of that object, or to one that is not older.
-pub(crate) fn follow(dump: &[u8], l: Layout, pages: u32, o: ObjectId, bound: u64, link: u32) -> Lead
-    requires { ⌜ 0 < o .0 ⌝ }
-    ensures { λ r. ⌜ r ≡ leadOf pages (objects (kindAt l (now (dump .entry)))) (ageOf (kindAt l (now (dump .entry)))) (o .0) bound link ⌝ }
+pub fn follow(dump: &[u8], l: Layout, pages: u32, o: ObjectId, bound: u64, link: u32) -> Step
+    ensures { λ r. ⌜ r ≡ stepOf (kindAt l (now (dump .entry))) (leadOf pages (objects (kindAt l (now (dump .entry)))) (ageOf (kindAt l (now (dump .entry)))) (o .0) bound link) ⌝ }
 {
     if link < LINKS {
-        return Lead::End;
+        return Step::End;
     }
     let q = PageNumber(link - LINKS);
     if pages <= q.0 {
-        return Lead::Damaged;
+        return Step::Damaged;
     }
-    let e = entry_at(dump, l, q);
-    let Entry::Record(object, age) = e else {
-        return Lead::Damaged;
-    };
-    if object.0 != o.0 {
-        return Lead::Damaged;
+    let k = kind_at(dump, l, q);
+    if object_of(k) != o.0 {
+        return Step::Damaged;
     }
+    let age = order_of(sequence_of(k), q);
     if bound <= age {
-        return Lead::Damaged;
+        return Step::Damaged;
     }
-    Lead::Record(q, age)
+    Step::Record(q, age, k)
 }

@@ -1,8 +1,7 @@
 // The index: lent words that hold, for each object, its added records from the newest to the oldest.
 pub mod additions;
-mod cells;
+pub mod cells;
 pub mod chains;
-pub mod entry;
 pub mod list;
 pub mod lookups;
 pub mod places;

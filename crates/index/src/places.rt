@@ -11,7 +11,7 @@ use crate::cells::first_at;
 use crate::cells::key_at;
 use crate::cells::link_at;
 use crate::cells::marked_link;
-use crate::chains::Lead;
+use crate::chains::Step;
 use crate::chains::TOP;
 use crate::chains::follow;
 use page::layout::Layout;
@@ -45,15 +45,15 @@ fn place_from(
     let mut at = from;
     let mut bound = TOP;
     loop {
-        let lead = follow(dump, l, pages, o, bound, cells[at]);
-        match lead {
-            Lead::End => {
+        let step = follow(dump, l, pages, o, bound, cells[at]);
+        match step {
+            Step::End => {
                 return Place::At(at);
             }
-            Lead::Damaged => {
+            Step::Damaged => {
                 return Place::Refused(Refusal::IndexDamaged);
             }
-            Lead::Record(q, a) => {
+            Step::Record(q, a, _) => {
                 if a <= age {
                     if q.0 == p.0 {
                         return Place::Refused(Refusal::AlreadyAdded);

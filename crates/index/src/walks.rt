@@ -13,7 +13,7 @@ ghost use Rattle.index.specs.Cells.{cellsFor};
 ghost use Rattle.index.specs.Chains.{top};
 ghost use Rattle.index.specs.Walks.{recordsIn, metBy, cutBy, reach, seek, under, below};
 use crate::cells::link_at;
-use crate::chains::Lead;
+use crate::chains::Step;
 use crate::chains::TOP;
 use crate::chains::follow;
 use chunk::answer::Looked;
@@ -92,20 +92,19 @@ pub(crate) fn reach_header(
     let mut met = Met::Nothing;
     let mut visits: u32 = 0;
     loop {
-        let lead = follow(dump, l, pages, o, bound, link);
-        match lead {
-            Lead::End => {
+        let step = follow(dump, l, pages, o, bound, link);
+        match step {
+            Step::End => {
                 if visits == 0 {
                     return Reached::Refused(Refusal::NoObject, 0);
                 }
                 return Reached::Refused(Refusal::NoHeader, visits);
             }
-            Lead::Damaged => {
+            Step::Damaged => {
                 return Reached::Refused(Refusal::IndexDamaged, 0);
             }
-            Lead::Record(q, age) => {
+            Step::Record(q, age, k) => {
                 visits += 1;
-                let k = kind_at(dump, l, q);
                 let Kind::Data {
                     sequence: _,
                     object: _,
@@ -178,17 +177,16 @@ fn seek_copy(
     let mut cut = low;
     let mut visits = above;
     loop {
-        let lead = follow(dump, l, pages, o, bound, link);
-        match lead {
-            Lead::End => {
+        let step = follow(dump, l, pages, o, bound, link);
+        match step {
+            Step::End => {
                 return Looked::Hole(shown, visits);
             }
-            Lead::Damaged => {
+            Step::Damaged => {
                 return Looked::Refused(Refusal::IndexDamaged, 0, 0);
             }
-            Lead::Record(q, older) => {
+            Step::Record(q, older, k) => {
                 visits += 1;
-                let k = kind_at(dump, l, q);
                 if is_shown(k, c, base, cut) {
                     return Looked::Copy(q, valid_of(count_of(k), shown, cut, base), shown, visits);
                 }

@@ -1,11 +1,14 @@
--- The tests come in the definition's order. What the page is to the index says its object and its age.
-use mathlib.Core.Path.{sym, _∙_}
+-- The tests come in the definition's order. A page that is a record has an object; another has none.
+use Prim.Native.Nat.{_<_, _≤_}
+use mathlib.Core.Path.{_≡_, sym, ap, _∙_}
 use native.Mathlib.Omega.{arith}
+use lib.ListN.{length}
 use borrow.Author.Needs.{needs}
-use Rattle.index.specs.declared.entry.Entry.the-variants.{Record, Other}
+use Rattle.page.specs.Kinds.{kindAt}
+use Rattle.chunk.specs.Records.{objectOf}
+use Rattle.index.specs.Cells.{cellsFor}
+use Rattle.index.specs.Chains.{objects}
 use Rattle.index.proofs.Answers.{add-short, add-far, add-other, add-record}
-use Rattle.index.proofs.Entries.{entered}
-use Rattle.index.proofs.Ordering.{record-object}
 use Rattle.index.proofs.additions.add_page.Statement.{statement}
 use Rattle.index.proofs.additions.add_page.Tie as tie
 
@@ -17,46 +20,49 @@ returns-2 c =
     let s = c .before .before in
     sym (add-far _ _ _ _ _ (rw (s .before .cells-for .ensures) at (s .if1 .left)) (c .if2 .taken))
 
+-- the object of the page
+abbrev Object : tie.After-object-of → Type 0
+Object g =
+    let a = g .before .before .before .before .before .before .before .before .args in
+    g .object-of .result ≡ objects (kindAt (a .l) (a .dump .now)) (a .p .0)
+
+object : (g : tie.After-object-of) → Object g
+object g = g .object-of .ensures ∙ ap objectOf (g .before .kind-at .ensures)
+
 returns-3 : tie.Need-returns-3
 returns-3 c =
     let d = c .before .before in
-    let o = d .before .before in
-    let e = o .before .before in
-    let t = e .before in
+    let i = d .before .before in
+    let g = i .before .before in
+    let t = g .before .before in
     let s = t .before .before in
-    let none = entered _ _ Other (sym (o .enum-told .given .1) ∙ e .entry-at .ensures) in
-    d .add-other .ensures ∙ sym (add-other _ _ _ _ _ (rw (s .before .cells-for .ensures) at (s .if1 .left)) (t .if2 .left) none)
+    d .add-other .ensures
+    ∙ sym (add-other _ _ _ _ _ (rw (s .before .cells-for .ensures) at (s .if1 .left)) (t .if2 .left) (sym (object g) ∙ i .if3 .taken))
 
 add-record-requires : tie.Need-add-record-requires
 add-record-requires c κs =
-    let o = c .before .before in
-    let e = o .before .before in
-    let t = e .before in
+    let i = c .before .before .before in
+    let g = i .before .before in
+    let t = g .before .before in
     let s = t .before .before in
-    let a = s .before .before .before .before in
-    let q = sym (o .e .given .1) ∙ e .entry-at .ensures in
-    let is = entered _ _ (Record _ _) q in
     record {
-      few = a .pre;
+      few = s .before .before .before .before .pre;
       inside = t .if2 .left;
       room = rw (s .before .cells-for .ensures) at (s .if1 .left);
-      some = record-object _ _ _ _ _ q;
-      own = sym (is .0);
-      aged = is .1;
+      some = omega (arith, i .if3 .left);
+      own = object g;
+      aged = rw (c .order-of .ensures, c .before .sequence-of .ensures, g .before .kind-at .ensures);
     }
 
 returns-4 : tie.Need-returns-4
 returns-4 c =
     let d = c .before .before in
-    let o = d .before .before .before in
-    let e = o .before .before in
-    let t = e .before in
+    let i = d .before .before .before .before in
+    let g = i .before .before in
+    let t = g .before .before in
     let s = t .before .before in
-    let q = sym (o .e .given .1) ∙ e .entry-at .ensures in
-    let is = entered _ _ (Record _ _) q in
-    let some = record-object _ _ _ _ _ q in
     d .add-record .ensures
-    ∙ sym (add-record _ _ _ _ _ (rw (s .before .cells-for .ensures) at (s .if1 .left)) (t .if2 .left) (λ z. absurd (omega (arith, is .0, some))))
+    ∙ sym (add-record _ _ _ _ _ (rw (s .before .cells-for .ensures) at (s .if1 .left)) (t .if2 .left) (λ z. i .if3 .left (object g ∙ z)))
 
 pub add-page-spec : {M : Type 1} → statement M
 add-page-spec =
@@ -69,8 +75,9 @@ add-page-spec =
     (search needs)
     (search needs)
     (search needs)
-    (search needs)
     returns-3
+    (search needs)
+    (search needs)
     add-record-requires
     (search needs)
     returns-4)

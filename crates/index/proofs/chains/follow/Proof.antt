@@ -1,58 +1,66 @@
--- The tests come in the definition's order. A page that is no record has object 0, and so is not a record of o.
+-- The tests come in the definition's order.
 use Prim.Native.Nat.{_-_}
-use mathlib.Core.Path.{sym, ap, _∙_}
-use native.Mathlib.Omega.{arith}
+use mathlib.Core.Path.{_≡_, sym, ap, _∙_}
 use borrow.Author.Needs.{needs}
-use Rattle.index.specs.declared.entry.Entry.the-variants.{Record, Other}
-use Rattle.index.specs.declared.chains.Lead.the-variants as lead
+use Rattle.page.specs.Kinds.{kindAt}
+use Rattle.chunk.specs.Records.{objectOf, ageOf}
+use Rattle.index.specs.Chains.{objects, stepOf}
 use Rattle.index.proofs.Links.{lead-end, lead-outside, lead-other, lead-newer, lead-older}
-use Rattle.index.proofs.Entries.{entered}
 use Rattle.index.proofs.chains.follow.Statement.{statement}
 use Rattle.index.proofs.chains.follow.Tie as tie
 
 returns : tie.Need-returns
-returns c = sym (lead-end _ _ _ _ _ _ (c .if1 .taken))
+unfolding stepOf
+returns c = rw (lead-end _ _ _ _ _ _ (c .if1 .taken))
 
 returns-2 : tie.Need-returns-2
-returns-2 c = sym (lead-outside _ _ _ _ _ _ (c .before .before .if1 .left) (c .if2 .taken))
+unfolding stepOf
+returns-2 c = rw (lead-outside _ _ _ _ _ _ (c .before .before .if1 .left) (c .if2 .taken))
+
+-- the object of the page that the link leads to
+abbrev Object : tie.After-object-of → Type 0
+Object g =
+    let a = g .before .before .before .before .before .before .args in
+    g .object-of .result ≡ objects (kindAt (a .l) (a .dump .now)) (a .link - 2)
+
+object : (g : tie.After-object-of) → Object g
+object g = g .object-of .ensures ∙ ap objectOf (g .before .kind-at .ensures)
 
 returns-3 : tie.Need-returns-3
+unfolding stepOf
 returns-3 c =
-    let m = c .before .before in
-    let t = m .before in
-    let s = t .before .before in
-    let none = entered _ _ Other (sym (c .enum-told .given .1) ∙ m .entry-at .ensures) in
-    sym (lead-other _ _ _ _ _ _ (s .if1 .left) (t .if2 .left) (λ e. absurd (omega (arith, none, s .before .before .pre))))
+    let g = c .before .before in
+    let t = g .before .before in
+    rw (lead-other _ _ _ _ _ _ (t .before .before .if1 .left) (t .if2 .left) (λ q. c .if3 .taken (object g ∙ q)))
+
+-- its age
+abbrev Age : tie.After-order-of → Type 0
+Age f =
+    let a = f .before .before .before .before .before .before .before .before .before .before .args in
+    f .order-of .result ≡ ageOf (kindAt (a .l) (a .dump .now)) (a .link - 2)
+
+age : (f : tie.After-order-of) → Age f
+age f = rw (f .order-of .ensures, f .before .sequence-of .ensures, f .before .before .before .before .before .kind-at .ensures)
 
 returns-4 : tie.Need-returns-4
+unfolding stepOf
 returns-4 c =
-    let e = c .before .before .before .before in
-    let m = e .before .before in
-    let t = m .before in
-    let s = t .before .before in
-    let is = entered _ _ (Record _ _) (sym (e .e .given .1) ∙ m .entry-at .ensures) in
-    sym (lead-other _ _ _ _ _ _ (s .if1 .left) (t .if2 .left) (λ q. c .if3 .taken (sym (is .0) ∙ q)))
+    let f = c .before in
+    let e = f .before .before in
+    let g = e .before .before in
+    let t = g .before .before in
+    rw (lead-newer _ _ _ _ _ _ (t .before .before .if1 .left) (t .if2 .left) (sym (object g) ∙ e .if3 .left) (rw (age f) at (c .if4 .taken)))
 
 returns-5 : tie.Need-returns-5
+unfolding stepOf
 returns-5 c =
-    let d = c .before in
-    let e = d .before .before .before .before in
-    let m = e .before .before in
-    let t = m .before in
-    let s = t .before .before in
-    let is = entered _ _ (Record _ _) (sym (e .e .given .1) ∙ m .entry-at .ensures) in
-    sym (lead-newer _ _ _ _ _ _ (s .if1 .left) (t .if2 .left) (is .0 ∙ d .if3 .left) (rw (is .1) at (c .if4 .taken)))
-
-returns-6 : tie.Need-returns-6
-returns-6 c =
-    let d = c .before in
-    let e = d .before .before .before .before in
-    let m = e .before .before in
-    let t = m .before in
-    let s = t .before .before in
-    let is = entered _ _ (Record _ _) (sym (e .e .given .1) ∙ m .entry-at .ensures) in
-    ap (lead.Record (record { 0 = s .before .before .args .link - 2 })) (is .1)
-    ∙ sym (lead-older _ _ _ _ _ _ (s .if1 .left) (t .if2 .left) (is .0 ∙ d .if3 .left) (rw (is .1) at (c .if4 .left)))
+    let f = c .before in
+    let e = f .before .before in
+    let g = e .before .before in
+    let t = g .before .before in
+    rw (lead-older _ _ _ _ _ _ (t .before .before .if1 .left) (t .if2 .left) (sym (object g) ∙ e .if3 .left) (rw (age f) at (c .if4 .left)))
+    (rw (age f, g .before .kind-at .ensures))
 
 pub follow-spec : {M : Type 1} → statement M
-follow-spec = tie.close (tie.spec returns returns-2 (search needs) (search needs) (search needs) returns-3 returns-4 returns-5 returns-6)
+follow-spec =
+    tie.close (tie.spec returns returns-2 (search needs) (search needs) returns-3 (search needs) (search needs) returns-4 returns-5)

@@ -11,9 +11,9 @@ use Rattle.page.proofs.Sound.{else-data}
 use Rattle.chunk.specs.Records.{ageOf}
 use Rattle.index.specs.Chains.{objects, top}
 use Rattle.index.specs.Walks.{recordsIn, reach, under}
-use Rattle.index.specs.declared.chains.Lead.the-variants.{End, Damaged, Record}
+use Rattle.index.specs.declared.chains.Step.the-variants.{End, Damaged, Record}
 use Rattle.index.specs.declared.walks.Met.the-variants.{Nothing}
-use Rattle.index.proofs.Links.{Told, told}
+use Rattle.index.proofs.Links.{Stepped, stepped}
 use Rattle.index.proofs.Walking.{other-header}
 use Rattle.index.proofs.Turning.{reach-nothing, reach-headless, reach-broken, reach-here, reach-on, count-on, few}
 use Rattle.index.proofs.walks.reach_header.Statement.{statement}
@@ -38,78 +38,78 @@ returns : tie.Need-returns Inv-loop μ-loop
 returns c =
     let f = c .before .before .before in
     let q = f .before .loop in
-    let k = told _ _ _ _ _ _ _ End (sym (c .before .enum-told .given .1) ∙ f .follow .ensures) in
+    let k = stepped _ _ _ _ _ _ End (sym (c .before .enum-told .given .1) ∙ f .follow .ensures) in
     sym (q .inv .1 ∙ reach-nothing _ _ _ _ _ _ _ (k .0) (c .if1 .taken))
 
 returns-2 : tie.Need-returns-2 Inv-loop μ-loop
 returns-2 c =
     let f = c .before .before .before in
     let q = f .before .loop in
-    let k = told _ _ _ _ _ _ _ End (sym (c .before .enum-told .given .1) ∙ f .follow .ensures) in
+    let k = stepped _ _ _ _ _ _ End (sym (c .before .enum-told .given .1) ∙ f .follow .ensures) in
     sym (q .inv .1 ∙ reach-headless _ _ _ _ _ _ _ (k .0) (c .if1 .left))
 
 returns-3 : tie.Need-returns-3 Inv-loop μ-loop
 returns-3 c =
     let f = c .before .before in
     let q = f .before .loop in
-    let k = told _ _ _ _ _ _ _ Damaged (sym (c .enum-told2 .given .1) ∙ f .follow .ensures) in
+    let k = stepped _ _ _ _ _ _ Damaged (sym (c .enum-told2 .given .1) ∙ f .follow .ensures) in
     sym (q .inv .1 ∙ reach-broken _ _ _ _ _ _ _ k)
 
 -- what is known at a record that a link led to
-abbrev Here : tie.After-lead Inv-loop μ-loop → Type 0
+abbrev Here : tie.After-step Inv-loop μ-loop → Type 0
 Here c =
     let q = c .before .before .before .loop in
     let a = c .before .before .before .before .before .before .args in
     let says = kindAt (a .l) (a .dump .now) in
-    Told (a .pages) (objects says) (ageOf says) (a .o .0) (a .cells .now) (q .bound) (q .link) (Record (c .lead .given .0 .0) (c .lead .given .0 .1 .0))
+    Stepped says (a .pages) (a .o .0) (a .cells .now) (q .bound) (q .link) (Record (c .step .given .0 .0) (c .step .given .0 .1 .0) (c .step .given .0 .1 .1 .0))
 
-here : (c : tie.After-lead Inv-loop μ-loop) → Here c
-here c = told _ _ _ _ _ _ _ (Record _ _) (sym (c .lead .given .1) ∙ c .before .before .follow .ensures)
+here : (c : tie.After-step Inv-loop μ-loop) → Here c
+here c = stepped _ _ _ _ _ _ (Record _ _ _) (sym (c .step .given .1) ∙ c .before .before .follow .ensures)
 
 add-visits : tie.Need-add-visits Inv-loop μ-loop
 add-visits c =
     let g = c .before in
-    omega (arith, g .before .before .before .loop .inv .0, count-on _ _ _ (here g .2))
+    omega (arith, g .before .before .before .loop .inv .0, count-on _ _ _ (here g .0 .2))
 
 returns-4 : tie.Need-returns-4 Inv-loop μ-loop
 returns-4 c =
-    let g = c .before .before .before in
+    let g = c .before .before in
     let q = g .before .before .before .loop in
     let s = g .before .before .before .before .before .before in
     let says = kindAt (s .args .l) (s .args .dump .now) in
-    let d = rw (c .before .kind-at .ensures) at (else-data (c .before .kind-at .result) (c .match2 .keys2)) in
-    let e = other-header (s .args .o .0) (s .pre .0) (says (g .lead .given .0 .0 .0)) (here g .1 .own) d in
-    sym (q .inv .1 ∙ reach-here says _ _ _ _ _ _ _ _ (here g .2) e)
+    let d = rw (here g .1) at (else-data (g .step .given .0 .1 .1 .0) (c .match2 .keys2)) in
+    let e = other-header (s .args .o .0) (s .pre .0) (says (g .step .given .0 .0 .0)) (here g .0 .1 .own) d in
+    sym (q .inv .1 ∙ reach-here says _ _ _ _ _ _ _ _ (here g .0 .2) e)
 
 mul-link : tie.Need-mul-link Inv-loop μ-loop
 mul-link c =
-    let g = c .before .before .before .before .before .before .before .before in
-    omega (arith, here g .1 .inside, c .link-at .ensures)
+    let g = c .before .before .before .before .before .before .before in
+    omega (arith, here g .0 .1 .inside, c .link-at .ensures)
 
 read-link : tie.Need-shared-slice-read-link Inv-loop μ-loop
 read-link c =
-    let g = c .before .before .before .before .before .before .before .before .before in
+    let g = c .before .before .before .before .before .before .before .before in
     let s = g .before .before .before .before .before .before in
-    omega (arith, here g .1 .inside, c .before .link-at .ensures, s .pre .1)
+    omega (arith, here g .0 .1 .inside, c .before .link-at .ensures, s .pre .1)
 
 loop-less : tie.Need-loop-less Inv-loop μ-loop
 loop-less c =
-    let g = c .before .before .before .before .before .before .before .before .before in
-    omega (arith, here g .0, here g .1 .older)
+    let g = c .before .before .before .before .before .before .before .before in
+    omega (arith, here g .0 .0, here g .0 .1 .older)
 
 loop-again : tie.Need-loop-again Inv-loop μ-loop
 loop-again c =
     let m = c .before .before .before .before .before in
-    let g = m .before .before .before .before in
+    let g = m .before .before .before in
     let q = g .before .before .before .loop in
     let a = g .before .before .before .before .before .before .args in
     let says = kindAt (a .l) (a .dump .now) in
-    let e = sym (m .before .before .kind-at .ensures) ∙ m .k .given .1 in
-    let d : isHeader (says (g .lead .given .0 .0 .0)) ≡ false = rw e in (
-      rw (here g .0, c .before .link-at .ensures) (omega (arith, q .inv .0, count-on _ _ _ (here g .2))),
+    let e = sym (here g .1) ∙ m .k .given .1 in
+    let d : isHeader (says (g .step .given .0 .0 .0)) ≡ false = rw e in (
+      rw (here g .0 .0, c .before .link-at .ensures) (omega (arith, q .inv .0, count-on _ _ _ (here g .0 .2))),
       q .inv .1
-          ∙ reach-on says _ _ _ _ _ _ _ _ (here g .2) d
-          ∙ rw (c .before .before .before .end-with .ensures, c .before .before .or-copy .ensures, here g .0, c .before .link-at .ensures, e),
+          ∙ reach-on says _ _ _ _ _ _ _ _ (here g .0 .2) d
+          ∙ rw (c .before .before .before .end-with .ensures, c .before .before .or-copy .ensures, here g .0 .0, c .before .link-at .ensures, e),
     )
 
 pub reach-header-spec : {M : Type 1} → statement M
@@ -127,7 +127,6 @@ reach-header-spec =
     returns-3
     (search needs)
     add-visits
-    (search needs)
     (search needs)
     returns-4
     (search needs)
