@@ -16,6 +16,7 @@ pub mod Visiting
 pub mod Bridging
 pub mod Placing
 pub mod Turning
+pub mod Ahead
 pub mod Listing
 pub mod Demanding
 pub mod Kept

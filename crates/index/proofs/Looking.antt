@@ -1,33 +1,28 @@
 -- Lookups by an index that holds exactly the added pages answer what the rules answer where pages not added read as blank, refusals and
 -- visits included, and visit no more records than the object's added ones.
-use Prim.Native.Nat.{ℕ, _-_, _*_, _/_, _≤_, _<_, zero-le}
+use Prim.Native.Nat.{ℕ, _≤_, _<_, zero-le}
 use mathlib.Core.Bool.{Bool, false}
 use mathlib.Core.List.{List}
 use mathlib.Core.Path.{_≡_, refl}
-use native.Mathlib.Nat.{mul-le-mul-right, div-mul-le-self}
 use native.Mathlib.Omega.{arith}
 use lib.ListN.{length}
 use borrow.Author.Tests.{le-ltb}
 use Rattle.page.specs.Kinds.{kindAt}
-use Rattle.page.specs.Layouts.{pageLen}
 use Rattle.page.specs.Lengths.{mostBytes, openedOf}
-use Rattle.page.specs.Numbers.{mostChunk, badObject, badChunk}
+use Rattle.page.specs.Numbers.{badObject, badChunk}
 use Rattle.page.specs.declared.kind.Kind.{Kind}
 use Rattle.page.specs.declared.layout.Layout.{Layout}
 use Rattle.page.specs.declared.layout.Opened.the-variants.{Pages}
-use Rattle.page.proofs.Layouts.{product-le}
-use Rattle.page.proofs.Lengths.{opened-facts, opened-some, length-most}
 use Rattle.page.proofs.Searching.{by-test}
 use Rattle.page.proofs.Within.{object-within, chunk-within}
-use Rattle.chunk.specs.Records.{ageOf, baseOf}
+use Rattle.chunk.specs.Records.{ageOf}
 use Rattle.chunk.specs.Newest.{records}
-use Rattle.chunk.specs.Cuts.{nowhere}
 use Rattle.chunk.specs.Lookups.{sizedOf, lookedOf}
 use Rattle.index.specs.Chains.{objects, top}
 use Rattle.index.specs.Held.{Held}
 use Rattle.index.specs.Walks.{seenSays, sizeVisits, chunkVisits, sizeIn, chunkIn, sizeFrom, chunkFrom}
 use Rattle.index.proofs.Bridging.{size-seen, chunk-seen, size-visits-seen, chunk-visits-seen}
-use Rattle.index.proofs.Ordering.{pages-most, ages-below}
+use Rattle.index.proofs.Ordering.{data-most, chunk-near, pages-most, ages-below}
 
 module _
     (says : ℕ → Kind) (n : ℕ) (few : n ≤ 4294967296)
@@ -49,13 +44,6 @@ module _
         let pos : 0 < o = object-within o t .least in
         rw (t, held .chains o pos) (size-seen says n few old added o pos P, size-visits-seen says n few old added o pos P)))
 
-    -- a chunk with few enough bytes to a page begins before the place of no cut
-    near : (c : ℕ) → P ≤ mostBytes → badChunk c ≡ false → baseOf P c < nowhere
-    near c h t =
-        let w : c - 1 ≤ mostChunk = omega (arith, chunk-within c t .most) in
-        let p : (c - 1) * P ≤ mostChunk * mostBytes = product-le w h in
-        omega arith
-
     pub chunk-held :
         P ≤ mostBytes →
         (c : ℕ) →
@@ -72,7 +60,7 @@ module _
         (λ u.
         let pos : 0 < o = object-within o t .least in
         rw (u, held .chains o pos)
-        (chunk-seen says n few old added o pos P c (chunk-within c u .least) (near c h u), chunk-visits-seen says n few old added o pos P c)))))
+        (chunk-seen says n few old added o pos P c (chunk-within c u .least) (chunk-near P c h u), chunk-visits-seen says n few old added o pos P c)))))
 
 -- an accepted dump of n pages
 module _
@@ -81,13 +69,6 @@ module _
     (held : Held n (objects (kindAt l dump)) (ageOf (kindAt l dump)) added cells)
     (o : ℕ)
   where
-    -- a page has no more bytes than a dump may have
-    data-most : l .«data» ≤ mostBytes
-    data-most =
-        let f = opened-facts l k (length dump) n e in
-        let some : 1 ≤ length dump / pageLen l = rw (f .pages) (opened-some l k (length dump) n e) in
-        omega (arith, length-most (length dump) (f .long), div-mul-le-self (length dump) (pageLen l), mul-le-mul-right (pageLen l) some)
-
     few-pages : n ≤ 4294967296
     few-pages = omega (arith, pages-most l dump k n e)
 
@@ -103,4 +84,4 @@ module _
         (c : ℕ) →
         (chunkFrom l k dump cells o c ≡ lookedOf D o n (l .«data») c) × (chunkVisits (chunkFrom l k dump cells o c) ≤ records D o n)
     unfolding chunkFrom
-    chunk-from-held c = rw e (chunk-held (kindAt l dump) n few-pages (ages-below l dump k n e) added cells held o (l .«data») data-most c)
+    chunk-from-held c = rw e (chunk-held (kindAt l dump) n few-pages (ages-below l dump k n e) added cells held o (l .«data») (data-most l dump k n e) c)

@@ -1,21 +1,26 @@
 -- The records of a dump are in a strict order: by sequence, then by page. A page number is below 2^32, so that two ages are equal only if the
 -- pages are; and no record's sequence is so large that its age reaches the top.
-use Prim.Native.Nat.{ℕ, _≤_, _<_}
+use Prim.Native.Nat.{ℕ, _-_, _*_, _/_, _≤_, _<_}
 use mathlib.Core.Bool.{true, false}
 use mathlib.Core.List.{List}
 use mathlib.Core.Path.{_≡_, refl}
+use native.Mathlib.Nat.{mul-le-mul-right, div-mul-le-self}
 use native.Mathlib.Omega.{arith}
 use lib.ListN.{length}
 use Rattle.page.specs.Counts.{isHeader}
 use Rattle.page.specs.Kinds.{kindAt}
-use Rattle.page.specs.Lengths.{openedOf}
+use Rattle.page.specs.Layouts.{pageLen}
+use Rattle.page.specs.Lengths.{mostBytes, openedOf}
+use Rattle.page.specs.Numbers.{mostChunk, badChunk}
 use Rattle.page.specs.declared.kind.Kind.{Kind}
 use Rattle.page.specs.declared.kind.Kind.the-variants.{Blank, Foreign, Damaged, Header, Data}
 use Rattle.page.specs.declared.layout.Layout.{Layout}
 use Rattle.page.specs.declared.layout.Opened.the-variants.{Pages}
-use Rattle.page.proofs.Lengths.{opened-most}
-use Rattle.page.proofs.Within.{header-within, data-within}
-use Rattle.chunk.specs.Records.{objectOf, sequenceOf, orderOf, ageOf}
+use Rattle.page.proofs.Layouts.{product-le}
+use Rattle.page.proofs.Lengths.{opened-facts, opened-some, opened-most, length-most}
+use Rattle.page.proofs.Within.{chunk-within, header-within, data-within}
+use Rattle.chunk.specs.Records.{objectOf, sequenceOf, orderOf, ageOf, baseOf}
+use Rattle.chunk.specs.Cuts.{nowhere}
 use Rattle.index.specs.Chains.{objects, top}
 
 -- a test comes out one way only
@@ -25,6 +30,13 @@ never e = let z : _≡_ {A = ℕ} 0 1 = cc in absurd (omega arith)
 -- the order is by sequence, then by page
 pub order-less : (s t x y : ℕ) → x < 4294967296 → y < 4294967296 → orderOf s x < orderOf t y → (s ≤ t) × (s ≡ t → x < y)
 order-less s t x y hx hy h = (omega arith, λ e. omega arith)
+
+-- a chunk with few enough bytes to a page begins before the place of no cut
+pub chunk-near : (P c : ℕ) → P ≤ mostBytes → badChunk c ≡ false → baseOf P c < nowhere
+chunk-near P c h t =
+    let w : c - 1 ≤ mostChunk = omega (arith, chunk-within c t .most) in
+    let p : (c - 1) * P ≤ mostChunk * mostBytes = product-le w h in
+    omega arith
 
 module _ (l : Layout) (dump : List ℕ) where
   -- no sequence is the largest word
@@ -56,6 +68,13 @@ module _ (l : Layout) (dump : List ℕ) where
   module _ (k n : ℕ) (e : openedOf l k (length dump) ≡ Pages n) where
     pub pages-most : n ≤ 1073741824
     pages-most = opened-most l k (length dump) n e
+
+    -- a page has no more bytes than a dump may have
+    pub data-most : l .«data» ≤ mostBytes
+    data-most =
+        let f = opened-facts l k (length dump) n e in
+        let some : 1 ≤ length dump / pageLen l = rw (f .pages) (opened-some l k (length dump) n e) in
+        omega (arith, length-most (length dump) (f .long), div-mul-le-self (length dump) (pageLen l), mul-le-mul-right (pageLen l) some)
 
     pub ages-below : (x : ℕ) → x < n → ageOf (kindAt l dump) x < top
     ages-below x h = age-below x (omega (arith, pages-most))

@@ -5,6 +5,7 @@ pub mod Places
 pub mod Additions
 pub mod Held
 pub mod Walks
+pub mod Ahead
 pub mod Listing
 pub mod Requests
 pub mod Demand
