@@ -9,12 +9,13 @@ use mathlib.Core.Path.{_≡_, refl, sym, ap, _∙_}
 use native.Mathlib.Nat.{not-suc-le-zero, mod-lt, le-refl}
 use native.Mathlib.Decide.{ℕ-discrete}
 use native.Mathlib.Omega.{arith}
+use lib.ListN.{length}
 use lib.Dec.{eqb}
-use borrow.Author.Tests.{eq-eqb, ne-eqb}
+use borrow.Author.Tests.{eq-eqb, ne-eqb, le-ltb}
 use Rattle.page.specs.Choice.{pick}
 use Rattle.page.specs.Search.{count}
-use Rattle.index.specs.Cells.{word, keys, firstAt}
-use Rattle.index.specs.Slots.{serves, down, slot, foundOr, firstIn, first, used}
+use Rattle.index.specs.Cells.{cellsFor, word, keys, firstAt}
+use Rattle.index.specs.Slots.{serves, down, slot, foundOr, firstIn, first, firstLink, used}
 use Rattle.index.specs.declared.slots.Found.{Found}
 use Rattle.index.specs.declared.slots.Found.the-variants.{Slot, Nothing}
 use Rattle.index.proofs.Counts.{count-all}
@@ -181,3 +182,8 @@ module _ (n : ℕ) (c : List ℕ) (o s : ℕ) (at : slot n (keys c) o ≡ s) whe
   pub first-none : (keys c s ≡ o → ⊥) → first n c o ≡ 0
   unfolding first
   first-none k = rw at (first-in-none c s o k)
+
+-- words that are enough for some pages
+pub first-link : (n : ℕ) (c : List ℕ) (o : ℕ) → 0 < n → cellsFor n ≤ length c → firstLink n c o ≡ first n c o
+unfolding firstLink
+first-link n c o h k = rw (ne-eqb n 0 (λ e. absurd (omega arith)), le-ltb (length c) (cellsFor n) k)

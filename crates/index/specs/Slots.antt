@@ -2,9 +2,10 @@
 use Prim.Native.Nat.{ℕ, zero, suc, _+_, _%_}
 use mathlib.Core.Bool.{Bool, not, _||_}
 use mathlib.Core.List.{List}
-use lib.Dec.{eqb}
+use lib.ListN.{length}
+use lib.Dec.{eqb, ltb}
 use Rattle.page.specs.Choice.{pick}
-use Rattle.index.specs.Cells.{word, keys, firstAt}
+use Rattle.index.specs.Cells.{cellsFor, word, keys, firstAt}
 use Rattle.index.specs.declared.slots.Found.{Found}
 use Rattle.index.specs.declared.slots.Found.the-variants.{Slot, Nothing}
 
@@ -33,6 +34,10 @@ firstIn c s o = pick (eqb (keys c s) o) (word c (firstAt s)) 0
 -- the link to the first record of object o
 unfoldable pub first : ℕ → List ℕ → ℕ → ℕ
 first n c o = firstIn c (slot n (keys c) o) o
+
+-- the same, on any words; one that leads nowhere where they are too few for n pages
+unfoldable pub firstLink : ℕ → List ℕ → ℕ → ℕ
+firstLink n c o = pick (eqb n 0 || ltb (length c) (cellsFor n)) 0 (first n c o)
 
 -- whether a slot is used
 abbrev pub used : (ℕ → ℕ) → ℕ → Bool

@@ -14,14 +14,14 @@ pub(crate) const LAST: u32 = 1;
 pub(crate) const LINKS: u32 = 2;
 
 // How many words an index of so many pages has.
-pub(crate) fn cells_for(pages: u32) -> usize
+pub fn cells_for(pages: u32) -> usize
     ensures { λ r. ⌜ r ≡ cellsFor pages ⌝ }
 {
     SHARED + PER_PAGE * (pages as usize)
 }
 
 // Where the link of page p stands.
-pub(crate) fn link_at(p: PageNumber) -> usize
+pub fn link_at(p: PageNumber) -> usize
     ensures { λ r. ⌜ r ≡ linkAt (p .0) ⌝ }
 {
     SHARED + PER_PAGE * (p.0 as usize)

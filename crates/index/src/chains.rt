@@ -14,7 +14,7 @@ use page::number::ObjectId;
 use page::number::PageNumber;
 
 // An age that is above that of every record.
-pub(crate) const TOP: u64 = 18_446_744_073_709_551_615;
+pub const TOP: u64 = 18_446_744_073_709_551_615;
 
 // A step down a chain by a link: it leads nowhere, where it may not, or to a record, with its age and what its page says.
 pub enum Step {

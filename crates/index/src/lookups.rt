@@ -5,12 +5,10 @@ ghost use lib.ListN.{length};
 ghost use Rattle.page.specs.Kinds.{kindAt};
 ghost use Rattle.chunk.specs.Answers.{readBy, partBy, bufferBy};
 ghost use Rattle.index.specs.Cells.{cellsFor};
-ghost use Rattle.index.specs.Slots.{first};
 ghost use Rattle.index.specs.Chains.{top};
 ghost use Rattle.index.specs.Walks.{recordsIn, sizeReached, copyFrom, chunkReached, chunkWalk, under, below, sizeIn, chunkIn, sizeFrom, chunkFrom};
 use crate::cells::cells_for;
-use crate::slots::first_of;
-use crate::slots::slot_of;
+use crate::slots::first_link;
 use crate::walks::Met;
 use crate::walks::Reached;
 use crate::walks::reach_header;
@@ -35,15 +33,6 @@ use page::number::ChunkNumber;
 use page::number::ObjectId;
 use page::number::PageNumber;
 use page::refusal::Refusal;
-
-// The link to the first record of object o.
-fn first_link(cells: &[u32], o: ObjectId, pages: u32) -> u32
-    requires { ⌜ 0 < pages ⌝ }
-    requires { ⌜ cellsFor pages ≤ length (now cells) ⌝ }
-    ensures { λ r. ⌜ r ≡ first pages (now (cells .entry)) (o .0) ⌝ }
-{
-    first_of(cells, o, slot_of(cells, o, pages))
-}
 
 // The size by what a walk reached.
 fn size_reached(dump: &[u8], l: Layout, r: Reached) -> Sized

@@ -3,7 +3,8 @@ ghost use mathlib.Core.Path.{_≡_};
 ghost use Prim.Native.Nat.{_+_, _≤_, _<_};
 ghost use lib.ListN.{length};
 ghost use Rattle.index.specs.Cells.{cellsFor, keys, claimed};
-ghost use Rattle.index.specs.Slots.{down, foundOr, slot, firstIn};
+ghost use Rattle.index.specs.Slots.{down, foundOr, slot, firstIn, firstLink};
+use crate::cells::cells_for;
 use crate::cells::first_at;
 use crate::cells::key_at;
 use page::number::ObjectId;
@@ -75,6 +76,19 @@ pub(crate) fn first_of(cells: &[u32], o: ObjectId, s: u32) -> u32
     }
     let f = first_at(s);
     cells[f]
+}
+
+// The link to the first record of object o; one that leads nowhere where the words are too few for so many pages.
+pub fn first_link(cells: &[u32], o: ObjectId, pages: u32) -> u32
+    ensures { λ r. ⌜ r ≡ firstLink pages (now (cells .entry)) (o .0) ⌝ }
+{
+    if pages == 0 {
+        return 0;
+    }
+    if cells.len() < cells_for(pages) {
+        return 0;
+    }
+    first_of(cells, o, slot_of(cells, o, pages))
 }
 
 // Makes slot s the slot of object o: if it is not yet, the object has no record.

@@ -125,7 +125,7 @@ pub(crate) fn reach_header(
 }
 
 // The lowest cut, with a page that says k too, which is the newest header or not.
-fn lower_cut(newest: bool, k: Kind, cut: u64) -> u64
+pub fn lower_cut(newest: bool, k: Kind, cut: u64) -> u64
     ensures { λ r. ⌜ r ≡ pick (isHeader k) (min (cutOf newest k) cut) cut ⌝ }
 {
     let Kind::Header {

@@ -1,10 +1,12 @@
 -- The refusals come in the definition's order; an object that is not bad has an id above 0.
+use mathlib.Core.Path.{_∙_}
 use native.Mathlib.Omega.{arith}
 use borrow.Author.Needs.{needs}
 use borrow.Author.Tests.{lt-ltb, le-ltb}
 use Rattle.page.proofs.Within.{object-within}
 use Rattle.index.specs.Chains.{chain}
 use Rattle.index.specs.Walks.{chunkIn}
+use Rattle.index.proofs.Probing.{first-link}
 use Rattle.index.proofs.lookups.chunk_in.Statement.{statement}
 use Rattle.index.proofs.lookups.chunk_in.Tie as tie
 
@@ -44,6 +46,7 @@ returns-4 c =
     let e = c .before .before in
     let d = e .before .before in
     let b = d .before .before in
+    let first = c .before .first-link .ensures ∙ first-link _ _ _ (b .before .before .before .before .pre) (omega (arith, b .if1 .left, b .before .cells-for .ensures)) in
     rw (
       ← b .before .cells-for .ensures,
       le-ltb _ _ (b .if1 .left),
@@ -51,7 +54,7 @@ returns-4 c =
       d .if2 .left,
       ← e .before .is-bad2 .ensures,
       e .if3 .left,
-      ← c .before .first-link .ensures,
+      ← first,
     )
     (c .chunk-walk .ensures)
 

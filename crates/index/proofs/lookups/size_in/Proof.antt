@@ -1,10 +1,12 @@
 -- The refusals come in the definition's order; an object that is not bad has an id above 0.
+use mathlib.Core.Path.{_∙_}
 use native.Mathlib.Omega.{arith}
 use borrow.Author.Needs.{needs}
 use borrow.Author.Tests.{lt-ltb, le-ltb}
 use Rattle.page.proofs.Within.{object-within}
 use Rattle.index.specs.Chains.{chain}
 use Rattle.index.specs.Walks.{sizeWalk, sizeIn}
+use Rattle.index.proofs.Probing.{first-link}
 use Rattle.index.proofs.lookups.size_in.Statement.{statement}
 use Rattle.index.proofs.lookups.size_in.Tie as tie
 
@@ -30,15 +32,16 @@ returns-3 c =
     let r = c .before in
     let d = r .before .before in
     let b = d .before .before in
+    let first = r .before .first-link .ensures ∙ first-link _ _ _ (b .before .before .before .before .pre) (omega (arith, b .if1 .left, b .before .cells-for .ensures)) in
     rw (
       ← b .before .cells-for .ensures,
       le-ltb _ _ (b .if1 .left),
       ← d .before .is-bad .ensures,
       d .if2 .left,
-      ← r .before .first-link .ensures,
+      ← first,
       ← r .reach-header .ensures,
     )
     (c .size-reached .ensures)
 
 pub size-in-spec : {M : Type 1} → statement M
-size-in-spec = tie.close (tie.spec (search needs) returns (search needs) returns-2 (λ c κs. omega arith) reach-header-requires (search needs) returns-3)
+size-in-spec = tie.close (tie.spec (search needs) returns (search needs) returns-2 (search needs) reach-header-requires (search needs) returns-3)
