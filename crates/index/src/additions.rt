@@ -1,8 +1,7 @@
 // Starting an index, and adding pages to it.
 ghost use mathlib.Core.Path.{_≡_};
-ghost use mathlib.Core.List.{_++_};
 ghost use Prim.Native.Nat.{_+_, _≤_, _<_, _^_};
-ghost use lib.ListN.{length, replicate, drop};
+ghost use lib.ListN.{length};
 ghost use Rattle.page.specs.Kinds.{kindAt};
 ghost use Rattle.page.specs.declared.layout.Opened.the-variants as opened;
 ghost use Rattle.chunk.specs.Records.{ageOf};
@@ -12,6 +11,7 @@ ghost use Rattle.index.specs.Places.{Recorded};
 ghost use Rattle.index.specs.Additions.{outcome, startIn, startOf, addOther, addAt, addRecord, addTo, addOf};
 use crate::cells::LAST;
 use crate::cells::cells_for;
+use crate::cells::clear;
 use crate::cells::link_at;
 use crate::places::Place;
 use crate::places::is_marked;
@@ -33,18 +33,6 @@ use page::refusal::Refusal;
 pub enum Added {
     Done,
     Refused(Refusal),
-}
-
-// Makes the first words 0.
-fn clear(cells: &mut [u32], end: usize)
-    requires { ⌜ end ≤ length (now cells) ⌝ }
-    ensures { λ _. ⌜ now (cells .exit) ≡ replicate end 0 ++ drop end (now (cells .entry)) ⌝ }
-{
-    let mut i: usize = 0;
-    while i < end {
-        cells[i] = 0;
-        i += 1;
-    }
 }
 
 // Starts an index of so many pages.

@@ -1,6 +1,9 @@
 // Where the words of the index stand: those of the whole index, then four for each page and slot.
 // The link of a page is 0 where the page has not been added, 1 where its object has no older record, and q + 2 where that is page q.
 ghost use mathlib.Core.Path.{_≡_};
+ghost use mathlib.Core.List.{_++_};
+ghost use Prim.Native.Nat.{min};
+ghost use lib.ListN.{length, replicate, drop};
 ghost use Rattle.index.specs.Cells.{cellsFor, linkAt, keyAt, firstAt, marked};
 use page::number::PageNumber;
 
@@ -49,4 +52,23 @@ pub(crate) fn marked_link(link: u32) -> u32
         return LAST;
     }
     link
+}
+
+// The shorter of two lengths.
+fn shorter(a: usize, b: usize) -> usize
+    ensures { λ r. ⌜ r ≡ min a b ⌝ }
+{
+    if a < b { a } else { b }
+}
+
+// Makes the first words 0: so many, or all where they are fewer.
+pub fn clear(words: &mut [u32], end: usize)
+    ensures { λ _. ⌜ now (words .exit) ≡ replicate (min end (length (now (words .entry)))) 0 ++ drop (min end (length (now (words .entry)))) (now (words .entry)) ⌝ }
+{
+    let stop = shorter(end, words.len());
+    let mut i: usize = 0;
+    while i < stop {
+        words[i] = 0;
+        i += 1;
+    }
 }

@@ -1,5 +1,8 @@
 -- The test is that of the definition, and so is what is stored.
-use mathlib.Core.Path.{sym}
+use Prim.Native.Nat.{min}
+use mathlib.Core.Path.{_≡_, sym}
+use native.Mathlib.Omega.{arith}
+use lib.ListN.{length}
 use borrow.Author.Needs.{needs}
 use Rattle.index.proofs.Answers.{start-short, start-done}
 use Rattle.index.proofs.additions.start_pages.Statement.{statement}
@@ -12,7 +15,8 @@ returns-2 : tie.Need-returns-2
 returns-2 c =
     let k = c .before .before in
     let t = k .before .before in
-    rw (k .clear .ensures, t .before .cells-for .ensures) (sym (start-done _ _ (rw (t .before .cells-for .ensures) at (t .if1 .left))))
+    let e : min (t .before .cells-for .result) (length (t .before .before .before .args .cells .now)) ≡ t .before .cells-for .result = omega arith in
+    rw (k .clear .ensures, e, t .before .cells-for .ensures) (sym (start-done _ _ (rw (t .before .cells-for .ensures) at (t .if1 .left))))
 
 pub start-pages-spec : {M : Type 1} → statement M
 start-pages-spec = tie.close (tie.spec (search needs) returns (search needs) (search needs) returns-2)
