@@ -1,0 +1,92 @@
+-- The table of a file's chunks. It has a row of two words for each chunk from 1 on, by what the chunk's lookup on the index answers. The
+-- first word says where the copy is: 0 for a hole, 1 where a damaged link is met before a copy, q + 2 for page q. The second is the copy's
+-- valid length.
+use Prim.Native.Nat.{ℕ, zero, suc, _+_, _-_, _*_, _/_, _≤_, _<_, min}
+use mathlib.Core.Bool.{Bool, true, not, _||_}
+use mathlib.Core.List.{List, [], _∷_, _++_}
+use mathlib.Core.Path.{_≡_}
+use lib.ListN.{length, set, drop}
+use lib.Dec.{eqb, ltb, leb}
+use Rattle.page.specs.Choice.{pick}
+use Rattle.page.specs.Numbers.{mostChunk}
+use Rattle.page.specs.declared.kind.Kind.{Kind}
+use Rattle.page.specs.declared.layout.Layout.{Layout}
+use Rattle.page.specs.declared.refusal.Refusal.the-variants.{ShortBuffer}
+use Rattle.chunk.specs.Records.{chunkOf, countOf, baseOf}
+use Rattle.chunk.specs.Cuts.{nowhere}
+use Rattle.chunk.specs.declared.answer.Looked.{Looked}
+use Rattle.chunk.specs.declared.answer.Looked.the-variants as looked
+use Rattle.chunk.specs.declared.answer.Sized.{Sized}
+use Rattle.chunk.specs.declared.answer.Sized.the-variants as sized
+use Rattle.index.specs.Cells.{word, linkTo}
+use Rattle.index.specs.Chains.{top}
+use Rattle.index.specs.Walks.{shownIn, under, sizeFrom, chunkFrom}
+use Rattle.index.specs.Ahead.{ahead}
+use Rattle.file.specs.declared.table.Tabled.{Tabled}
+use Rattle.file.specs.declared.table.Tabled.the-variants.{Rows, Refused}
+
+-- the words of a row, by what the lookup answers
+abbrev pub whereWord : Looked → ℕ
+whereWord (looked.Copy p a s v) = linkTo (p .0)
+whereWord (looked.Hole s v) = 0
+whereWord (looked.Refused r v n) = 1
+
+abbrev pub validWord : Looked → ℕ
+validWord (looked.Copy p a s v) = a
+validWord (looked.Hole s v) = 0
+validWord (looked.Refused r v n) = 0
+
+-- how many words so many rows have
+abbrev pub wordsOf : ℕ → ℕ
+wordsOf m = 2 * m
+
+-- where the row of chunk c stands
+abbrev pub rowAt : ℕ → ℕ
+rowAt c = wordsOf (c - 1)
+
+-- how many chunks a file of a size has, with P data bytes to a page, of those that have numbers
+unfoldable pub chunksIn : ℕ → ℕ → ℕ
+chunksIn P size = pick (eqb size 0) 0 (min mostChunk ((size - 1) / P + 1))
+
+-- the rows of chunks 1 to m
+unfoldable pub rows : (ℕ → Looked) → ℕ → List ℕ
+rows look zero = []
+rows look (suc c) = rows look c ++ (whereWord (look (suc c)) ∷ validWord (look (suc c)) ∷ [])
+
+-- the table of a file that has a size or not, in so many words
+unfoldable pub tableBy : ℕ → ℕ → Sized → Tabled
+tableBy P room (sized.Refused r v) = Refused r 0
+tableBy P room (sized.Size z v) = pick (ltb room (wordsOf (chunksIn P z))) (Refused ShortBuffer (wordsOf (chunksIn P z))) (Rows z (chunksIn P z))
+
+-- the words after the call: the rows, and those behind them as they were; after a refusal all as they were
+unfoldable pub filledBy : (ℕ → Looked) → List ℕ → Tabled → List ℕ
+filledBy look table (Refused r n) = table
+filledBy look table (Rows z m) = rows look m ++ drop (wordsOf m) table
+
+-- the table of object o of a dump of a named layout in blocks of k, by any cells, in so many words
+unfoldable pub tableFrom : Layout → ℕ → List ℕ → List ℕ → ℕ → ℕ → Tabled
+tableFrom l k dump cells o room = tableBy (l .«data») room (sizeFrom l k dump cells o)
+
+-- what lies ahead for each chunk of a file of a size, from a link on
+abbrev pub allAhead : (ℕ → Kind) → ℕ → ℕ → ℕ → List ℕ → ℕ → ℕ → ℕ → Looked
+allAhead says P size n cells o first c = ahead says P c (shownIn says P c size) true nowhere (under says n cells o top first)
+
+-- a table of m rows in which page q, which says k, is noted: if its chunk has a row, nothing is noted there, and no newer header hides it
+unfoldable pub noted : List ℕ → ℕ → ℕ → ℕ → ℕ → ℕ → Kind → List ℕ
+noted t m P size cut q k =
+    pick (eqb (chunkOf k) 0 || ltb m (chunkOf k)) t
+    (pick (not (eqb (word t (rowAt (chunkOf k))) 0)) t
+    (pick (leb cut (baseOf P (chunkOf k))) t
+    (set (set t (rowAt (chunkOf k)) (linkTo q)) (rowAt (chunkOf k) + 1)
+    (min (countOf k) (min (min P (size - baseOf P (chunkOf k))) (cut - baseOf P (chunkOf k)))))))
+
+-- the first word of a row after a damaged link was met
+abbrev pub closedWord : ℕ → ℕ
+closedWord w = pick (eqb w 0) 1 w
+
+-- the rows of t in which nothing is noted are marked as damaged in u, and all else is the same
+pub record Closed (m : ℕ) (t u : List ℕ) : Type 0 where
+  pub long : length u ≡ length t
+  pub rest : drop (wordsOf m) u ≡ drop (wordsOf m) t
+  pub marked : (c : ℕ) → 0 < c → c ≤ m → word u (rowAt c) ≡ closedWord (word t (rowAt c))
+  pub valid : (c : ℕ) → 0 < c → c ≤ m → word u (rowAt c + 1) ≡ word t (rowAt c + 1)

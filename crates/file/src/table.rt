@@ -1,0 +1,178 @@
+// The table of a file's chunks: for each, the page that holds its copy and how many bytes of it are valid.
+ghost use mathlib.Core.Path.{_≡_};
+ghost use mathlib.Core.Bool.{true, not, _&&_};
+ghost use mathlib.Core.List.{_++_};
+ghost use Prim.Native.Nat.{_*_, _≤_, _<_, _^_};
+ghost use lib.ListN.{length, drop};
+ghost use Rattle.page.specs.Counts.{isHeader};
+ghost use Rattle.page.specs.Kinds.{kindAt};
+ghost use Rattle.page.specs.Lengths.{openedOf};
+ghost use Rattle.page.specs.declared.layout.Opened.the-variants as opened;
+ghost use Rattle.index.specs.Cells.{cellsFor};
+ghost use Rattle.index.specs.Walks.{chunkFrom};
+ghost use Rattle.file.specs.Table.{wordsOf, chunksIn, rows, allAhead, noted, closedWord, Closed, filledBy, tableFrom};
+use chunk::answer::Sized;
+use chunk::lookup::shown_of;
+use chunk::lookup::valid_of;
+use chunk::record::base_of;
+use chunk::record::chunk_of;
+use chunk::record::count_of;
+use chunk::record::smaller;
+use chunk::scan::NOWHERE;
+use index::cells::clear;
+use index::cells::link_at;
+use index::chains::Step;
+use index::chains::TOP;
+use index::chains::follow;
+use index::lookups::size;
+use index::slots::first_link;
+use index::walks::lower_cut;
+use page::header::is_header;
+use page::kind::Kind;
+use page::layout::Layout;
+use page::layout::Opened;
+use page::number::ChunkNumber;
+use page::number::ObjectId;
+use page::number::PageNumber;
+use page::refusal::Refusal;
+
+// The size of a file and how many rows its table has; or a refusal, with the words that ShortBuffer needs.
+pub enum Tabled {
+    Rows(u64, u32),
+    Refused(Refusal, u32),
+}
+
+// In the first word of a row: a damaged link was met before a copy.
+const DAMAGED: u32 = 1;
+// In the first word of a row: from this on page 0, page 1 and so on.
+const PAGES: u32 = 2;
+
+// How many words so many rows have.
+fn words_of(count: u32) -> usize
+    ensures { λ r. ⌜ r ≡ wordsOf count ⌝ }
+{
+    2 * (count as usize)
+}
+
+// How many chunks a file of this size has, of those that have numbers.
+fn chunks_in(data: u16, size: u64) -> u32
+    requires { ⌜ 0 < «data» ⌝ }
+    ensures { λ r. ⌜ r ≡ chunksIn «data» size ⌝ }
+{
+    if size == 0 {
+        return 0;
+    }
+    smaller(ChunkNumber::MOST as u64, (size - 1) / (data as u64) + 1) as u32
+}
+
+// Notes page q, which says k, in the row of its chunk, if the table has one, nothing is noted there yet, and the lowest cut of newer headers does
+// not hide the chunk.
+fn note(
+    table: &mut [u32],
+    count: u32,
+    data: u16,
+    size: u64,
+    cut: u64,
+    q: PageNumber,
+    k: Kind,
+)
+    requires { ⌜ wordsOf count ≤ length (now table) ⌝ }
+    requires { ⌜ q .0 < 2 ^ 31 ⌝ }
+    ensures { λ _. ⌜ now (table .exit) ≡ noted (now (table .entry)) count «data» size cut (q .0) k ⌝ }
+{
+    let c = ChunkNumber(chunk_of(k));
+    if c.0 == 0 {
+        return;
+    }
+    if count < c.0 {
+        return;
+    }
+    let i = words_of(c.0 - 1);
+    if table[i] != 0 {
+        return;
+    }
+    let base = base_of(data, c);
+    if cut <= base {
+        return;
+    }
+    let valid = valid_of(count_of(k), shown_of(data, size, base), cut, base);
+    table[i] = q.0 + PAGES;
+    table[i + 1] = valid;
+}
+
+// The first word of a row after a damaged link was met.
+fn closed_word(word: u32) -> u32
+    ensures { λ r. ⌜ r ≡ closedWord word ⌝ }
+{
+    if word == 0 {
+        return DAMAGED;
+    }
+    word
+}
+
+// Marks the rows in which nothing is noted as damaged.
+fn mark_damaged(table: &mut [u32], count: u32)
+    requires { ⌜ wordsOf count ≤ length (now table) ⌝ }
+    ensures { λ _. ⌜ Closed count (now (table .entry)) (now (table .exit)) ⌝ }
+{
+    let mut r: u32 = 0;
+    while r < count {
+        let i = words_of(r);
+        table[i] = closed_word(table[i]);
+        r += 1;
+    }
+}
+
+// Whether the newest header is still ahead behind a page that says k.
+fn still_newest(newest: bool, k: Kind) -> bool
+    ensures { λ r. ⌜ r ≡ newest && not (isHeader k) ⌝ }
+{
+    if newest {
+        return !is_header(k);
+    }
+    false
+}
+
+// Fills the rows of a file of this size, whose object is o, by one walk down its chain from a link.
+fn fill(
+    dump: &[u8],
+    l: Layout,
+    pages: u32,
+    cells: &[u32],
+    o: ObjectId,
+    first: u32,
+    size: u64,
+    count: u32,
+    table: &mut [u32],
+)
+    requires { ⌜ pages ≤ 2 ^ 31 ⌝ }
+    requires { ⌜ cellsFor pages ≤ length (now cells) ⌝ }
+    requires { ⌜ wordsOf count ≤ length (now table) ⌝ }
+    ensures { λ _. ⌜ now (table .exit) ≡ rows (allAhead (kindAt l (now (dump .entry))) (l .«data») size pages (now (cells .entry)) (o .0) first) count ++ drop (wordsOf count) (now (table .entry)) ⌝ }
+{
+    clear(table, words_of(count));
+    let mut link = first;
+    let mut bound = TOP;
+    let mut cut = NOWHERE;
+    let mut newest = true;
+    loop {
+        let step = follow(dump, l, pages, o, bound, link);
+        match step {
+            Step::End => {
+                return;
+            }
+            Step::Damaged => {
+                mark_damaged(table, count);
+                return;
+            }
+            Step::Record(q, age, k) => {
+                note(table, count, l.data, size, cut, q, k);
+                cut = lower_cut(newest, k, cut);
+                newest = still_newest(newest, k);
+                bound = age;
+                let i = link_at(q);
+                link = cells[i];
+            }
+        }
+    }
+}
