@@ -58,6 +58,7 @@ fn words_of(count: u32) -> usize
 fn chunks_in(data: u16, size: u64) -> u32
     requires { ⌜ 0 < «data» ⌝ }
     ensures { λ r. ⌜ r ≡ chunksIn «data» size ⌝ }
+    ensures { λ r. ⌜ r < 2 ^ 20 ⌝ }
 {
     if size == 0 {
         return 0;
@@ -67,15 +68,7 @@ fn chunks_in(data: u16, size: u64) -> u32
 
 // Notes page q, which says k, in the row of its chunk, if the table has one, nothing is noted there yet, and the lowest cut of newer headers does
 // not hide the chunk.
-fn note(
-    table: &mut [u32],
-    count: u32,
-    data: u16,
-    size: u64,
-    cut: u64,
-    q: PageNumber,
-    k: Kind,
-)
+fn note(table: &mut [u32], count: u32, data: u16, size: u64, cut: u64, q: PageNumber, k: Kind)
     requires { ⌜ wordsOf count ≤ length (now table) ⌝ }
     requires { ⌜ q .0 < 2 ^ 31 ⌝ }
     ensures { λ _. ⌜ now (table .exit) ≡ noted (now (table .entry)) count «data» size cut (q .0) k ⌝ }
@@ -174,5 +167,55 @@ fn fill(
                 link = cells[i];
             }
         }
+    }
+}
+
+// Fills a table with the rows of object o of a dump of so many pages.
+fn table_in(
+    dump: &[u8],
+    l: Layout,
+    k: u32,
+    pages: u32,
+    cells: &[u32],
+    o: ObjectId,
+    table: &mut [u32],
+) -> Tabled
+    requires { ⌜ openedOf l k (length (now dump)) ≡ opened.Pages pages ⌝ }
+    ensures { λ r. ⌜ r ≡ tableFrom l k (now (dump .entry)) (now (cells .entry)) (o .0) (length (now (table .entry))) ⌝ }
+    ensures { λ r. ⌜ now (table .exit) ≡ filledBy (chunkFrom l k (now (dump .entry)) (now (cells .entry)) (o .0)) (now (table .entry)) r ⌝ }
+{
+    let s = size(dump, l, k, cells, o);
+    match s {
+        Sized::Refused(r, _) => Tabled::Refused(r, 0),
+        Sized::Size(bytes, _) => {
+            let count = chunks_in(l.data, bytes);
+            let words = words_of(count);
+            if table.len() < words {
+                return Tabled::Refused(Refusal::ShortBuffer, words as u32);
+            }
+            let first = first_link(cells, o, pages);
+            fill(dump, l, pages, cells, o, first, bytes, count, table);
+            Tabled::Rows(bytes, count)
+        }
+    }
+}
+
+// Fills a table with the rows of object o of a dump of a named layout in blocks of k, by its index, if they all fit: for each chunk where its
+// copy is and how many bytes of it are valid, as the lookup of the chunk answers.
+pub fn table(
+    dump: &[u8],
+    l: Layout,
+    k: u32,
+    cells: &[u32],
+    o: ObjectId,
+    table: &mut [u32],
+) -> Tabled
+    ensures { λ r. ⌜ r ≡ tableFrom l k (now (dump .entry)) (now (cells .entry)) (o .0) (length (now (table .entry))) ⌝ }
+    ensures { λ r. ⌜ now (table .exit) ≡ filledBy (chunkFrom l k (now (dump .entry)) (now (cells .entry)) (o .0)) (now (table .entry)) r ⌝ }
+{
+    let p = l.opened(dump.len(), k);
+    match p {
+        Opened::Refused(r) => Tabled::Refused(r, 0),
+        Opened::Pages(pages) => table_in(dump, l, k, pages, cells, o, table),
     }
 }

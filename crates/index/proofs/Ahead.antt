@@ -21,6 +21,7 @@ use Rattle.page.specs.declared.layout.Opened.the-variants as opened
 use Rattle.page.specs.declared.refusal.Refusal.{Refusal}
 use Rattle.page.specs.declared.refusal.Refusal.the-variants.{IndexDamaged}
 use Rattle.page.proofs.Searching.{by-test, pick-cases}
+use Rattle.page.proofs.Lengths.{opened-some}
 use Rattle.page.proofs.Within.{chunk-within}
 use Rattle.chunk.specs.Records.{chunkOf, baseOf}
 use Rattle.chunk.specs.Cuts.{nowhere}
@@ -31,13 +32,15 @@ use Rattle.chunk.specs.declared.answer.Looked.{Looked}
 use Rattle.chunk.specs.declared.answer.Looked.the-variants as looked
 use Rattle.chunk.specs.declared.answer.Sized.the-variants as sized
 use Rattle.index.specs.Cells.{cellsFor}
-use Rattle.index.specs.Chains.{Trace, clean, broken, rec}
-use Rattle.index.specs.Walks.{headless, behind, metWith, reach, cutBy, shownIn, isShown, found, seek, sizeAt, sizeFile, copyFrom, sizeReached, chunkReached, sizeWalk, chunkWalk, chainOf, sizeIn, chunkIn, sizeFrom, chunkFrom}
+use Rattle.index.specs.Slots.{firstLink}
+use Rattle.index.specs.Chains.{top, Trace, clean, broken, rec, chain}
+use Rattle.index.specs.Walks.{headless, behind, metWith, reach, cutBy, shownIn, isShown, found, seek, sizeAt, sizeFile, copyFrom, sizeReached, chunkReached, sizeWalk, chunkWalk, under, chainOf, sizeIn, chunkIn, sizeFrom, chunkFrom}
 use Rattle.index.specs.Ahead.{unvisited, stillNewest, ahead}
 use Rattle.index.specs.declared.walks.Met.{Met}
 use Rattle.index.specs.declared.walks.Met.the-variants.{Copy, Nothing}
 use Rattle.index.specs.declared.walks.Reached.{Reached}
 use Rattle.index.specs.declared.walks.Reached.the-variants as reached
+use Rattle.index.proofs.Probing.{first-link}
 use Rattle.index.proofs.Ordering.{data-most, chunk-near}
 use Rattle.index.proofs.Walking.{endBy}
 use Rattle.index.proofs.Turning.{chunk-live}
@@ -213,9 +216,24 @@ module _
         (c : ℕ) →
         badChunk c ≡ false →
         baseOf (l .«data») c < z →
-        ahead (kindAt l dump) (l .«data») c (shownIn (kindAt l dump) (l .«data») c z) true nowhere (chainOf (kindAt l dump) (l .«data») cells o n)
+        ahead (kindAt l dump) (l .«data») c (shownIn (kindAt l dump) (l .«data») c z) true nowhere
+        (under (kindAt l dump) n cells o top (firstLink n cells o))
         ≡ unvisited (chunkFrom l k dump cells o c)
-    unfolding chunkFrom chunkIn
+    unfolding chunkFrom chunkIn chain
     chunk-ahead c b h =
-        rw (e, le-ltb _ _ (is-sized .room), is-sized .object, b)
+        rw (
+          e,
+          le-ltb _ _ (is-sized .room),
+          is-sized .object,
+          b,
+          first-link n cells o (opened-some l k (length dump) n e) (is-sized .room),
+        )
         (walk-ahead (kindAt l dump) (l .«data») c z v (chunk-within c b .least) (chunk-near (l .«data») c (data-most l dump k n e) b) h _ (is-sized .walk))
+
+-- a refused dump gives no size
+pub size-refused :
+    (l : Layout) (k : ℕ) (dump cells : List ℕ) (o : ℕ) (r : Refusal) →
+    openedOf l k (length dump) ≡ opened.Refused r →
+    sizeFrom l k dump cells o ≡ sized.Refused r 0
+unfolding sizeFrom
+size-refused l k dump cells o r e = rw e

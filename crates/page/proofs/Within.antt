@@ -9,7 +9,7 @@ use lib.Dec.{eqb, ltb}
 use lib.ListN.{length, getD}
 use lib.Seq.{getD-take, getD-drop}
 use native.Mathlib.Omega.{arith}
-use borrow.Author.Tests.{eqb-false, ltb-false, ltb-true, lt-ltb, le-ltb}
+use borrow.Author.Tests.{eqb-false, ltb-false, ltb-true, lt-ltb, le-ltb, ne-eqb}
 use Rattle.page.specs.Choice.{pick}
 use Rattle.page.specs.Words.{le32}
 use Rattle.page.specs.Numbers.{mostObject, mostChunk, badObject, badChunk}
@@ -64,6 +64,11 @@ object-within id e = not-zero-or-above mostObject id e
 pub chunk-within : (n : ℕ) → badChunk n ≡ false → Between 1 mostChunk n
 unfolding badChunk
 chunk-within n e = not-zero-or-above mostChunk n e
+
+-- and those numbers are not bad
+pub chunk-good : (n : ℕ) → Between 1 mostChunk n → badChunk n ≡ false
+unfolding badChunk
+chunk-good n b = rw (ne-eqb n 0 (λ e. absurd (omega (arith, b .least))), le-ltb mostChunk n (b .most))
 
 -- a page type that is not bad is one of the five
 pub type-within : (t : ℕ) → badType t ≡ false → Between 1 5 t

@@ -10,7 +10,7 @@ use Rattle.file.proofs.table.chunks_in.Tie as tie
 
 returns : tie.Need-returns
 unfolding chunksIn
-returns c = rw (eq-eqb _ _ (c .if1 .taken))
+returns c = (rw (eq-eqb _ _ (c .if1 .taken)), omega arith)
 
 add-smaller : tie.Need-add-smaller
 add-smaller c =
@@ -19,7 +19,7 @@ add-smaller c =
 
 returns-2 : tie.Need-returns-2
 unfolding chunksIn
-returns-2 c = rw (ne-eqb _ _ (c .before .if1 .left)) (c .smaller .ensures)
+returns-2 c = (rw (ne-eqb _ _ (c .before .if1 .left)) (c .smaller .ensures), omega (arith, c .smaller .ensures))
 
 pub chunks-in-spec : {M : Type 1} → statement M
 chunks-in-spec =

@@ -145,8 +145,7 @@ loop-again c =
     let t = d .before .before .before in
     let g = t .before .before .before in
     let q = g .before .before .before in
-    let a = s q .args in
-    (
+    let a = s q .args in (
       rw (t .note .ensures) (noted-length (q .loop .table) (a .count) (a .l .«data») (a .size) (q .loop .cut) (g .step .given .0 .0 .0) (g .step .given .0 .1 .1 .0) ∙ q .loop .inv .0),
       rw (t .note .ensures) (noted-rest (q .loop .table) (a .count) (a .l .«data») (a .size) (q .loop .cut) (g .step .given .0 .0 .0) (g .step .given .0 .1 .1 .0) ∙ q .loop .inv .1),
       λ x h j.

@@ -1,0 +1,98 @@
+-- The chunks of a file are those that it does not end before; and a row has the words of its chunk's lookup.
+use Prim.Native.Nat.{ℕ, _+_, _-_, _*_, _/_, _≤_, _<_, min}
+use mathlib.Core.Bool.{false}
+use mathlib.Core.List.{List, _++_}
+use mathlib.Core.Logic.{_↔_}
+use mathlib.Core.Path.{_≡_, refl, sym, ap, _∙_}
+use native.Mathlib.Nat.{mul-le-mul-right, div-mul-le-self, le-div-iff-mul-le}
+use native.Mathlib.Omega.{arith}
+use lib.ListN.{length, drop}
+use lib.Dec.{eqb}
+use borrow.Author.Tests.{eqb-true, eqb-false, ne-eqb, lt-ltb, le-ltb}
+use Rattle.page.specs.Numbers.{mostChunk, badChunk}
+use Rattle.page.specs.Kinds.{kindAt}
+use Rattle.page.specs.Lengths.{openedOf}
+use Rattle.page.specs.declared.layout.Layout.{Layout}
+use Rattle.page.specs.declared.layout.Opened.the-variants as opened
+use Rattle.page.specs.declared.refusal.Refusal.{Refusal}
+use Rattle.page.specs.declared.refusal.Refusal.the-variants.{ShortBuffer}
+use Rattle.page.proofs.Layouts.{roomy-facts}
+use Rattle.page.proofs.Lengths.{opened-facts}
+use Rattle.page.proofs.Searching.{by-test}
+use Rattle.page.proofs.Within.{chunk-good}
+use Rattle.chunk.specs.Records.{baseOf}
+use Rattle.chunk.specs.declared.answer.Looked.{Looked}
+use Rattle.chunk.specs.declared.answer.Looked.the-variants as looked
+use Rattle.chunk.specs.declared.answer.Sized.the-variants as sized
+use Rattle.index.specs.Slots.{firstLink}
+use Rattle.index.specs.Walks.{sizeFrom, chunkFrom}
+use Rattle.index.specs.Ahead.{unvisited}
+use Rattle.index.proofs.Ahead.{chunk-ahead}
+use Rattle.file.specs.Table.{whereWord, validWord, wordsOf, chunksIn, rows, allAhead, tableBy, tableFrom, filledBy}
+use Rattle.file.specs.declared.table.Tabled.the-variants as tabled
+use Rattle.file.proofs.Rows.{rows-same}
+
+-- a chunk of the table has a number, and the file does not end before it
+pub chunk-before : (P z c : ℕ) → 0 < c → c ≤ chunksIn P z → (badChunk c ≡ false) × (baseOf P c < z)
+unfolding chunksIn
+chunk-before P z c h i =
+    by-test (eqb z 0) _
+    (λ t. absurd (omega (arith, rw t at i)))
+    (λ t.
+    let some : z ≡ 0 → ⊥ = eqb-false z 0 t in
+    let j : c ≤ min mostChunk ((z - 1) / P + 1) = rw t at i in
+    let m : (c - 1) * P ≤ (z - 1) / P * P = mul-le-mul-right P (omega arith) in
+    (chunk-good c (record { least = h; most = omega arith }), omega (arith, m, div-mul-le-self (z - 1) P)))
+
+-- and those are all
+pub chunk-in : (P z c : ℕ) → 0 < P → 0 < c → c ≤ mostChunk → baseOf P c < z → c ≤ chunksIn P z
+unfolding chunksIn
+chunk-in P z c p h m b =
+    let d : (c - 1 ≤ (z - 1) / P) ↔ ((c - 1) * P ≤ z - 1) = le-div-iff-mul-le p in
+    let q = d .1 (omega arith) in
+    rw (ne-eqb z 0 (λ e. absurd (omega arith))) (omega arith)
+
+-- the words of a row do not go by the records visited
+same-words : (a : Looked) → (whereWord (unvisited a) ≡ whereWord a) × (validWord (unvisited a) ≡ validWord a)
+same-words (looked.Copy p a s v) = (refl, refl)
+same-words (looked.Hole s v) = (refl, refl)
+same-words (looked.Refused r v n) = (refl, refl)
+
+-- an accepted dump has data in its pages
+pub data-some : (l : Layout) (k n m : ℕ) → openedOf l k n ≡ opened.Pages m → 0 < l .«data»
+data-some l k n m e = let f = roomy-facts l (opened-facts l k n m e .room) in omega (arith, f .header)
+
+module _
+    (l : Layout) (k : ℕ) (dump cells : List ℕ) (o z v n : ℕ)
+    (e : openedOf l k (length dump) ≡ opened.Pages n)
+    (s : sizeFrom l k dump cells o ≡ sized.Size z v)
+  where
+    -- the rows that one walk fills are those of the lookups
+    pub rows-looked :
+        rows (allAhead (kindAt l dump) (l .«data») z n cells o (firstLink n cells o)) (chunksIn (l .«data») z)
+        ≡ rows (chunkFrom l k dump cells o) (chunksIn (l .«data») z)
+    rows-looked =
+        rows-same _ _ _
+        (λ c h i.
+        let b = chunk-before (l .«data») z c h i in
+        rw (chunk-ahead l k dump cells o z v n e s c (b .0) (b .1)) (same-words (chunkFrom l k dump cells o c)))
+
+    -- what is answered, and left in the table
+    module _ (table : List ℕ) where
+      pub table-short :
+          length table < wordsOf (chunksIn (l .«data») z) →
+          tableFrom l k dump cells o (length table) ≡ tabled.Refused ShortBuffer (wordsOf (chunksIn (l .«data») z))
+      unfolding tableFrom tableBy
+      table-short h = rw (s, lt-ltb _ _ h)
+
+      pub table-rows :
+          wordsOf (chunksIn (l .«data») z) ≤ length table →
+          tableFrom l k dump cells o (length table) ≡ tabled.Rows z (chunksIn (l .«data») z)
+      unfolding tableFrom tableBy
+      table-rows h = rw (s, le-ltb _ _ h)
+
+      pub table-filled :
+          filledBy (chunkFrom l k dump cells o) table (tabled.Rows z (chunksIn (l .«data») z))
+          ≡ rows (allAhead (kindAt l dump) (l .«data») z n cells o (firstLink n cells o)) (chunksIn (l .«data») z) ++ drop (wordsOf (chunksIn (l .«data») z)) table
+      unfolding filledBy
+      table-filled = ap (λ (x : List ℕ). x ++ drop (wordsOf (chunksIn (l .«data») z)) table) (sym rows-looked)
