@@ -6,7 +6,7 @@ ghost use Rattle.page.specs.Search.{count};
 ghost use Rattle.page.specs.Kinds.{kindAt};
 ghost use Rattle.chunk.specs.Records.{isGone};
 ghost use Rattle.chunk.specs.Lists.{inFront, wordsBy};
-ghost use Rattle.index.specs.Cells.{cellsFor};
+ghost use Rattle.index.specs.Cells.{cellsFor, keys};
 ghost use Rattle.index.specs.Listing.{standing, standingAt, liveSlot, slotIds, tallyIn, listIn, idsFrom, listFrom};
 use crate::cells::cells_for;
 use crate::cells::key_at;
@@ -75,7 +75,33 @@ fn standing_of(dump: &[u8], l: Layout, r: Reached) -> Standing
     }
 }
 
-// How the object of slot s stands, if that is where the object is looked for.
+// How object o, the key of slot s, stands, if that is where it is looked for.
+fn standing_keyed(
+    dump: &[u8],
+    l: Layout,
+    pages: u32,
+    cells: &[u32],
+    s: u32,
+    o: ObjectId,
+) -> Standing
+    requires { ⌜ s < pages ⌝ }
+    requires { ⌜ cellsFor pages ≤ length (now cells) ⌝ }
+    requires { ⌜ keys (now cells) s ≡ o .0 ⌝ }
+    requires { ⌜ 0 < o .0 ⌝ }
+    ensures { λ r. ⌜ r ≡ standingAt (kindAt l (now (dump .entry))) (l .«data») (now (cells .entry)) pages s ⌝ }
+{
+    if slot_of(cells, o, pages) != s {
+        return Standing::Other;
+    }
+    let first = first_of(cells, o, s);
+    standing_of(
+        dump,
+        l,
+        reach_header(dump, l, pages, cells, o, ChunkNumber(0), first),
+    )
+}
+
+// How the object of slot s stands, if that is where the object is looked for. Most slots are free.
 fn standing_at(dump: &[u8], l: Layout, pages: u32, cells: &[u32], s: u32) -> Standing
     requires { ⌜ s < pages ⌝ }
     requires { ⌜ cellsFor pages ≤ length (now cells) ⌝ }
@@ -86,15 +112,7 @@ fn standing_at(dump: &[u8], l: Layout, pages: u32, cells: &[u32], s: u32) -> Sta
     if o.0 == 0 {
         return Standing::Other;
     }
-    if slot_of(cells, o, pages) != s {
-        return Standing::Other;
-    }
-    let first = first_of(cells, o, s);
-    standing_of(
-        dump,
-        l,
-        reach_header(dump, l, pages, cells, o, ChunkNumber(0), first),
-    )
+    standing_keyed(dump, l, pages, cells, s, o)
 }
 
 // How many slots are live, if no damaged link is met.
