@@ -95,6 +95,11 @@ module _ (says : ℕ → Kind) (P : ℕ) (c : List ℕ) (n : ℕ) where
   unfolding standingAt
   at-other s t = rw t
 
+  -- a free slot is no object's
+  pub at-free : (s : ℕ) → keys c s ≡ 0 → standingAt says P c n s ≡ standing.Other
+  unfolding standingAt
+  at-free s e = rw (eq-eqb (keys c s) 0 e)
+
   pub list-short : (room : ℕ) → length c < cellsFor n → listIn says P c n room ≡ listed.Refused ShortIndex 0
   unfolding listIn
   list-short room h = rw (lt-ltb (length c) (cellsFor n) h)

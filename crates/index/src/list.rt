@@ -1,6 +1,6 @@
 // Listing the live objects by the index, on any cells: slot by slot, down each object's chain to its newest header.
 ghost use mathlib.Core.Path.{_≡_};
-ghost use Prim.Native.Nat.{_≤_, _<_};
+ghost use Prim.Native.Nat.{_+_, _≤_, _<_};
 ghost use lib.ListN.{length};
 ghost use Rattle.page.specs.Search.{count};
 ghost use Rattle.page.specs.Kinds.{kindAt};
@@ -75,18 +75,20 @@ fn standing_of(dump: &[u8], l: Layout, r: Reached) -> Standing
     }
 }
 
-// How object o, the key of slot s, stands, if that is where it is looked for.
-fn standing_keyed(
-    dump: &[u8],
-    l: Layout,
-    pages: u32,
-    cells: &[u32],
-    s: u32,
-    o: ObjectId,
-) -> Standing
+// The key of slot s.
+fn key_of(cells: &[u32], s: u32) -> ObjectId
+    requires { ⌜ cellsFor (s + 1) ≤ length (now cells) ⌝ }
+    ensures { λ r. ⌜ r .0 ≡ keys (now (cells .entry)) s ⌝ }
+{
+    let i = key_at(s);
+    ObjectId(cells[i])
+}
+
+// How object o, the key of slot s, stands, if that is where it is looked for. Most slots are free: callers pass over those themselves.
+fn standing_at(dump: &[u8], l: Layout, pages: u32, cells: &[u32], s: u32, o: ObjectId) -> Standing
     requires { ⌜ s < pages ⌝ }
     requires { ⌜ cellsFor pages ≤ length (now cells) ⌝ }
-    requires { ⌜ keys (now cells) s ≡ o .0 ⌝ }
+    requires { ⌜ o .0 ≡ keys (now cells) s ⌝ }
     requires { ⌜ 0 < o .0 ⌝ }
     ensures { λ r. ⌜ r ≡ standingAt (kindAt l (now (dump .entry))) (l .«data») (now (cells .entry)) pages s ⌝ }
 {
@@ -101,20 +103,6 @@ fn standing_keyed(
     )
 }
 
-// How the object of slot s stands, if that is where the object is looked for. Most slots are free.
-fn standing_at(dump: &[u8], l: Layout, pages: u32, cells: &[u32], s: u32) -> Standing
-    requires { ⌜ s < pages ⌝ }
-    requires { ⌜ cellsFor pages ≤ length (now cells) ⌝ }
-    ensures { λ r. ⌜ r ≡ standingAt (kindAt l (now (dump .entry))) (l .«data») (now (cells .entry)) pages s ⌝ }
-{
-    let i = key_at(s);
-    let o = ObjectId(cells[i]);
-    if o.0 == 0 {
-        return Standing::Other;
-    }
-    standing_keyed(dump, l, pages, cells, s, o)
-}
-
 // How many slots are live, if no damaged link is met.
 fn tally_in(dump: &[u8], l: Layout, pages: u32, cells: &[u32]) -> Tallied
     requires { ⌜ cellsFor pages ≤ length (now cells) ⌝ }
@@ -123,8 +111,13 @@ fn tally_in(dump: &[u8], l: Layout, pages: u32, cells: &[u32]) -> Tallied
     let mut count: u32 = 0;
     let mut s: u32 = 0;
     while s < pages {
-        let standing = standing_at(dump, l, pages, cells, s);
+        let at = s;
+        let o = key_of(cells, at);
         s += 1;
+        if o.0 == 0 {
+            continue;
+        }
+        let standing = standing_at(dump, l, pages, cells, at, o);
         match standing {
             Standing::Live => {
                 count += 1;
@@ -149,13 +142,17 @@ fn write_ids(dump: &[u8], l: Layout, pages: u32, cells: &[u32], words: &mut [u32
     let mut count: usize = 0;
     let mut s: u32 = 0;
     while s < pages {
-        let standing = standing_at(dump, l, pages, cells, s);
-        let i = key_at(s);
+        let at = s;
+        let o = key_of(cells, at);
         s += 1;
+        if o.0 == 0 {
+            continue;
+        }
+        let standing = standing_at(dump, l, pages, cells, at, o);
         let Standing::Live = standing else {
             continue;
         };
-        insert_id(words, count, ObjectId(cells[i]));
+        insert_id(words, count, o);
         count += 1;
     }
 }

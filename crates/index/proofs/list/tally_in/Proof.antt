@@ -8,7 +8,7 @@ use Rattle.page.specs.Kinds.{kindAt}
 use Rattle.page.proofs.Searching.{count-none}
 use Rattle.chunk.proofs.Living.{count-skip, count-take}
 use Rattle.index.specs.Listing.{isLive, isDamaged, liveSlot, damagedSlot}
-use Rattle.index.proofs.Listing.{tally-damaged, tally-whole}
+use Rattle.index.proofs.Listing.{at-free, tally-damaged, tally-whole}
 use Rattle.index.proofs.list.tally_in.Statement.{statement}
 use Rattle.index.proofs.list.tally_in.Tie as tie
 
@@ -27,21 +27,31 @@ loop-holds c = (search needs, search needs, count-none _, rw count-none)
 
 loop-again : tie.Need-loop-again Inv-loop μ-loop
 loop-again c =
+    let k = c .before .before in
+    let q = k .before .before .loop in
+    let e = at-free _ _ _ _ (q .s) (sym (k .key-of .ensures) ∙ c .if1 .taken) in
+    (search needs, search needs, count-skip _ (q .s) (ap isDamaged e) ∙ q .inv .2, q .inv .3 ∙ sym (count-skip _ (q .s) (ap isLive e)))
+
+standing-at-requires : tie.Need-standing-at-requires Inv-loop μ-loop
+standing-at-requires c κs = (search needs, (search needs, (c .before .before .key-of .ensures, omega (arith, c .if1 .left))))
+
+loop-again-2 : tie.Need-loop-again-2 Inv-loop μ-loop
+loop-again-2 c =
     let a = c .before .before in
-    let q = a .before .before .loop in
+    let q = a .before .before .before .before .before .loop in
     let e = sym (a .standing-at .ensures) ∙ c .enum-told .given .1 in
     (search needs, search needs, count-skip _ (q .s) (ap isDamaged e) ∙ q .inv .2, rw (q .inv .3) (sym (count-take _ (q .s) (ap isLive e))))
 
 returns : tie.Need-returns Inv-loop μ-loop
 returns c =
     let a = c .before .before in
-    let q = a .before .before .loop in
-    sym (tally-damaged _ _ _ _ (q .s) (a .before .loop-test .taken) (sym (a .standing-at .ensures) ∙ c .enum-told2 .given .1))
+    let t = a .before .before .before .before in
+    sym (tally-damaged _ _ _ _ (t .before .loop .s) (t .loop-test .taken) (sym (a .standing-at .ensures) ∙ c .enum-told2 .given .1))
 
-loop-again-2 : tie.Need-loop-again-2 Inv-loop μ-loop
-loop-again-2 c =
+loop-again-3 : tie.Need-loop-again-3 Inv-loop μ-loop
+loop-again-3 c =
     let a = c .before .before in
-    let q = a .before .before .loop in
+    let q = a .before .before .before .before .before .loop in
     let e = sym (a .standing-at .ensures) ∙ c .enum-told3 .given .1 in
     (search needs, search needs, count-skip _ (q .s) (ap isDamaged e) ∙ q .inv .2, q .inv .3 ∙ sym (count-skip _ (q .s) (ap isLive e)))
 
@@ -63,12 +73,15 @@ tally-in-spec =
     (search needs)
     (search needs)
     (search needs)
-    (search needs)
-    (search needs)
     loop-again
+    standing-at-requires
+    (search needs)
+    (search needs)
+    (search needs)
+    loop-again-2
     (search needs)
     returns
     (search needs)
     (search needs)
-    loop-again-2
+    loop-again-3
     returns-2)
