@@ -1,13 +1,14 @@
--- Listing by cells that hold exactly the added pages gives the live objects of the dump with the other pages read as blank.
+-- Listing by cells that hold exactly the added pages gives the live objects of the dump with the other pages read as blank; and counting gives
+-- the number of its objects.
 --
 -- The chain of an object is its added records, the newest first, so that the walk meets no damaged link and ends at the object's newest added
--- header, if it has one. So an object stands as that header says: it is live by the index exactly if it is by the rules. A live object has an
--- added record, so that its chain is not empty and its id is the key of the slot where it is looked for; and two slots where one object is
--- looked for are the same. So the ids of the live slots are those of the live objects, each once; both lists ascend, and are the same.
+-- header, if it has one. So it is live by the index exactly if it is by the rules; and it counts as an object exactly if it has an added
+-- record. Then its chain is not empty, and its id is the key of the slot where it is looked for; and two slots where one object is looked for
+-- are the same. So the ids of the slots that are asked for are those of the objects that are, each once; both lists ascend, and are the same.
 use Prim.Native.Nat.{ℕ, _+_, _≤_, _<_}
 use mathlib.Core.Bool.{Bool, true, false}
 use mathlib.Core.List.{List, [], _∷_}
-use mathlib.Core.Logic.{⊎-elim}
+use mathlib.Core.Logic.{inl, ⊎-elim}
 use mathlib.Core.Option.{Option, none, some}
 use mathlib.Core.Path.{_≡_, refl, sym, ap, _∙_}
 use native.Mathlib.Omega.{arith}
@@ -26,18 +27,21 @@ use Rattle.page.specs.declared.refusal.Refusal.{Refusal}
 use Rattle.page.proofs.Searching.{by-test, pick-cases}
 use Rattle.chunk.specs.Records.{ageOf, isOf, headerOf, isGone}
 use Rattle.chunk.specs.Newest.{newestHeader}
-use Rattle.chunk.specs.Live.{liveIds}
+use Rattle.chunk.specs.Live.{liveIds, objectCount}
 use Rattle.chunk.specs.Lists.{listedBy}
 use Rattle.chunk.specs.declared.answer.Listed.the-variants as listed
 use Rattle.chunk.specs.declared.answer.Tallied.the-variants as tallied
-use Rattle.chunk.proofs.Ascending.{same-members}
-use Rattle.chunk.proofs.Living.{Bears, Live, newest-found, ids-in, ids-of, ids-length, ids-ascend, count-below, live-ids-ascend, live-in, live-of}
+use Rattle.chunk.proofs.Ascending.{Ascends, same-members}
+use Rattle.chunk.proofs.Ascending as ascending
+use Rattle.chunk.proofs.Living.{Bears, Live, newest-found, ids-in, ids-of, ids-length, ids-ascend, count-below, live-ids-ascend, live-in, live-of, objectIds, objects-ascend, objects-length, objects-in, objects-of}
 use Rattle.index.specs.Cells.{cellsFor, keys}
 use Rattle.index.specs.Slots.{slot}
 use Rattle.index.specs.Chains.{objects, top, clean, trace, chain}
 use Rattle.index.specs.Held.{seen, recs, fromList, Held}
 use Rattle.index.specs.Walks.{seenSays, reach}
-use Rattle.index.specs.Listing.{isLive, isDamaged, standing, standingOf, isOwn, standingAt, liveSlot, damagedSlot, slotIds, tallyIn, listIn}
+use Rattle.index.specs.Listing.{isAsked, isDamaged, standing, standingOf, isOwn, standingAt, askedSlot, damagedSlot, slotIds, tallyIn, listIn, objectsIn}
+use Rattle.index.specs.declared.list.Ask.{Ask}
+use Rattle.index.specs.declared.list.Ask.the-variants as ask
 use Rattle.index.specs.declared.list.Standing.{Standing}
 use Rattle.index.specs.declared.list.Standing.the-variants as standing
 use Rattle.index.specs.declared.walks.Met.the-variants.{Nothing}
@@ -50,10 +54,14 @@ use Rattle.index.proofs.Probing.{slot-lt, first-none}
 use Rattle.index.proofs.Parting.{Parted, all, at, parted, in-at}
 use Rattle.index.proofs.Walking.{headed, reach-none, reach-at}
 use Rattle.index.proofs.Ruling.{Listed, newest-none, newest-at}
-use Rattle.index.proofs.Kept.{held-in}
+use Rattle.index.proofs.Kept.{held-in, held-of}
 use Rattle.index.proofs.Bridging.{added-listed}
 
--- a list with a record makes a chain with one
+-- a list with a record is not empty, and makes a chain with one
+some-length : (x : ℕ) (L : List ℕ) → In x L → 0 < length L
+some-length x [] i = absurd i
+some-length x (q ∷ L) i = omega arith
+
 some-chain : (x : ℕ) (L : List ℕ) → In x L → clean ≡ fromList L → ⊥
 unfolding fromList
 some-chain x [] i e = i
@@ -69,11 +77,11 @@ other-gone Damaged e = refl
 other-gone (Header s o t p z m) e = never (sym e)
 other-gone (Data s o c n) e = refl
 
--- what a `let .. else` on a live slot leaves: one that is not
-pub else-live : (x : Standing) → OneOf (1 ∷ 2 ∷ []) (tagOf the-type x) → isLive x ≡ false
-else-live standing.Live h = absurd (⊎-elim (λ e. omega arith) (λ e. omega arith) h)
-else-live standing.Damaged h = refl
-else-live standing.Other h = refl
+-- what a `let .. else` on a slot that is asked for leaves: one that is not
+pub else-asked : (x : Standing) → OneOf (1 ∷ 2 ∷ []) (tagOf the-type x) → isAsked x ≡ false
+else-asked standing.Asked h = absurd (⊎-elim (λ e. omega arith) (λ e. omega arith) h)
+else-asked standing.Damaged h = refl
+else-asked standing.Other h = refl
 
 -- a slot that is where its object is looked for
 module _ (c : List ℕ) (n s : ℕ) where
@@ -86,63 +94,139 @@ module _ (c : List ℕ) (n s : ℕ) where
   key-own : 0 < keys c s → slot n (keys c) (keys c s) ≡ s → isOwn c n s ≡ true
   key-own h e = rw (ne-eqb (keys c s) 0 (λ z. absurd (omega arith))) (eq-eqb _ _ e)
 
-module _ (says : ℕ → Kind) (P : ℕ) (c : List ℕ) (n : ℕ) where
-  at-own : (s : ℕ) → isOwn c n s ≡ true → standingAt says P c n s ≡ standingOf says P c n (keys c s)
+module _ (a : Ask) (says : ℕ → Kind) (P : ℕ) (c : List ℕ) (n : ℕ) where
+  at-own : (s : ℕ) → isOwn c n s ≡ true → standingAt a says P c n s ≡ standingOf a says P c n (keys c s)
   unfolding standingAt
   at-own s t = rw t
 
-  at-other : (s : ℕ) → isOwn c n s ≡ false → standingAt says P c n s ≡ standing.Other
+  at-other : (s : ℕ) → isOwn c n s ≡ false → standingAt a says P c n s ≡ standing.Other
   unfolding standingAt
   at-other s t = rw t
 
-  pub list-short : (room : ℕ) → length c < cellsFor n → listIn says P c n room ≡ listed.Refused ShortIndex 0
-  unfolding listIn
-  list-short room h = rw (lt-ltb (length c) (cellsFor n) h)
+  -- a free slot is no object's
+  pub at-free : (s : ℕ) → keys c s ≡ 0 → standingAt a says P c n s ≡ standing.Other
+  unfolding standingAt
+  at-free s e = rw (eq-eqb (keys c s) 0 e)
 
-  -- the tally: a damaged slot refuses it, and else it counts the live slots
-  pub tally-damaged : (s : ℕ) → s < n → standingAt says P c n s ≡ standing.Damaged → tallyIn says P c n ≡ tallied.Refused IndexDamaged
+  -- the tally: a damaged slot refuses it, and else it counts the slots asked for
+  pub tally-damaged : (s : ℕ) → s < n → standingAt a says P c n s ≡ standing.Damaged → tallyIn a says P c n ≡ tallied.Refused IndexDamaged
   unfolding tallyIn
   tally-damaged s h e =
-      let k = count-below (damagedSlot says P c n) s n h (rw e) in
-      rw (lt-ltb 0 (count (damagedSlot says P c n) n) (omega arith))
+      let k = count-below (damagedSlot a says P c n) s n h (rw e) in
+      rw (lt-ltb 0 (count (damagedSlot a says P c n) n) (omega arith))
 
-  pub tally-whole : count (damagedSlot says P c n) n ≡ 0 → tallyIn says P c n ≡ tallied.Count (count (liveSlot says P c n) n)
+  pub tally-whole : count (damagedSlot a says P c n) n ≡ 0 → tallyIn a says P c n ≡ tallied.Count (count (askedSlot a says P c n) n)
   unfolding tallyIn
   tally-whole e = rw e
 
-  -- what a tally of m tells of a listing into so many words
-  abbrev pub Counted : ℕ → ℕ → Type 0
-  Counted room m = (m ≡ count (liveSlot says P c n) n) × (listIn says P c n room ≡ pick (ltb room m) (listed.Refused ShortBuffer m) (listed.Ids m))
-
-  -- and a listing goes by it
-  module _ (room : ℕ) (enough : cellsFor n ≤ length c) where
-    pub list-refused : (r : Refusal) → tallyIn says P c n ≡ tallied.Refused r → listIn says P c n room ≡ listed.Refused r 0
-    unfolding tallyIn listIn
-    list-refused r e =
-        rw (le-ltb (length c) (cellsFor n) enough)
-        (pick-cases (ltb 0 (count (damagedSlot says P c n) n)) _ _ _ _ e
-        (λ t q. let same : IndexDamaged ≡ r = cc in rw (t, same))
-        (λ t q. let z : _≡_ {A = ℕ} 0 1 = cc in absurd (omega arith)))
-
-    pub list-counted : (m : ℕ) → tallyIn says P c n ≡ tallied.Count m → Counted room m
-    unfolding tallyIn listIn listedBy slotIds
-    list-counted m e =
-        rw (le-ltb (length c) (cellsFor n) enough, ids-length (liveSlot says P c n) (keys c) n)
-        (pick-cases (ltb 0 (count (damagedSlot says P c n) n)) _ _ _ _ e
-        (λ t q. let z : _≡_ {A = ℕ} 0 1 = cc in absurd (omega arith))
-        (λ t q. let same : m ≡ count (liveSlot says P c n) n = cc in (same, rw (t, same))))
-
-  -- a live slot is one where its object is looked for, and its object is live
-  live-slot : (s : ℕ) → liveSlot says P c n s ≡ true → (isOwn c n s ≡ true) × (isLive (standingOf says P c n (keys c s)) ≡ true)
-  live-slot s e =
+  -- a slot asked for is one where its object is looked for, and its object is asked for
+  asked-slot : (s : ℕ) → askedSlot a says P c n s ≡ true → (isOwn c n s ≡ true) × (isAsked (standingOf a says P c n (keys c s)) ≡ true)
+  asked-slot s e =
       by-test (isOwn c n s) _
       (λ t. (t, rw (at-own s t) at e))
       (λ t. never (rw (at-other s t) at e))
 
   -- one object is looked for in one slot
-  pub slots-apart : (s s′ : ℕ) → liveSlot says P c n s ≡ true → liveSlot says P c n s′ ≡ true → keys c s ≡ keys c s′ → s ≡ s′
+  pub slots-apart : (s s′ : ℕ) → askedSlot a says P c n s ≡ true → askedSlot a says P c n s′ ≡ true → keys c s ≡ keys c s′ → s ≡ s′
   slots-apart s s′ t u e =
-      sym (own-key c n s (live-slot s t .0) .1) ∙ ap (slot n (keys c)) e ∙ own-key c n s′ (live-slot s′ u .0) .1
+      sym (own-key c n s (asked-slot s t .0) .1) ∙ ap (slot n (keys c)) e ∙ own-key c n s′ (asked-slot s′ u .0) .1
+
+  -- object o is the key of the slot where it is looked for, and is asked for
+  abbrev Found : ℕ → Type 0
+  Found o = (0 < o) × (keys c (slot n (keys c) o) ≡ o) × (isAsked (standingOf a says P c n o) ≡ true)
+
+  slot-found : (o : ℕ) → 0 < n → Found o → Bears (askedSlot a says P c n) (keys c) n o
+  slot-found o pages f =
+      let s = slot n (keys c) o in
+      let at : slot n (keys c) (keys c s) ≡ s = ap (slot n (keys c)) (f .1) in
+      record {
+        page = s;
+        inside = slot-lt (keys c) o n pages;
+        passes = rw (at-own s (key-own c n s (rw (f .1) (f .0)) at), f .1) (f .2);
+        bears = f .1;
+      }
+
+  -- the ids of the slots asked for are given ids that ascend, if those are the objects asked for
+  slots-same :
+      (ids : List ℕ) → 0 < n → Ascends 0 ids →
+      ((o : ℕ) → 0 < o → isAsked (standingOf a says P c n o) ≡ true → ascending.In o ids) →
+      ((o : ℕ) → ascending.In o ids → Found o) →
+      slotIds a says P c n ≡ ids
+  unfolding slotIds
+  slots-same ids pages up there found =
+      same-members 0 _ _
+      (ids-ascend (askedSlot a says P c n) (keys c) slots-apart n)
+      up
+      (λ o i.
+      let w = ids-of (askedSlot a says P c n) (keys c) o n i in
+      let r = asked-slot (w .page) (w .passes) in
+      let pos : 0 < o = rw (w .bears) at (own-key c n (w .page) (r .0) .0) in
+      there o pos (rw (w .bears) at (r .1)))
+      (λ o i. ids-in (askedSlot a says P c n) (keys c) o n (slot-found o pages (found o i)))
+
+module _ (says : ℕ → Kind) (P : ℕ) (c : List ℕ) (n : ℕ) where
+  pub list-short : (room : ℕ) → length c < cellsFor n → listIn says P c n room ≡ listed.Refused ShortIndex 0
+  unfolding listIn
+  list-short room h = rw (lt-ltb (length c) (cellsFor n) h)
+
+  pub objects-short : length c < cellsFor n → objectsIn says P c n ≡ tallied.Refused ShortIndex
+  unfolding objectsIn
+  objects-short h = rw (lt-ltb (length c) (cellsFor n) h)
+
+  -- what a tally of m tells of a listing into so many words
+  abbrev pub Counted : ℕ → ℕ → Type 0
+  Counted room m =
+      (m ≡ count (askedSlot ask.Live says P c n) n)
+      × (listIn says P c n room ≡ pick (ltb room m) (listed.Refused ShortBuffer m) (listed.Ids m))
+
+  -- where there are enough words, the calls go by the tally
+  module _ (enough : cellsFor n ≤ length c) where
+    pub objects-tally : objectsIn says P c n ≡ tallyIn ask.Any says P c n
+    unfolding objectsIn
+    objects-tally = rw (le-ltb (length c) (cellsFor n) enough)
+
+    pub list-refused : (room : ℕ) (r : Refusal) → tallyIn ask.Live says P c n ≡ tallied.Refused r → listIn says P c n room ≡ listed.Refused r 0
+    unfolding tallyIn listIn
+    list-refused room r e =
+        rw (le-ltb (length c) (cellsFor n) enough)
+        (pick-cases (ltb 0 (count (damagedSlot ask.Live says P c n) n)) _ _ _ _ e
+        (λ t q. let same : IndexDamaged ≡ r = cc in rw (t, same))
+        (λ t q. let z : _≡_ {A = ℕ} 0 1 = cc in absurd (omega arith)))
+
+    pub list-counted : (room m : ℕ) → tallyIn ask.Live says P c n ≡ tallied.Count m → Counted room m
+    unfolding tallyIn listIn listedBy slotIds
+    list-counted room m e =
+        rw (le-ltb (length c) (cellsFor n) enough, ids-length (askedSlot ask.Live says P c n) (keys c) n)
+        (pick-cases (ltb 0 (count (damagedSlot ask.Live says P c n) n)) _ _ _ _ e
+        (λ t q. let z : _≡_ {A = ℕ} 0 1 = cc in absurd (omega arith))
+        (λ t q. let same : m ≡ count (askedSlot ask.Live says P c n) n = cc in (same, rw (t, same))))
+
+-- ---- on the chain of a list of records
+
+module _ (says : ℕ → Kind) (P : ℕ) where
+  -- how an object with these records stands
+  abbrev listStands : Ask → List ℕ → Standing
+  listStands a L = standing a says (reach says P 0 0 Nothing 0 (fromList L))
+
+  -- it is not damaged
+  whole-parted : (a : Ask) (L : List ℕ) → Parted (headed says) L → isDamaged (listStands a L) ≡ false
+  unfolding standing
+  whole-parted ask.Live L (all f) = rw (reach-none says P 0 L 0 Nothing 0 f) (by-test (eqb (0 + length L) 0) _ (λ t. rw t) (λ t. rw t))
+  whole-parted ask.Any L (all f) = rw (reach-none says P 0 L 0 Nothing 0 f) (by-test (eqb (0 + length L) 0) _ (λ t. rw t) (λ t. rw t))
+  whole-parted ask.Live L (at A h B f e) = rw (reach-at says P 0 A h B 0 Nothing 0 f e) (by-test (isGone (says h)) _ (λ t. rw t) (λ t. rw t))
+  whole-parted ask.Any L (at A h B f e) = rw (reach-at says P 0 A h B 0 Nothing 0 f e)
+
+  -- with a record it counts as an object, and without one it does not
+  any-parted : (x : ℕ) (L : List ℕ) → Parted (headed says) L → In x L → isAsked (listStands ask.Any L) ≡ true
+  unfolding standing
+  any-parted x L (all f) i =
+      rw (reach-none says P 0 L 0 Nothing 0 f)
+      (by-test (eqb (0 + length L) 0) _ (λ t. absurd (omega (arith, some-length x L i, eqb-true (0 + length L) 0 t))) (λ t. rw t))
+  any-parted x L (at A h B f e) i = rw (reach-at says P 0 A h B 0 Nothing 0 f e)
+
+  any-none : isAsked (listStands ask.Any []) ≡ false
+  unfolding standing reach fromList
+  any-none = refl
 
 -- ---- on cells that hold exactly the added pages
 
@@ -158,14 +242,12 @@ module _
     abbrev R : ℕ → List ℕ
     R o = recs (seen (objects says) added) (ageOf says) o n
 
-    -- how an object stands by its newest header
+    -- how an object stands among the live ones by its newest header
     abbrev stands : Option ℕ → Standing
     stands none = standing.Other
-    stands (some h) = pick (isGone (S h)) standing.Other standing.Live
+    stands (some h) = pick (isGone (S h)) standing.Other standing.Asked
 
-    stands-parted :
-        (o : ℕ) (L : List ℕ) → Parted (headed says) L → Listed says S o n top L →
-        standing says (reach says P 0 0 Nothing 0 (fromList L)) ≡ stands (newestHeader S o n)
+    stands-parted : (o : ℕ) (L : List ℕ) → Parted (headed says) L → Listed says S o n top L → listStands says P ask.Live L ≡ stands (newestHeader S o n)
     unfolding standing
     stands-parted o L (all f) l =
         rw (reach-none says P 0 L 0 Nothing 0 f, newest-none says S o n top L l isHeader f)
@@ -173,32 +255,45 @@ module _
     stands-parted o L (at A h B f e) l =
         rw (reach-at says P 0 A h B 0 Nothing 0 f e, newest-at says S o n top A h B l isHeader f e, l .same h (in-at A h B))
 
-    held-stands : (o : ℕ) → 0 < o → standingOf says P c n o ≡ stands (newestHeader S o n)
-    held-stands o pos =
-        ap (λ t. standing says (reach says P 0 0 Nothing 0 t)) (g .chains o pos)
-        ∙ stands-parted o (R o) (parted (headed says) (R o)) (added-listed says n few old added o pos)
+    -- the chain of an object is its added records
+    held-stands : (a : Ask) (o : ℕ) → 0 < o → standingOf a says P c n o ≡ listStands says P a (R o)
+    held-stands a o pos = ap (λ t. standing a says (reach says P 0 0 Nothing 0 t)) (g .chains o pos)
+
+    live-held : (o : ℕ) → 0 < o → standingOf ask.Live says P c n o ≡ stands (newestHeader S o n)
+    live-held o pos =
+        held-stands ask.Live o pos ∙ stands-parted o (R o) (parted (headed says) (R o)) (added-listed says n few old added o pos)
 
     -- no slot is damaged
-    stands-whole : (r : Option ℕ) → isDamaged (stands r) ≡ false
-    stands-whole none = refl
-    stands-whole (some h) = by-test (isGone (S h)) _ (λ t. rw t) (λ t. rw t)
-
-    none-damaged : (s : ℕ) → damagedSlot says P c n s ≡ false
-    none-damaged s =
+    none-damaged : (a : Ask) (s : ℕ) → damagedSlot a says P c n s ≡ false
+    none-damaged a s =
         by-test (isOwn c n s) _
-        (λ t. rw (at-own says P c n s t, held-stands (keys c s) (own-key c n s t .0)) (stands-whole (newestHeader S (keys c s) n)))
-        (λ t. rw (at-other says P c n s t))
+        (λ t.
+        rw (at-own a says P c n s t, held-stands a (keys c s) (own-key c n s t .0))
+        (whole-parted says P a (R (keys c s)) (parted (headed says) (R (keys c s)))))
+        (λ t. rw (at-other a says P c n s t))
 
     -- an object is live by its newest header exactly if it is by the rules
-    stands-live : (o : ℕ) (r : Option ℕ) → newestHeader S o n ≡ r → isLive (stands r) ≡ true → Live S n o
+    stands-live : (o : ℕ) (r : Option ℕ) → newestHeader S o n ≡ r → isAsked (stands r) ≡ true → Live S n o
     stands-live o none e t = never t
     stands-live o (some h) e t =
         by-test (isGone (S h)) _
         (λ u. never (rw u at t))
         (λ u. record { header = h; newest-header = e; kept = u })
 
-    live-stands : (o : ℕ) (w : Live S n o) → isLive (stands (newestHeader S o n)) ≡ true
+    live-stands : (o : ℕ) (w : Live S n o) → isAsked (stands (newestHeader S o n)) ≡ true
     live-stands o w = rw (w .newest-header, w .kept)
+
+    -- a record of an object in the dump so read is one of its added records
+    added-record : (o p : ℕ) → 0 < o → p < n → isOf o (S p) ≡ true → In p (R o)
+    added-record o p pos h u = go (added p) refl u
+      where
+        go : (t : Bool) → added p ≡ t → isOf o (pick t (says p) Blank) ≡ true → In p (R o)
+        go true e u = held-in n (objects says) (ageOf says) added c g o pos p h (eqb-true _ _ u) e
+        go false e u = absurd (omega (arith, eqb-true 0 o u))
+
+    -- and the other way round
+    record-added : (o p : ℕ) → 0 < o → In p (R o) → (p < n) × (objects S p ≡ o)
+    record-added o p pos i = let r = held-of n (objects says) (ageOf says) added c g o pos p i in (r .0, rw (r .2) (r .1))
 
     -- an object with an added record is the key of the slot where it is looked for
     key-found : (o x : ℕ) → 0 < o → In x (R o) → keys c (slot n (keys c) o) ≡ o
@@ -212,50 +307,63 @@ module _
         (sym (ap (trace n (objects says) (ageOf says) c o top) (first-none n c o _ refl (eqb-false _ _ t)) ∙ trace-end n (objects says) (ageOf says) o c top 0 (omega arith))
         ∙ g .chains o pos)))
 
-    -- the newest header of a live object is one of its added records
-    added-header : (o : ℕ) → Live S n o → (0 < o) × (keys c (slot n (keys c) o) ≡ o)
-    added-header o w =
+    -- the object of a header is not 0
+    header-pos : (o h : ℕ) → headerOf o (S h) ≡ true → (0 < o) × (isOf o (S h) ≡ true)
+    header-pos o h u = go (added h) u
+      where
+        go : (t : Bool) → headerOf o (pick t (says h) Blank) ≡ true → (0 < o) × (isOf o (pick t (says h) Blank) ≡ true)
+        go true u =
+            by-test (isOf o (says h)) _
+            (λ t. let own : objects says h ≡ o = eqb-true _ _ t in (rw own at (owned h (rw t at u)), t))
+            (λ t. never (rw t at u))
+        go false u = by-test (eqb 0 o) _ (λ t. never (rw t at u)) (λ t. never (rw t at u))
+
+    -- a live object is found in its slot: its newest header is one of its added records
+    live-found : (o : ℕ) → Live S n o → Found ask.Live says P c n o
+    live-found o w =
         let h = w .header in
         let f = newest-found S (headerOf o) h n (w .newest-header) in
-        go h (f .0) (added h) refl (f .1)
-      where
-        go : (h : ℕ) → h < n → (t : Bool) → added h ≡ t → headerOf o (pick t (says h) Blank) ≡ true → (0 < o) × (keys c (slot n (keys c) o) ≡ o)
-        go h k true e u =
-            by-test (isOf o (says h)) _
-            (λ t.
-            let own : objects says h ≡ o = eqb-true _ _ t in
-            let pos : 0 < o = rw own at (owned h (rw t at u)) in
-            (pos, key-found o h pos (held-in n (objects says) (ageOf says) added c g o pos h k own e)))
-            (λ t. never (rw t at u))
-        go h k false e u = by-test (eqb 0 o) _ (λ t. never (rw t at u)) (λ t. never (rw t at u))
+        let r = header-pos o h (f .1) in
+        (r .0, key-found o h (r .0) (added-record o h (r .0) (f .0) (r .1)), rw (live-held o (r .0)) (live-stands o w))
 
-    slot-live : (o : ℕ) → Live S n o → Bears (liveSlot says P c n) (keys c) n o
-    slot-live o w =
-        let a = added-header o w in
-        let s = slot n (keys c) o in
-        let at : slot n (keys c) (keys c s) ≡ s = ap (slot n (keys c)) (a .1) in
-        record {
-          page = s;
-          inside = slot-lt (keys c) o n pages;
-          passes = rw (at-own says P c n s (key-own c n s (rw (a .1) (a .0)) at), a .1, held-stands o (a .0)) (live-stands o w);
-          bears = a .1;
-        }
-
-    pub ids-same : slotIds says P c n ≡ liveIds S n
-    unfolding slotIds
+    pub ids-same : slotIds ask.Live says P c n ≡ liveIds S n
     ids-same =
-        same-members 0 _ _
-        (ids-ascend (liveSlot says P c n) (keys c) (slots-apart says P c n) n)
-        (live-ids-ascend S n)
-        (λ o i.
-        let w = ids-of (liveSlot says P c n) (keys c) o n i in
-        let r = live-slot says P c n (w .page) (w .passes) in
-        let pos : 0 < o = rw (w .bears) at (own-key c n (w .page) (r .0) .0) in
-        live-in S n o (stands-live o _ refl (rw (← held-stands o pos) (rw (w .bears) at (r .1)))))
-        (λ o i. ids-in (liveSlot says P c n) (keys c) o n (slot-live o (live-of S n o i)))
+        slots-same ask.Live says P c n (liveIds S n) pages (live-ids-ascend S n)
+        (λ o pos t. live-in S n o (stands-live o _ refl (rw (live-held o pos) at t)))
+        (λ o i. live-found o (live-of S n o i))
 
     -- what a listing answers
     pub list-held : (room : ℕ) → listIn says P c n room ≡ listedBy room (liveIds S n)
     unfolding listIn
     list-held room =
-        rw (le-ltb (length c) (cellsFor n) (g .room), count-nothing (damagedSlot says P c n) n (λ s h. none-damaged s), ids-same)
+        rw (le-ltb (length c) (cellsFor n) (g .room), count-nothing (damagedSlot ask.Live says P c n) n (λ s h. none-damaged ask.Live s), ids-same)
+
+    -- an object with an added record is one of the dump so read, and is found in its slot
+    any-in : (o : ℕ) → 0 < o → isAsked (standingOf ask.Any says P c n o) ≡ true → ascending.In o (objectIds S n)
+    any-in o pos t = go (R o) (λ x i. record-added o x pos i) (rw (held-stands ask.Any o pos) at t)
+      where
+        go : (L : List ℕ) → ((x : ℕ) → In x L → (x < n) × (objects S x ≡ o)) → isAsked (listStands says P ask.Any L) ≡ true → ascending.In o (objectIds S n)
+        go [] f t = never (sym (any-none says P) ∙ t)
+        go (x ∷ L) f t =
+            let r = f x (inl refl) in
+            rw (r .1) at (objects-in S n x (r .0) (λ z. absurd (omega (arith, r .1))))
+
+    any-found : (o : ℕ) → ascending.In o (objectIds S n) → Found ask.Any says P c n o
+    any-found o i =
+        let r = objects-of S n o i in
+        let z = r .0 in
+        let w = r .1 in
+        let pos : 0 < o = omega arith in
+        let k = added-record o (w .page) pos (w .inside) (w .passes) in
+        (pos, key-found o (w .page) pos k, rw (held-stands ask.Any o pos) (any-parted says P (w .page) (R o) (parted (headed says) (R o)) k))
+
+    objects-same : slotIds ask.Any says P c n ≡ objectIds S n
+    objects-same = slots-same ask.Any says P c n (objectIds S n) pages (objects-ascend S n) any-in any-found
+
+    -- what counting the objects answers: the number of distinct ids of the added records
+    pub objects-held : objectsIn says P c n ≡ tallied.Count (objectCount S n)
+    unfolding slotIds
+    objects-held =
+        objects-tally says P c n (g .room)
+        ∙ tally-whole ask.Any says P c n (count-nothing (damagedSlot ask.Any says P c n) n (λ s h. none-damaged ask.Any s))
+        ∙ ap tallied.Count (sym (ids-length (askedSlot ask.Any says P c n) (keys c) n) ∙ ap length objects-same ∙ objects-length S n)

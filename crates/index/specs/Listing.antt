@@ -1,5 +1,6 @@
--- Listing the live objects by the index, on any cells (document 01, "Index" and the refusal table's last sentences). The table of objects is
--- gone over slot by slot, and of each object the links are met that a size lookup of it meets: those down to its newest header.
+-- Listing the live objects and counting all objects by the index, on any cells (document 01, "Index" and the refusal table's last sentences).
+-- The table of objects is gone over slot by slot, and of each object the links are met that a size lookup of it meets: those down to its newest
+-- header.
 use Prim.Native.Nat.{ℕ}
 use mathlib.Core.Bool.{Bool, true, false, _&&_}
 use mathlib.Core.List.{List, []}
@@ -24,67 +25,87 @@ use Rattle.chunk.specs.declared.answer.Tallied.the-variants as tallied
 use Rattle.index.specs.Cells.{cellsFor, keys}
 use Rattle.index.specs.Slots.{slot, used}
 use Rattle.index.specs.Walks.{reach, chainOf}
+use Rattle.index.specs.declared.list.Ask.{Ask}
+use Rattle.index.specs.declared.list.Ask.the-variants.{Live, Any}
 use Rattle.index.specs.declared.list.Standing.{Standing}
-use Rattle.index.specs.declared.list.Standing.the-variants.{Live, Damaged, Other}
+use Rattle.index.specs.declared.list.Standing.the-variants.{Asked, Damaged, Other}
 use Rattle.index.specs.declared.walks.Met.the-variants.{Nothing}
 use Rattle.index.specs.declared.walks.Reached.{Reached}
 use Rattle.index.specs.declared.walks.Reached.the-variants as reached
 
-abbrev pub isLive : Standing → Bool
-isLive Live = true
-isLive Damaged = false
-isLive Other = false
+-- whether every object with a record is asked for, and not the live ones alone
+abbrev pub isAny : Ask → Bool
+isAny Live = false
+isAny Any = true
+
+abbrev pub isAsked : Standing → Bool
+isAsked Asked = true
+isAsked Damaged = false
+isAsked Other = false
 
 abbrev pub isDamaged : Standing → Bool
-isDamaged Live = false
+isDamaged Asked = false
 isDamaged Damaged = true
 isDamaged Other = false
 
--- how an object stands by what the walk to its newest header reached: live if that header's parent is neither 3 nor 4
-unfoldable pub standing : (ℕ → Kind) → Reached → Standing
-standing says (reached.Header h end m v) = pick (isGone (says (h .0))) Other Live
-standing says (reached.Refused r v) = pick (eqb (refusalNumber r) 13) Damaged Other
+-- how an object stands by what the walk to its newest header reached. It is live if that header's parent is neither 3 nor 4; one with data
+-- records only is an object too
+unfoldable pub standing : Ask → (ℕ → Kind) → Reached → Standing
+standing ask says (reached.Header h end m v) = pick (isAny ask) Asked (pick (isGone (says (h .0))) Other Asked)
+standing ask says (reached.Refused r v) =
+    pick (eqb (refusalNumber r) 13) Damaged
+    (pick (isAny ask && eqb (refusalNumber r) 7) Asked
+    Other)
 
 -- whether slot s of n is used, and is where its object is looked for
 abbrev pub isOwn : List ℕ → ℕ → ℕ → Bool
 isOwn cells n s = used (keys cells) s && eqb (slot n (keys cells) (keys cells s)) s
 
--- the listing on the cells of n pages
-module _ (says : ℕ → Kind) (P : ℕ) (cells : List ℕ) (n : ℕ) where
+-- the objects asked for, on the cells of n pages
+module _ (ask : Ask) (says : ℕ → Kind) (P : ℕ) (cells : List ℕ) (n : ℕ) where
   -- how object o stands, by the walk of a size lookup
   abbrev pub standingOf : ℕ → Standing
-  standingOf o = standing says (reach says P 0 0 Nothing 0 (chainOf says P cells o n))
+  standingOf o = standing ask says (reach says P 0 0 Nothing 0 (chainOf says P cells o n))
 
   -- how the object of slot s stands, if that is its slot
   unfoldable pub standingAt : ℕ → Standing
   standingAt s = pick (isOwn cells n s) (standingOf (keys cells s)) Other
 
-  abbrev pub liveSlot : ℕ → Bool
-  liveSlot s = isLive (standingAt s)
+  abbrev pub askedSlot : ℕ → Bool
+  askedSlot s = isAsked (standingAt s)
 
   abbrev pub damagedSlot : ℕ → Bool
   damagedSlot s = isDamaged (standingAt s)
 
-  -- the ids of the live objects, ascending
+  -- their ids, ascending
   unfoldable pub slotIds : List ℕ
-  slotIds = idsOf liveSlot (keys cells) n
+  slotIds = idsOf askedSlot (keys cells) n
 
   -- how many they are, if no damaged link is met
   unfoldable pub tallyIn : Tallied
-  tallyIn = pick (ltb 0 (count damagedSlot n)) (tallied.Refused IndexDamaged) (tallied.Count (count liveSlot n))
+  tallyIn = pick (ltb 0 (count damagedSlot n)) (tallied.Refused IndexDamaged) (tallied.Count (count askedSlot n))
 
-  -- listing them into so many words
+-- the calls on the cells of n pages
+module _ (says : ℕ → Kind) (P : ℕ) (cells : List ℕ) (n : ℕ) where
+  -- listing the live objects into so many words
   unfoldable pub listIn : ℕ → Listed
   listIn room =
       pick (ltb (length cells) (cellsFor n)) (listed.Refused ShortIndex 0)
-      (pick (ltb 0 (count damagedSlot n)) (listed.Refused IndexDamaged 0)
-      (listedBy room slotIds))
+      (pick (ltb 0 (count (damagedSlot Live says P cells n) n)) (listed.Refused IndexDamaged 0)
+      (listedBy room (slotIds Live says P cells n)))
 
--- the listing on a dump of a named layout in blocks of k, by any cells
+  -- counting all objects
+  unfoldable pub objectsIn : Tallied
+  objectsIn = pick (ltb (length cells) (cellsFor n)) (tallied.Refused ShortIndex) (tallyIn Any says P cells n)
+
+-- the calls on a dump of a named layout in blocks of k, by any cells
 module _ (l : Layout) (k : ℕ) (dump cells : List ℕ) where
-  -- the ids; none where the dump is refused
+  -- the live ids; none where the dump is refused
   unfoldable pub idsFrom : List ℕ
-  idsFrom = onPages (λ r. []) (λ n. slotIds (kindAt l dump) (l .«data») cells n) (openedOf l k (length dump))
+  idsFrom = onPages (λ r. []) (λ n. slotIds Live (kindAt l dump) (l .«data») cells n) (openedOf l k (length dump))
 
   unfoldable pub listFrom : ℕ → Listed
   listFrom room = onPages (λ r. listed.Refused r 0) (λ n. listIn (kindAt l dump) (l .«data») cells n room) (openedOf l k (length dump))
+
+  unfoldable pub objectsFrom : Tallied
+  objectsFrom = onPages (λ r. tallied.Refused r) (λ n. objectsIn (kindAt l dump) (l .«data») cells n) (openedOf l k (length dump))

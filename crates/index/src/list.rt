@@ -1,13 +1,13 @@
-// Listing the live objects by the index, on any cells: slot by slot, down each object's chain to its newest header.
+// Listing the live objects and counting all objects by the index, on any cells: slot by slot, down each object's chain to its newest header.
 ghost use mathlib.Core.Path.{_≡_};
-ghost use Prim.Native.Nat.{_≤_, _<_};
+ghost use Prim.Native.Nat.{_+_, _≤_, _<_};
 ghost use lib.ListN.{length};
 ghost use Rattle.page.specs.Search.{count};
 ghost use Rattle.page.specs.Kinds.{kindAt};
 ghost use Rattle.chunk.specs.Records.{isGone};
 ghost use Rattle.chunk.specs.Lists.{inFront, wordsBy};
-ghost use Rattle.index.specs.Cells.{cellsFor};
-ghost use Rattle.index.specs.Listing.{standing, standingAt, liveSlot, slotIds, tallyIn, listIn, idsFrom, listFrom};
+ghost use Rattle.index.specs.Cells.{cellsFor, keys};
+ghost use Rattle.index.specs.Listing.{isAny, standing, standingAt, askedSlot, slotIds, tallyIn, listIn, objectsIn, idsFrom, listFrom, objectsFrom};
 use crate::cells::cells_for;
 use crate::cells::key_at;
 use crate::slots::first_of;
@@ -27,11 +27,28 @@ use page::number::ChunkNumber;
 use page::number::ObjectId;
 use page::refusal::Refusal;
 
-// How an object stands: it is live, a damaged link was met, or neither.
-pub enum Standing {
+// Which objects are asked for: the live ones, or any that has a record.
+pub enum Ask {
     Live,
+    Any,
+}
+
+// How an object stands: it is asked for, a damaged link was met, or neither.
+pub enum Standing {
+    Asked,
     Damaged,
     Other,
+}
+
+impl Ask {
+    fn is_any(self) -> bool
+        ensures { λ r. ⌜ r ≡ isAny self ⌝ }
+    {
+        match self {
+            Ask::Live => false,
+            Ask::Any => true,
+        }
+    }
 }
 
 // Whether a page that says k is a header under parent 3 or 4.
@@ -56,36 +73,61 @@ fn is_gone(k: Kind) -> bool
 }
 
 // How an object stands by what the walk to its newest header reached.
-fn standing_of(dump: &[u8], l: Layout, r: Reached) -> Standing
-    ensures { λ s. ⌜ s ≡ standing (kindAt l (now (dump .entry))) r ⌝ }
+fn standing_of(dump: &[u8], l: Layout, ask: Ask, r: Reached) -> Standing
+    ensures { λ s. ⌜ s ≡ standing ask (kindAt l (now (dump .entry))) r ⌝ }
 {
+    let any = ask.is_any();
     match r {
         Reached::Refused(no, _) => {
-            if no.number() == 13 {
+            let number = no.number();
+            if number == 13 {
                 return Standing::Damaged;
+            }
+            if !any {
+                return Standing::Other;
+            }
+            if number == 7 {
+                return Standing::Asked;
             }
             Standing::Other
         }
         Reached::Header(h, _, _, _) => {
+            if any {
+                return Standing::Asked;
+            }
             if is_gone(kind_at(dump, l, h)) {
                 return Standing::Other;
             }
-            Standing::Live
+            Standing::Asked
         }
     }
 }
 
-// How the object of slot s stands, if that is where the object is looked for.
-fn standing_at(dump: &[u8], l: Layout, pages: u32, cells: &[u32], s: u32) -> Standing
-    requires { ⌜ s < pages ⌝ }
-    requires { ⌜ cellsFor pages ≤ length (now cells) ⌝ }
-    ensures { λ r. ⌜ r ≡ standingAt (kindAt l (now (dump .entry))) (l .«data») (now (cells .entry)) pages s ⌝ }
+// The key of slot s.
+fn key_of(cells: &[u32], s: u32) -> ObjectId
+    requires { ⌜ cellsFor (s + 1) ≤ length (now cells) ⌝ }
+    ensures { λ r. ⌜ r .0 ≡ keys (now (cells .entry)) s ⌝ }
 {
     let i = key_at(s);
-    let o = ObjectId(cells[i]);
-    if o.0 == 0 {
-        return Standing::Other;
-    }
+    ObjectId(cells[i])
+}
+
+// How object o, the key of slot s, stands, if that is where it is looked for. Most slots are free: callers pass over those themselves.
+fn standing_at(
+    dump: &[u8],
+    l: Layout,
+    ask: Ask,
+    pages: u32,
+    cells: &[u32],
+    s: u32,
+    o: ObjectId,
+) -> Standing
+    requires { ⌜ s < pages ⌝ }
+    requires { ⌜ cellsFor pages ≤ length (now cells) ⌝ }
+    requires { ⌜ o .0 ≡ keys (now cells) s ⌝ }
+    requires { ⌜ 0 < o .0 ⌝ }
+    ensures { λ r. ⌜ r ≡ standingAt ask (kindAt l (now (dump .entry))) (l .«data») (now (cells .entry)) pages s ⌝ }
+{
     if slot_of(cells, o, pages) != s {
         return Standing::Other;
     }
@@ -93,22 +135,28 @@ fn standing_at(dump: &[u8], l: Layout, pages: u32, cells: &[u32], s: u32) -> Sta
     standing_of(
         dump,
         l,
+        ask,
         reach_header(dump, l, pages, cells, o, ChunkNumber(0), first),
     )
 }
 
-// How many slots are live, if no damaged link is met.
-fn tally_in(dump: &[u8], l: Layout, pages: u32, cells: &[u32]) -> Tallied
+// How many slots have objects that are asked for, if no damaged link is met.
+fn tally_in(dump: &[u8], l: Layout, ask: Ask, pages: u32, cells: &[u32]) -> Tallied
     requires { ⌜ cellsFor pages ≤ length (now cells) ⌝ }
-    ensures { λ r. ⌜ r ≡ tallyIn (kindAt l (now (dump .entry))) (l .«data») (now (cells .entry)) pages ⌝ }
+    ensures { λ r. ⌜ r ≡ tallyIn ask (kindAt l (now (dump .entry))) (l .«data») (now (cells .entry)) pages ⌝ }
 {
     let mut count: u32 = 0;
     let mut s: u32 = 0;
     while s < pages {
-        let standing = standing_at(dump, l, pages, cells, s);
+        let at = s;
+        let o = key_of(cells, at);
         s += 1;
+        if o.0 == 0 {
+            continue;
+        }
+        let standing = standing_at(dump, l, ask, pages, cells, at, o);
         match standing {
-            Standing::Live => {
+            Standing::Asked => {
                 count += 1;
             }
             Standing::Damaged => {
@@ -125,19 +173,23 @@ fn tally_in(dump: &[u8], l: Layout, pages: u32, cells: &[u32]) -> Tallied
 // Writes the ids of the live slots, ascending, to words that have room for them.
 fn write_ids(dump: &[u8], l: Layout, pages: u32, cells: &[u32], words: &mut [u32])
     requires { ⌜ cellsFor pages ≤ length (now cells) ⌝ }
-    requires { ⌜ count (liveSlot (kindAt l (now dump)) (l .«data») (now cells) pages) pages ≤ length (now words) ⌝ }
-    ensures { λ _. ⌜ now (words .exit) ≡ inFront (slotIds (kindAt l (now (dump .entry))) (l .«data») (now (cells .entry)) pages) (now (words .entry)) ⌝ }
+    requires { ⌜ count (askedSlot Ask.Live (kindAt l (now dump)) (l .«data») (now cells) pages) pages ≤ length (now words) ⌝ }
+    ensures { λ _. ⌜ now (words .exit) ≡ inFront (slotIds Ask.Live (kindAt l (now (dump .entry))) (l .«data») (now (cells .entry)) pages) (now (words .entry)) ⌝ }
 {
     let mut count: usize = 0;
     let mut s: u32 = 0;
     while s < pages {
-        let standing = standing_at(dump, l, pages, cells, s);
-        let i = key_at(s);
+        let at = s;
+        let o = key_of(cells, at);
         s += 1;
-        let Standing::Live = standing else {
+        if o.0 == 0 {
+            continue;
+        }
+        let standing = standing_at(dump, l, Ask::Live, pages, cells, at, o);
+        let Standing::Asked = standing else {
             continue;
         };
-        insert_id(words, count, ObjectId(cells[i]));
+        insert_id(words, count, o);
         count += 1;
     }
 }
@@ -145,12 +197,12 @@ fn write_ids(dump: &[u8], l: Layout, pages: u32, cells: &[u32], words: &mut [u32
 // Lists the live objects of a dump of so many pages.
 fn list_in(dump: &[u8], l: Layout, pages: u32, cells: &[u32], words: &mut [u32]) -> Listed
     ensures { λ r. ⌜ r ≡ listIn (kindAt l (now (dump .entry))) (l .«data») (now (cells .entry)) pages (length (now (words .entry))) ⌝ }
-    ensures { λ r. ⌜ now (words .exit) ≡ wordsBy (slotIds (kindAt l (now (dump .entry))) (l .«data») (now (cells .entry)) pages) (now (words .entry)) r ⌝ }
+    ensures { λ r. ⌜ now (words .exit) ≡ wordsBy (slotIds Ask.Live (kindAt l (now (dump .entry))) (l .«data») (now (cells .entry)) pages) (now (words .entry)) r ⌝ }
 {
     if cells.len() < cells_for(pages) {
         return Listed::Refused(Refusal::ShortIndex, 0);
     }
-    let tally = tally_in(dump, l, pages, cells);
+    let tally = tally_in(dump, l, Ask::Live, pages, cells);
     match tally {
         Tallied::Refused(r) => Listed::Refused(r, 0),
         Tallied::Count(need) => {
@@ -173,5 +225,26 @@ pub fn list(dump: &[u8], l: Layout, k: u32, cells: &[u32], words: &mut [u32]) ->
     match p {
         Opened::Refused(r) => Listed::Refused(r, 0),
         Opened::Pages(pages) => list_in(dump, l, pages, cells, words),
+    }
+}
+
+// Counts the objects of a dump of so many pages.
+fn objects_in(dump: &[u8], l: Layout, pages: u32, cells: &[u32]) -> Tallied
+    ensures { λ r. ⌜ r ≡ objectsIn (kindAt l (now (dump .entry))) (l .«data») (now (cells .entry)) pages ⌝ }
+{
+    if cells.len() < cells_for(pages) {
+        return Tallied::Refused(Refusal::ShortIndex);
+    }
+    tally_in(dump, l, Ask::Any, pages, cells)
+}
+
+// How many objects a dump of a named layout in blocks of k has, by its index: those with data records only too.
+pub fn objects(dump: &[u8], l: Layout, k: u32, cells: &[u32]) -> Tallied
+    ensures { λ r. ⌜ r ≡ objectsFrom l k (now (dump .entry)) (now (cells .entry)) ⌝ }
+{
+    let p = l.opened(dump.len(), k);
+    match p {
+        Opened::Refused(r) => Tallied::Refused(r),
+        Opened::Pages(pages) => objects_in(dump, l, pages, cells),
     }
 }

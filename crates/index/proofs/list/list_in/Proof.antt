@@ -27,7 +27,7 @@ counted :
     Counted (kindAt (a .l) (a .dump .now)) (a .l .«data») (a .cells .now) (a .pages) (length (a .words .now)) (c .before .tally2 .given .0 .0)
 counted c =
     let t = c .before .before .before in
-    list-counted _ _ _ _ _ (enough (t .before)) _ (sym (t .tally-in .ensures) ∙ c .before .tally2 .given .1)
+    list-counted _ _ _ _ (enough (t .before)) _ _ (sym (t .tally-in .ensures) ∙ c .before .tally2 .given .1)
 
 returns-2 : tie.Need-returns-2
 unfolding wordsBy
@@ -42,7 +42,7 @@ returns-3 : tie.Need-returns-3
 unfolding wordsBy
 returns-3 c =
     let t = c .before .before .before in
-    (sym (list-refused _ _ _ _ _ (enough (t .before)) _ (sym (t .tally-in .ensures) ∙ c .before .tally .given .1)), refl)
+    (sym (list-refused _ _ _ _ (enough (t .before)) _ _ (sym (t .tally-in .ensures) ∙ c .before .tally .given .1)), refl)
 
 returns-4 : tie.Need-returns-4
 unfolding wordsBy

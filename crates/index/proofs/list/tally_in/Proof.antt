@@ -1,4 +1,4 @@
--- The loop's invariant: no slot passed is damaged, and the count is that of the live slots passed.
+-- The loop's invariant: no slot passed is damaged, and the count is that of the slots asked for passed.
 use Prim.Native.Nat.{_≤_, _-_}
 use mathlib.Core.Path.{_≡_, sym, ap, _∙_}
 use native.Mathlib.Omega.{arith}
@@ -7,43 +7,53 @@ use Rattle.page.specs.Search.{count}
 use Rattle.page.specs.Kinds.{kindAt}
 use Rattle.page.proofs.Searching.{count-none}
 use Rattle.chunk.proofs.Living.{count-skip, count-take}
-use Rattle.index.specs.Listing.{isLive, isDamaged, liveSlot, damagedSlot}
-use Rattle.index.proofs.Listing.{tally-damaged, tally-whole}
+use Rattle.index.specs.Listing.{isAsked, isDamaged, askedSlot, damagedSlot}
+use Rattle.index.proofs.Listing.{at-free, tally-damaged, tally-whole}
 use Rattle.index.proofs.list.tally_in.Statement.{statement}
 use Rattle.index.proofs.list.tally_in.Tie as tie
 
 abbrev Inv-loop : tie.InvT-loop
-Inv-loop dump l pages cells count₀ s₀ count₁ s =
+Inv-loop dump l ask pages cells count₀ s₀ count₁ s =
     (s ≤ pages)
     × (count₁ ≤ s)
-    × (count (damagedSlot (kindAt l dump) (l .«data») cells pages) s ≡ 0)
-    × (count₁ ≡ count (liveSlot (kindAt l dump) (l .«data») cells pages) s)
+    × (count (damagedSlot ask (kindAt l dump) (l .«data») cells pages) s ≡ 0)
+    × (count₁ ≡ count (askedSlot ask (kindAt l dump) (l .«data») cells pages) s)
 
 abbrev μ-loop : tie.MeasureT-loop
-μ-loop dump l pages cells count₀ s₀ count₁ s = pages - s
+μ-loop dump l ask pages cells count₀ s₀ count₁ s = pages - s
 
 loop-holds : tie.Need-loop-holds Inv-loop μ-loop
 loop-holds c = (search needs, search needs, count-none _, rw count-none)
 
 loop-again : tie.Need-loop-again Inv-loop μ-loop
 loop-again c =
-    let a = c .before .before in
-    let q = a .before .before .loop in
-    let e = sym (a .standing-at .ensures) ∙ c .enum-told .given .1 in
-    (search needs, search needs, count-skip _ (q .s) (ap isDamaged e) ∙ q .inv .2, rw (q .inv .3) (sym (count-take _ (q .s) (ap isLive e))))
+    let k = c .before .before in
+    let q = k .before .before .loop in
+    let e = at-free _ _ _ _ _ (q .s) (sym (k .key-of .ensures) ∙ c .if1 .taken) in
+    (search needs, search needs, count-skip _ (q .s) (ap isDamaged e) ∙ q .inv .2, q .inv .3 ∙ sym (count-skip _ (q .s) (ap isAsked e)))
 
-returns : tie.Need-returns Inv-loop μ-loop
-returns c =
-    let a = c .before .before in
-    let q = a .before .before .loop in
-    sym (tally-damaged _ _ _ _ (q .s) (a .before .loop-test .taken) (sym (a .standing-at .ensures) ∙ c .enum-told2 .given .1))
+standing-at-requires : tie.Need-standing-at-requires Inv-loop μ-loop
+standing-at-requires c κs = (search needs, (search needs, (c .before .before .key-of .ensures, omega (arith, c .if1 .left))))
 
 loop-again-2 : tie.Need-loop-again-2 Inv-loop μ-loop
 loop-again-2 c =
     let a = c .before .before in
-    let q = a .before .before .loop in
+    let q = a .before .before .before .before .before .loop in
+    let e = sym (a .standing-at .ensures) ∙ c .enum-told .given .1 in
+    (search needs, search needs, count-skip _ (q .s) (ap isDamaged e) ∙ q .inv .2, rw (q .inv .3) (sym (count-take _ (q .s) (ap isAsked e))))
+
+returns : tie.Need-returns Inv-loop μ-loop
+returns c =
+    let a = c .before .before in
+    let t = a .before .before .before .before in
+    sym (tally-damaged _ _ _ _ _ (t .before .loop .s) (t .loop-test .taken) (sym (a .standing-at .ensures) ∙ c .enum-told2 .given .1))
+
+loop-again-3 : tie.Need-loop-again-3 Inv-loop μ-loop
+loop-again-3 c =
+    let a = c .before .before in
+    let q = a .before .before .before .before .before .loop in
     let e = sym (a .standing-at .ensures) ∙ c .enum-told3 .given .1 in
-    (search needs, search needs, count-skip _ (q .s) (ap isDamaged e) ∙ q .inv .2, q .inv .3 ∙ sym (count-skip _ (q .s) (ap isLive e)))
+    (search needs, search needs, count-skip _ (q .s) (ap isDamaged e) ∙ q .inv .2, q .inv .3 ∙ sym (count-skip _ (q .s) (ap isAsked e)))
 
 returns-2 : tie.Need-returns-2 Inv-loop μ-loop
 returns-2 c =
@@ -51,7 +61,7 @@ returns-2 c =
     let e : q .s ≡ c .before .before .before .before .args .pages = omega arith in
     let d = rw e at (q .inv .2) in
     let n = rw e at (q .inv .3) in
-    rw n (sym (tally-whole _ _ _ _ d))
+    rw n (sym (tally-whole _ _ _ _ _ d))
 
 pub tally-in-spec : {M : Type 1} → statement M
 tally-in-spec =
@@ -63,12 +73,15 @@ tally-in-spec =
     (search needs)
     (search needs)
     (search needs)
-    (search needs)
-    (search needs)
     loop-again
+    standing-at-requires
+    (search needs)
+    (search needs)
+    (search needs)
+    loop-again-2
     (search needs)
     returns
     (search needs)
     (search needs)
-    loop-again-2
+    loop-again-3
     returns-2)

@@ -1,4 +1,4 @@
--- The loop's invariant: the ids of the live slots passed stand in front of the words, ascending, and the count is how many they are.
+-- The loop's invariant: the ids of the slots asked for passed stand in front of the words, ascending, and the count is how many they are.
 use Prim.Native.Nat.{_≤_, _<_, _-_}
 use mathlib.Core.Bool.{true}
 use mathlib.Core.Path.{_≡_, refl, sym, ap, _∙_}
@@ -12,8 +12,9 @@ use Rattle.chunk.specs.Live.{idsOf}
 use Rattle.chunk.specs.Lists.{inFront}
 use Rattle.chunk.proofs.Living.{count-skip, count-take, count-below, ids-none, ids-skip, ids-written, ids-ascend}
 use Rattle.index.specs.Cells.{keys}
-use Rattle.index.specs.Listing.{isLive, liveSlot, slotIds}
-use Rattle.index.proofs.Listing.{else-live, slots-apart}
+use Rattle.index.specs.Listing.{isAsked, askedSlot, slotIds}
+use Rattle.index.specs.declared.list.Ask.the-variants.{Live}
+use Rattle.index.proofs.Listing.{at-free, else-asked, slots-apart}
 use Rattle.index.proofs.list.write_ids.Statement.{statement}
 use Rattle.index.proofs.list.write_ids.Tie as tie
 
@@ -22,8 +23,8 @@ Inv-loop dump l pages cells words₀ count₀ s₀ words count₁ s =
     (s ≤ pages)
     × (count₁ ≤ s)
     × (length words ≡ length words₀)
-    × (count₁ ≡ count (liveSlot (kindAt l dump) (l .«data») cells pages) s)
-    × (words ≡ inFront (idsOf (liveSlot (kindAt l dump) (l .«data») cells pages) (keys cells) s) words₀)
+    × (count₁ ≡ count (askedSlot Live (kindAt l dump) (l .«data») cells pages) s)
+    × (words ≡ inFront (idsOf (askedSlot Live (kindAt l dump) (l .«data») cells pages) (keys cells) s) words₀)
 
 abbrev μ-loop : tie.MeasureT-loop
 μ-loop dump l pages cells words₀ count₀ s₀ words count₁ s = pages - s
@@ -33,31 +34,41 @@ loop-holds c = (search needs, search needs, refl, rw count-none, rw ids-none)
 
 loop-again : tie.Need-loop-again Inv-loop μ-loop
 loop-again c =
-    let a = c .before .before in
-    let q = a .before .before .loop in
-    let t = ap isLive (sym (a .standing-at .ensures)) ∙ else-live (a .standing-at .result) (c .match .keys2) in
+    let k = c .before .before in
+    let q = k .before .before .loop in
+    let t = ap isAsked (at-free Live _ _ _ _ (q .s) (sym (k .key-of .ensures) ∙ c .if1 .taken)) in
     (search needs, search needs, search needs, rw (count-skip _ (q .s) t) (q .inv .3), rw (ids-skip _ _ (q .s) t) (q .inv .4))
+
+standing-at-requires : tie.Need-standing-at-requires Inv-loop μ-loop
+standing-at-requires c κs = (search needs, (search needs, (c .before .before .key-of .ensures, omega (arith, c .if1 .left))))
 
 loop-again-2 : tie.Need-loop-again-2 Inv-loop μ-loop
 loop-again-2 c =
+    let a = c .before in
+    let q = a .before .before .before .before .before .loop in
+    let t = ap isAsked (sym (a .standing-at .ensures)) ∙ else-asked (a .standing-at .result) (c .match .keys2) in
+    (search needs, search needs, search needs, rw (count-skip _ (q .s) t) (q .inv .3), rw (ids-skip _ _ (q .s) t) (q .inv .4))
+
+loop-again-3 : tie.Need-loop-again-3 Inv-loop μ-loop
+loop-again-3 c =
     let w = c .before .before in
-    let m = w .before .before .before in
-    let i = m .before .before in
-    let a = i .before in
-    let q = a .before .before .loop in
-    let s = a .before .before .before .before .before .before in
+    let m = w .before .before in
+    let a = m .before .before in
+    let k = a .before .before .before in
+    let q = k .before .before .loop in
+    let s = k .before .before .before .before .before .before in
     let says = kindAt (s .args .l) (s .args .dump .now) in
-    let test = liveSlot says (s .args .l .«data») (s .args .cells .now) (s .args .pages) in
-    let t : test (q .s) ≡ true = ap isLive (sym (a .standing-at .ensures) ∙ m .enum-told .given .1) in
-    let room : q .count < length (s .args .words .now) = omega (arith, count-below test (q .s) (s .args .pages) (a .before .loop-test .taken) t, s .pre .1, q .inv .3) in (
+    let test = askedSlot Live says (s .args .l .«data») (s .args .cells .now) (s .args .pages) in
+    let t : test (q .s) ≡ true = ap isAsked (sym (a .standing-at .ensures) ∙ m .enum-told .given .1) in
+    let room : q .count < length (s .args .words .now) = omega (arith, count-below test (q .s) (s .args .pages) (k .before .loop-test .taken) t, s .pre .1, q .inv .3) in (
       search needs,
       search needs,
       w .insert-id .kept .0 ∙ q .inv .2,
       rw (count-take test (q .s) t, q .inv .3),
       w .insert-id .ensures
-          ∙ rw (i .key-at .ensures)
+          ∙ rw (k .key-of .ensures)
           (ids-written test (keys (s .args .cells .now)) (q .words) (s .args .words .now) (q .count) (q .s)
-          (ids-ascend test (keys (s .args .cells .now)) (slots-apart says (s .args .l .«data») (s .args .cells .now) (s .args .pages)) (q .s)) t (q .inv .3) room (q .inv .4)),
+          (ids-ascend test (keys (s .args .cells .now)) (slots-apart Live says (s .args .l .«data») (s .args .cells .now) (s .args .pages)) (q .s)) t (q .inv .3) room (q .inv .4)),
     )
 
 returns : tie.Need-returns Inv-loop μ-loop
@@ -76,14 +87,14 @@ write-ids-spec =
     (search needs)
     (search needs)
     (search needs)
-    (search needs)
-    (search needs)
     loop-again
-    (search needs)
-    (search needs)
-    (search needs)
+    standing-at-requires
     (search needs)
     (search needs)
     loop-again-2
+    (search needs)
+    (search needs)
+    (search needs)
+    loop-again-3
     (search needs)
     returns)
