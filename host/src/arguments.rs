@@ -1,44 +1,70 @@
 //! What was typed: a command, its dump, its arguments and its options.
 
-use std::ffi::OsString;
+use std::ffi::{OsStr, OsString};
+use std::fmt;
 
 use crate::failure::Failure;
 use crate::ffi;
 
-/// A layout as it was named.
-#[derive(Clone, Copy, Debug, PartialEq, Eq)]
-pub enum Named {
-    Number(u32),
-    Sizes(u32, u32, u32),
+/// A number or a layout: as the library takes it, and as it was typed.
+#[derive(Clone, Debug)]
+pub struct Typed {
+    pub number: u32,
+    text: String,
 }
 
-impl Named {
-    /// `P/S/T`, or a number in the table.
-    pub fn parse(text: &str) -> Option<Named> {
-        let mut parts = text.split('/').map(number);
-        let named = match (parts.next(), parts.next(), parts.next()) {
-            (Some(n), None, None) => Named::Number(n?),
-            (Some(p), Some(s), Some(t)) => Named::Sizes(p?, s?, t?),
-            _ => return None,
-        };
-        parts.next().is_none().then_some(named)
+impl Typed {
+    /// What stands where nothing was asked for.
+    pub const NOTHING: &'static Typed = &Typed {
+        number: 0,
+        text: String::new(),
+    };
+
+    /// The number that goes by this name.
+    pub fn number(name: &str, word: &OsStr) -> Result<Typed, Failure> {
+        Typed::read(name, word, "a number, decimal or with 0x", number)
     }
 
-    /// Its number in the table; one that the table lacks is not in it.
-    pub fn number(self) -> u32 {
-        match self {
-            Named::Number(number) => number,
-            Named::Sizes(p, s, t) => ffi::layout_sized(p, s, t).number,
-        }
+    fn layout(name: &str, word: &OsStr) -> Result<Typed, Failure> {
+        Typed::read(name, word, "P/S/T or a number in the table", layout)
+    }
+
+    fn read(
+        name: &str,
+        word: &OsStr,
+        what: &str,
+        read: impl Fn(&str) -> Option<u32>,
+    ) -> Result<Typed, Failure> {
+        let text = word.to_str().unwrap_or_default();
+        let wrong = || Failure::Usage(format!("{name} is {what}; {} is not", word.display()));
+        Ok(Typed {
+            number: read(text).ok_or_else(wrong)?,
+            text: text.to_string(),
+        })
     }
 }
 
-impl std::fmt::Display for Named {
-    fn fmt(&self, f: &mut std::fmt::Formatter<'_>) -> std::fmt::Result {
-        match self {
-            Named::Number(number) => write!(f, "{number}"),
-            Named::Sizes(p, s, t) => write!(f, "{p}/{s}/{t}"),
-        }
+impl From<u32> for Typed {
+    fn from(number: u32) -> Typed {
+        let text = number.to_string();
+        Typed { number, text }
+    }
+}
+
+impl fmt::Display for Typed {
+    fn fmt(&self, f: &mut fmt::Formatter<'_>) -> fmt::Result {
+        self.text.fmt(f)
+    }
+}
+
+/// The number in the table of a layout that is named by it or as P/S/T; one
+/// that the table lacks is not in it.
+pub fn layout(text: &str) -> Option<u32> {
+    let parts: Option<Vec<u32>> = text.split('/').map(number).collect();
+    match parts?[..] {
+        [number] => Some(number),
+        [p, s, t] => Some(ffi::layout_sized(p, s, t).number),
+        _ => None,
     }
 }
 
@@ -70,31 +96,36 @@ pub fn long(text: &str) -> Option<u64> {
 #[derive(Debug, Default)]
 pub struct Arguments {
     pub words: Vec<OsString>,
-    pub layout: Option<Named>,
-    pub block: Option<u32>,
+    pub layout: Option<Typed>,
+    pub block: Option<Typed>,
     pub copy: bool,
     pub out: Option<OsString>,
 }
 
 impl Arguments {
     /// K: 64 if it is left out.
-    pub fn block(&self) -> u32 {
-        self.block.unwrap_or(64)
+    pub fn block(&self) -> Typed {
+        self.block.clone().unwrap_or(Typed::from(64))
     }
 
     pub fn parse(mut typed: impl Iterator<Item = OsString>) -> Result<Arguments, Failure> {
         let mut arguments = Arguments::default();
         while let Some(word) = typed.next() {
             let option = word.to_str().unwrap_or_default();
+            let mut value = || typed.next().ok_or_else(|| wants_value(option));
             match option {
-                "--layout" => arguments.layout = Some(value(option, typed.next(), Named::parse)?),
-                "--block" => arguments.block = Some(value(option, typed.next(), number)?),
-                "--out" => arguments.out = Some(given(option, typed.next())?),
+                "--layout" => {
+                    let layout = Typed::layout(option, &value()?)?;
+                    once(option, &mut arguments.layout, layout)?;
+                }
+                "--block" => {
+                    let block = Typed::number(option, &value()?)?;
+                    once(option, &mut arguments.block, block)?;
+                }
+                "--out" => once(option, &mut arguments.out, value()?)?,
                 "--copy" => arguments.copy = true,
                 "--help" | "--version" => arguments.words.push(word),
-                _ if option.starts_with("--") => {
-                    return Err(Failure::Usage(format!("there is no option {option}")));
-                }
+                _ if option.starts_with("--") => return Err(no_option(option)),
                 _ => arguments.words.push(word),
             }
         }
@@ -102,17 +133,21 @@ impl Arguments {
     }
 }
 
-fn given(option: &str, word: Option<OsString>) -> Result<OsString, Failure> {
-    word.ok_or_else(|| Failure::Usage(format!("{option} wants a value")))
+fn wants_value(option: &str) -> Failure {
+    Failure::Usage(format!("{option} wants a value behind it"))
 }
 
-/// The value of an option, read.
-fn value<T>(
-    option: &str,
-    word: Option<OsString>,
-    read: impl Fn(&str) -> Option<T>,
-) -> Result<T, Failure> {
-    let word = given(option, word)?;
-    let value = word.to_str().and_then(read);
-    value.ok_or_else(|| Failure::Usage(format!("{option} cannot be {}", word.display())))
+fn no_option(option: &str) -> Failure {
+    Failure::Usage(match option.split_once('=') {
+        Some((name, value)) => format!("the value of {name} stands behind a space: {name} {value}"),
+        None => format!("there is no option {option}"),
+    })
+}
+
+/// Keeps the value of an option that is given for the first time.
+fn once<T>(option: &str, place: &mut Option<T>, value: T) -> Result<(), Failure> {
+    match place.replace(value) {
+        Some(_) => Err(Failure::Usage(format!("{option} is given twice"))),
+        None => Ok(()),
+    }
 }

@@ -1,7 +1,7 @@
 //! The names of the refusals, and what each means for whoever asked.
 
-use crate::arguments::Named;
-use crate::ffi::{self, Answer, KindAnswer};
+use crate::arguments::Typed;
+use crate::ffi::{self, Answer as _, KindAnswer, LayoutAnswer};
 
 /// The table's names, from refusal 1 on.
 const NAMES: [&str; 16] = [
@@ -33,21 +33,28 @@ pub fn name(refusal: u32) -> &'static str {
     name.copied().unwrap_or("unknown")
 }
 
-/// What was asked, as far as a refusal may speak of it.
+/// What was asked, as far as a refusal may speak of it. `layout` is the one
+/// that was taken, once there is one.
 #[derive(Clone, Copy)]
 pub struct Asked<'a> {
     pub dump: &'a [u8],
-    pub layout: Option<Named>,
-    pub block: u32,
-    pub page: u32,
-    pub object: u32,
-    pub chunk: u32,
+    pub named: Option<&'a Typed>,
+    pub layout: Option<LayoutAnswer>,
+    pub block: &'a Typed,
+    pub page: &'a Typed,
+    pub object: &'a Typed,
+    pub chunk: &'a Typed,
 }
 
-impl Asked<'_> {
+impl<'a> Asked<'a> {
     /// The same asked of an object.
-    pub fn of(self, object: u32) -> Self {
+    pub fn of(self, object: &'a Typed) -> Self {
         Asked { object, ..self }
+    }
+
+    /// The number of the layout that was taken.
+    fn layout(self) -> u32 {
+        self.layout.map_or(u32::MAX, |layout| layout.number)
     }
 }
 
@@ -63,9 +70,11 @@ pub fn meaning(refusal: u32, asked: Asked<'_>) -> String {
     match name(refusal) {
         "BadLayout" => bad_layout(asked),
         "BadLength" => bad_length(asked),
-        "NoLayout" => format!("no layout of the table fits the dump in blocks of {block} pages"),
-        "BadObject" => format!("no object has the id {object}"),
-        "BadChunk" => format!("no chunk has the number {chunk}"),
+        "NoLayout" => {
+            format!("no layout fits the dump in blocks of {block} pages; try another --block")
+        }
+        "BadObject" => format!("no object has the id {object}: they go from 1 to 0x0FFFFFFF"),
+        "BadChunk" => format!("no chunk has the number {chunk}: they go from 1 to 0xFFFFF"),
         "NoObject" => format!("no page of the dump is a record of object {object}"),
         "NoHeader" => format!("object {object} has data pages and no header"),
         "Deleted" => format!("the newest header of object {object} says that it is deleted"),
@@ -78,10 +87,16 @@ pub fn meaning(refusal: u32, asked: Asked<'_>) -> String {
 }
 
 fn bad_layout(asked: Asked<'_>) -> String {
-    let listed = |named: Named| ffi::layout(named.number()).refusal() == 0;
-    match asked.layout {
-        Some(named) if !listed(named) => format!("the table has no layout {named}"),
-        _ => format!("no block has {} pages", asked.block),
+    let listed = |number| ffi::layout(number).given().ok();
+    match asked.named {
+        Some(named) if listed(named.number).is_none() => {
+            let table: Vec<_> = (0..).map_while(listed).map(|l| l.to_string()).collect();
+            format!(
+                "the table has no layout {named}; it has {}",
+                table.join(", ")
+            )
+        }
+        _ => format!("no block has {} pages: they go from 1 to 256", asked.block),
     }
 }
 
@@ -95,21 +110,20 @@ fn bad_length(asked: Asked<'_>) -> String {
     }
     let block = asked.block;
     match asked.layout {
-        Some(named) => format!("{len} bytes are no whole blocks of {block} pages of {named}"),
+        Some(layout) => format!("{len} bytes are no whole blocks of {block} pages of {layout}"),
         None => format!("{len} bytes are no whole blocks of {block} pages"),
     }
 }
 
 fn past_end(asked: Asked<'_>) -> String {
-    let layout = asked.layout.map_or(0, Named::number);
     let Asked { object, chunk, .. } = asked;
-    let size = ffi::dump_size(asked.dump, layout, asked.block, object).size;
+    let k = asked.block.number;
+    let size = ffi::dump_size(asked.dump, asked.layout(), k, object.number).size;
     format!("object {object} ends at byte {size}, before chunk {chunk}")
 }
 
 fn bad_page(asked: Asked<'_>) -> String {
-    let layout = asked.layout.map_or(0, Named::number);
-    let pages = ffi::pages(asked.dump, layout, asked.block).pages;
+    let pages = ffi::pages(asked.dump, asked.layout(), asked.block.number).pages;
     format!(
         "the dump has {pages} pages, from 0 on, and no page {}",
         asked.page
@@ -117,8 +131,8 @@ fn bad_page(asked: Asked<'_>) -> String {
 }
 
 fn kind_of(asked: Asked<'_>) -> &'static str {
-    let layout = asked.layout.map_or(0, Named::number);
-    kind_name(ffi::kind(asked.dump, layout, asked.block, asked.page).kind)
+    let (k, page) = (asked.block.number, asked.page.number);
+    kind_name(ffi::kind(asked.dump, asked.layout(), k, page).kind)
 }
 
 /// The name of a page kind.

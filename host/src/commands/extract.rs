@@ -3,22 +3,27 @@
 use std::io::Write;
 
 use super::Opened;
+use crate::arguments::Typed;
 use crate::failure::Failure;
 use crate::objects::Objects;
 use crate::refusal::NOT_A_FILE;
 
-pub fn extract(opened: &Opened, object: Option<u32>, out: &mut impl Write) -> Result<(), Failure> {
+pub fn extract(
+    opened: &Opened,
+    object: Option<&Typed>,
+    out: &mut impl Write,
+) -> Result<(), Failure> {
     let (objects, asked) = opened.objects()?;
     if let Some(object) = object {
-        opened.given(objects.size(object), asked.of(object))?;
-        return copies(&objects, object, out);
+        opened.given(objects.size(object.number), asked.of(object))?;
+        return copies(&objects, object.number, out);
     }
     for object in opened.done(objects.list(), asked)? {
         let size = objects.size(object);
         if size.refusal == NOT_A_FILE {
             continue;
         }
-        opened.given(size, asked.of(object))?;
+        opened.given(size, asked.of(&object.into()))?;
         copies(&objects, object, out)?;
     }
     Ok(())

@@ -3,17 +3,23 @@
 use std::io::Write;
 
 use super::Opened;
+use crate::arguments::Typed;
 use crate::failure::Failure;
 use crate::ffi::{self, HeaderAnswer};
 use crate::refusal::Asked;
 
-pub fn header(opened: &Opened, page: u32, out: &mut impl Write) -> Result<(), Failure> {
+pub fn header(opened: &Opened, page: &Typed, out: &mut impl Write) -> Result<(), Failure> {
     let layout = opened.layout()?;
     let asked = Asked {
         page,
         ..opened.asked_of(layout)
     };
-    let header = Header::of(&opened.dump, layout.number, opened.block, page);
+    let header = Header::of(
+        &opened.dump,
+        layout.number,
+        opened.block.number,
+        page.number,
+    );
     opened.given(header.numbers, asked)?;
     for (name, field) in header.fields() {
         match field {

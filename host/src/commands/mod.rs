@@ -14,7 +14,7 @@ mod size;
 use std::ffi::OsStr;
 use std::io::Write;
 
-use crate::arguments::{number, Arguments, Named};
+use crate::arguments::{Arguments, Typed};
 use crate::failure::Failure;
 use crate::ffi;
 use crate::map::Dump;
@@ -61,26 +61,27 @@ pub fn run(arguments: &Arguments, out: &mut impl Write) -> Result<(), Failure> {
         ("find", [dump]) => find::find(&open(dump)?, out),
         ("pages", [dump]) => pages::pages(&open(dump)?, out),
         ("header", [dump, page]) => {
-            let page = argument("PAGE", page)?;
-            header::header(&open(dump)?, page, out)
+            let page = Typed::number("PAGE", page)?;
+            header::header(&open(dump)?, &page, out)
         }
         ("list", [dump]) => list::list(&open(dump)?, out),
         ("size", [dump, object]) => {
-            let object = argument("OBJECT", object)?;
-            size::size(&open(dump)?, object, out)
+            let object = Typed::number("OBJECT", object)?;
+            size::size(&open(dump)?, &object, out)
         }
         ("chunk", [dump, object, n]) => {
-            let (object, n) = (argument("OBJECT", object)?, argument("N", n)?);
-            chunk::chunk(&open(dump)?, object, n, out)
+            let object = Typed::number("OBJECT", object)?;
+            let n = Typed::number("N", n)?;
+            chunk::chunk(&open(dump)?, &object, &n, out)
         }
         ("read", [dump, object]) => {
-            let object = argument("OBJECT", object)?;
-            read::read(&open(dump)?, object, arguments.out.as_deref(), out)
+            let object = Typed::number("OBJECT", object)?;
+            read::read(&open(dump)?, &object, arguments.out.as_deref(), out)
         }
         ("extract", [dump]) => extract::extract(&open(dump)?, None, out),
         ("extract", [dump, object]) => {
-            let object = argument("OBJECT", object)?;
-            extract::extract(&open(dump)?, Some(object), out)
+            let object = Typed::number("OBJECT", object)?;
+            extract::extract(&open(dump)?, Some(&object), out)
         }
         ("script", [dump]) if dump == "-" => {
             let both = "dump and script cannot both be standard input";
@@ -88,33 +89,28 @@ pub fn run(arguments: &Arguments, out: &mut impl Write) -> Result<(), Failure> {
         }
         ("script", [dump]) => script::script(&open(dump)?, OsStr::new("-"), out),
         ("script", [dump, script]) => script::script(&open(dump)?, script, out),
-        (known, _) if COMMANDS.contains(&known) => Err(Failure::Usage(format!(
-            "{known} does not take these arguments"
-        ))),
-        _ => Err(Failure::Usage(format!(
-            "there is no command {}",
-            command.display()
-        ))),
+        ("help" | "--help" | "--version", _) => {
+            Err(Failure::Usage(format!("{name} takes no arguments")))
+        }
+        _ => Err(Failure::Usage(match form(name) {
+            Some(form) => format!("{name} is typed as: {form}"),
+            None => format!("there is no command {}", command.display()),
+        })),
     }
 }
 
-#[rustfmt::skip]
-const COMMANDS: [&str; 13] = [
-    "help", "--help", "--version", "report", "find", "pages", "header", "list", "size", "chunk",
-    "read", "extract", "script",
-];
-
-/// An argument that is a number.
-fn argument(name: &str, word: &OsStr) -> Result<u32, Failure> {
-    let number = word.to_str().and_then(number);
-    number.ok_or_else(|| Failure::Usage(format!("{name} cannot be {}", word.display())))
+/// How a command is typed, by its line of the usage.
+fn form(command: &str) -> Option<&'static str> {
+    let lines = USAGE.lines().filter_map(|line| line.strip_prefix("  "));
+    let mut forms = lines.filter_map(|line| line.split("  ").next());
+    forms.find(|form| !form.is_empty() && form.split(' ').next() == Some(command))
 }
 
 /// A dump with K, and the layout if it was named.
 pub struct Opened {
     pub dump: Dump,
-    pub block: u32,
-    pub named: Option<Named>,
+    pub block: Typed,
+    named: Option<Typed>,
 }
 
 impl Opened {
@@ -124,15 +120,15 @@ impl Opened {
         Ok(Opened {
             dump,
             block: arguments.block(),
-            named: arguments.layout,
+            named: arguments.layout.clone(),
         })
     }
 
     /// The layout: as named, or as found.
     pub fn layout(&self) -> Result<ffi::LayoutAnswer, Failure> {
-        let found = match self.named {
-            Some(named) => ffi::layout(named.number()),
-            None => ffi::find(&self.dump, self.block),
+        let found = match &self.named {
+            Some(named) => ffi::layout(named.number),
+            None => ffi::find(&self.dump, self.block.number),
         };
         self.given(found, self.asked())
     }
@@ -141,15 +137,14 @@ impl Opened {
     pub fn objects(&self) -> Result<(Objects<'_>, Asked<'_>), Failure> {
         let layout = self.layout()?;
         let asked = self.asked_of(layout);
-        let objects = Objects::of(&self.dump, layout.number, self.block);
+        let objects = Objects::of(&self.dump, layout.number, self.block.number);
         Ok((self.done(objects, asked)?, asked))
     }
 
     /// What is asked of this dump under a layout.
     pub fn asked_of(&self, layout: ffi::LayoutAnswer) -> Asked<'_> {
-        let layout = Some(Named::Sizes(layout.data, layout.spare, layout.tag));
         Asked {
-            layout,
+            layout: Some(layout),
             ..self.asked()
         }
     }
@@ -158,11 +153,12 @@ impl Opened {
     pub fn asked(&self) -> Asked<'_> {
         Asked {
             dump: &self.dump,
-            layout: self.named,
-            block: self.block,
-            page: 0,
-            object: 0,
-            chunk: 0,
+            named: self.named.as_ref(),
+            layout: None,
+            block: &self.block,
+            page: Typed::NOTHING,
+            object: Typed::NOTHING,
+            chunk: Typed::NOTHING,
         }
     }
 

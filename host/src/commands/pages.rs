@@ -11,7 +11,7 @@ use crate::refusal::kind_name;
 pub fn pages(opened: &Opened, out: &mut impl Write) -> Result<(), Failure> {
     let layout = opened.layout()?;
     let asked = opened.asked_of(layout);
-    let (dump, number, block) = (&opened.dump, layout.number, opened.block);
+    let (dump, number, block) = (&opened.dump, layout.number, opened.block.number);
     let pages = opened.given(ffi::pages(dump, number, block), asked)?.pages;
     for page in 0..pages {
         let kind = opened.given(ffi::kind(dump, number, block, page), asked)?;

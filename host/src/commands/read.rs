@@ -5,17 +5,20 @@ use std::fs::{self, File};
 use std::io::{self, BufWriter, IsTerminal, Write};
 
 use super::Opened;
+use crate::arguments::Typed;
 use crate::failure::Failure;
 use crate::objects::Objects;
 
 pub fn read(
     opened: &Opened,
-    object: u32,
+    object: &Typed,
     name: Option<&OsStr>,
     out: &mut impl Write,
 ) -> Result<(), Failure> {
     let (objects, asked) = opened.objects()?;
-    let size = opened.given(objects.size(object), asked.of(object))?.size;
+    let asked = asked.of(object);
+    let object = object.number;
+    let size = opened.given(objects.size(object), asked)?.size;
     let Some(name) = name else {
         return Ok(copy(&objects, object, size, out, |_| ())?);
     };

@@ -9,7 +9,7 @@ use crate::ffi;
 pub fn report(opened: &Opened, out: &mut impl Write) -> Result<(), Failure> {
     let (objects, _) = opened.objects()?;
     let layout = opened.layout()?;
-    let (dump, number, block) = (&opened.dump, layout.number, opened.block);
+    let (dump, number, block) = (&opened.dump, layout.number, opened.block.number);
     let asked = opened.asked_of(layout);
     let pages = opened.given(ffi::pages(dump, number, block), asked)?.pages;
     let counts = opened.given(ffi::counts(dump, number, block), asked)?;

@@ -1,6 +1,6 @@
 //! The requests of a script, and reading them.
 
-use crate::arguments::{long, number, Named};
+use crate::arguments::{layout, long, number};
 
 /// A layout by its number in the table, and K.
 #[derive(Clone, Copy, Debug, PartialEq, Eq)]
@@ -208,10 +208,6 @@ impl Words<'_> {
         }
         Ok(lent)
     }
-}
-
-fn layout(word: &str) -> Option<u32> {
-    Named::parse(word).map(Named::number)
 }
 
 fn length(word: &str) -> Option<usize> {

@@ -31,12 +31,13 @@ fn the_library_and_the_second_reader_agree() {
         let case = case(seed);
         let expected = case.answers(Wrong::None);
         let mut library = Library::new(&case.dump.bytes, &case.requests);
-        for (request, expected) in case.requests.iter().zip(expected) {
+        for (request, (expected, index)) in case.requests.iter().zip(expected) {
             let answer = library.answer(request);
             let place = || format!("seed {}: {request}", case.seed);
             assert_eq!(answer.line, expected.line, "{}", place());
             assert!(answer.bytes == expected.bytes, "{}: the buffer", place());
             assert!(answer.words == expected.words, "{}: the words", place());
+            assert!(library.index() == index, "{}: the index", place());
             answers += 1;
         }
     }

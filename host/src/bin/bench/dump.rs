@@ -12,6 +12,13 @@ const BLOCK: usize = super::BLOCK as usize * PAGE;
 /// The id of the long file; those of the short ones follow.
 pub const LONG: u32 = 257;
 pub const SHORT: u32 = 1000;
+/// The long file's chunks on a dump that has room for them: each is found by a
+/// walk from the newest record, so that a read of all grows with their square.
+const LONG_CHUNKS: u32 = 50_000;
+
+/// So many blocks from the first on have sound pages alone: by these the
+/// Sleuth Kit guesses the layout.
+const SOUND: usize = 64;
 
 /// Writes a dump of 2048/64/0 with at most so many MiB.
 pub fn write(path: &Path, mib: usize) -> io::Result<()> {
@@ -22,15 +29,15 @@ pub fn write(path: &Path, mib: usize) -> io::Result<()> {
     for written in 0..blocks {
         let sequence = 0x1000 + written as u32;
         let unused = written * 20 / blocks == 19;
+        let place = written * stride(blocks) % blocks;
         for page in bytes.chunks_exact_mut(PAGE) {
             if unused {
                 page.fill(0xFF);
             } else {
-                log.page(page, sequence);
+                log.page(page, sequence, place < SOUND);
             }
         }
-        let place = (written * stride(blocks) % blocks) * BLOCK;
-        file.write_all_at(&bytes, place as u64)?;
+        file.write_all_at(&bytes, (place * BLOCK) as u64)?;
     }
     Ok(())
 }
@@ -73,14 +80,16 @@ impl Log {
         self.seed
     }
 
-    /// The next page: mostly data of the long file, then of a short one, then a header; a few that are none.
-    fn page(&mut self, page: &mut [u8], sequence: u32) {
-        let chance = self.random() % 1000;
+    /// The next page: mostly data of the long file, then of a short one, then a
+    /// header; a few that are none, where not all are to be sound.
+    fn page(&mut self, page: &mut [u8], sequence: u32, sound: bool) {
+        let chance = self.random() % if sound { 990 } else { 1000 };
         let short = 1 + (self.random() % u64::from(SHORT)) as usize;
-        let which = if !(600..980).contains(&chance) {
-            0
-        } else {
-            short
+        let full = chance < 600 && self.chunks[0] == LONG_CHUNKS;
+        let which = match chance {
+            600..980 => short,
+            _ if full => short,
+            _ => 0,
         };
         let object = LONG + which as u32;
         for eight in page[..DATA].chunks_exact_mut(8) {

@@ -7,9 +7,12 @@
 //! and read once before anything is timed. The two take turns, each going
 //! first every other time. Shown are best and median of each, the ratio of the
 //! bests, and the median of the ratios of neighbouring turns. `touch` reads
-//! one word of each page: the least that a scan costs.
+//! one word of each page: the least that a scan costs. `read` is every short
+//! file and `long` the long one, both chunk by chunk; `one walk` is the long
+//! one by a single walk down its chain, as only plain Rust can for now.
 
 mod dump;
+mod index;
 mod plain;
 mod sleuthkit;
 mod timing;
@@ -25,6 +28,7 @@ use lohenarr::map::Dump;
 use lohenarr::objects::Objects;
 
 use dump::LONG;
+use index::Index;
 
 const BLOCK: u32 = 64;
 
@@ -44,7 +48,7 @@ fn main() -> ExitCode {
     match Dump::open(file.0.as_os_str(), false) {
         Ok(dump) => {
             measure(&dump, rounds);
-            sleuthkit::compare(&file.0, LONG + 1);
+            sleuthkit::compare(&file.0, &[LONG + 1, LONG]);
         }
         Err(error) => {
             eprintln!("cannot read {}: {error}", file.0.display());
@@ -67,8 +71,8 @@ fn measure(dump: &[u8], rounds: usize) {
         "", "best", "", "median", "", "ratio", "ratio"
     );
     println!(
-        "{:8} {:>12} {:>12} {:>12} {:>12} {:>7} {:>7}",
-        "", "library", "plain", "library", "plain", "best", "turns"
+        "{:8} {:>12} {:>12} {:>12} {:>12} {:>7} {:>7} {:>7}",
+        "", "library", "plain", "library", "plain", "best", "turns", "rounds"
     );
     timing::alone("touch", rounds, || plain::touch(dump, layout.number));
     timing::compare(
@@ -94,13 +98,13 @@ fn lookups(dump: &[u8], layout: u32, rounds: usize) {
     let anonymous = memory("RssAnon");
     let library = Objects::of(dump, layout, BLOCK).expect("the dump is accepted");
     let anonymous = memory("RssAnon").saturating_sub(anonymous);
-    let plain = plain::Index::of(dump, layout, BLOCK as usize);
+    let plain = Index::of(dump, layout, BLOCK as usize);
     timing::compare(
         "index",
         rounds,
         || Objects::of(dump, layout, BLOCK).map(|objects| objects.size(LONG).size),
         || {
-            Ok(plain::Index::of(dump, layout, BLOCK as usize)
+            Ok(Index::of(dump, layout, BLOCK as usize)
                 .size(LONG)
                 .unwrap_or(0))
         },
@@ -135,6 +139,14 @@ fn lookups(dump: &[u8], layout: u32, rounds: usize) {
         },
         || files().skip(1).map(|object| plain.whole(object)).sum(),
     );
+    timing::compare(
+        "long",
+        rounds,
+        || whole(&library, LONG),
+        || plain.whole(LONG),
+    );
+    timing::alone("one walk", rounds, || plain.whole_by_one_walk(LONG));
+    println!("files: the long one has {} bytes", library.size(LONG).size);
     let pages = ffi::pages(dump, layout, BLOCK).pages;
     println!(
         "memory: the index has {} bytes a page; at most {} KiB in all, {} of them mapped",

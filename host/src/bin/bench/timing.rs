@@ -4,6 +4,10 @@ use std::fmt::Debug;
 use std::hint::black_box;
 use std::time::{Duration, Instant};
 
+/// Once a row has taken this long, and has three rounds, it gets no more.
+const ENOUGH: Duration = Duration::from_secs(60);
+const FEWEST: usize = 3;
+
 /// Runs both `rounds` times, holds their answers against each other, and
 /// prints a line of times and ratios.
 pub fn compare<T: PartialEq + Debug>(
@@ -15,7 +19,11 @@ pub fn compare<T: PartialEq + Debug>(
     assert_eq!(library(), plain(), "{name}: the two differ");
     let mut library_times = Vec::new();
     let mut plain_times = Vec::new();
+    let start = Instant::now();
     for round in 0..rounds {
+        if round >= FEWEST && start.elapsed() > ENOUGH {
+            break;
+        }
         if round % 2 == 0 {
             library_times.push(time(&library));
             plain_times.push(time(&plain));
@@ -30,13 +38,14 @@ pub fn compare<T: PartialEq + Debug>(
     paired.sort_by(f64::total_cmp);
     let (a, b) = (best_and_median(library_times), best_and_median(plain_times));
     println!(
-        "{name:8} {:>12} {:>12} {:>12} {:>12} {:>7.2} {:>7.2}",
+        "{name:8} {:>12} {:>12} {:>12} {:>12} {:>7.2} {:>7.2} {:>7}",
         micros(a.0),
         micros(b.0),
         micros(a.1),
         micros(b.1),
         ratio(a.0, b.0),
-        paired[rounds / 2]
+        paired[paired.len() / 2],
+        paired.len()
     );
 }
 

@@ -2,15 +2,6 @@
 
 use crate::second::layout::Layout;
 
-/// The header fields that decide something; all others stay as they are.
-#[derive(Clone, Copy, Debug)]
-pub struct HeaderPage {
-    pub file_type: u32,
-    pub parent: u32,
-    pub size: u32,
-    pub shrink: u32,
-}
-
 /// A dump in the making: every byte is 0xFF until it is set.
 pub struct Builder {
     pub layout: Layout,
@@ -51,12 +42,12 @@ impl Builder {
         }
     }
 
-    /// Set the header fields in the data of a page.
-    pub fn header(&mut self, page: usize, header: HeaderPage) {
+    /// Set the header fields of a page that decide something: type, parent, file
+    /// size and shrink. All others stay as they are.
+    pub fn header(&mut self, page: usize, words: [u32; 4]) {
         let at = page * self.layout.page();
-        self.put(at, header.file_type);
-        self.put(at + 0x4, header.parent);
-        self.put(at + 0x124, header.size);
-        self.put(at + 0x1DC, header.shrink);
+        for (place, word) in [0x0, 0x4, 0x124, 0x1DC].into_iter().zip(words) {
+            self.put(at + place, word);
+        }
     }
 }

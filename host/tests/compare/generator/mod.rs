@@ -9,11 +9,13 @@
 //! - `pages`: its pages, of each kind.
 //! - `arguments`: what a request asks for.
 //! - `requests`: lists of requests to one dump, refused ones among them.
+//! - `foreign`: the same on cells that something else wrote.
 
 mod arguments;
 pub mod build;
 mod decoy;
 pub mod dump;
+mod foreign;
 mod pages;
 pub mod requests;
 pub mod rng;
@@ -23,7 +25,7 @@ pub mod shelf;
 mod tests;
 
 use crate::second::index::Reader;
-use crate::second::script::{answer, Answer, Request};
+use crate::second::script::{answer, index_words, Answer, Request};
 use crate::second::wrong::Wrong;
 use dump::Dump;
 use rng::Rng;
@@ -48,11 +50,16 @@ pub fn case(seed: u64) -> Case {
 }
 
 impl Case {
-    /// The second reader's answers, under one wrong rule or none.
-    pub fn answers(&self, wrong: Wrong) -> Vec<Answer> {
-        let mut reader = Reader::new(&self.dump.bytes, wrong);
+    /// The second reader, under one wrong rule or none.
+    pub fn reader(&self, wrong: Wrong) -> Reader<'_> {
+        Reader::lent(&self.dump.bytes, index_words(&self.requests), wrong)
+    }
+
+    /// Its answers, each with the index words as the call left them.
+    pub fn answers(&self, wrong: Wrong) -> impl Iterator<Item = (Answer, Vec<u32>)> + '_ {
+        let mut reader = self.reader(wrong);
         let requests = self.requests.iter();
-        requests.map(|r| answer(&mut reader, r)).collect()
+        requests.map(move |r| (answer(&mut reader, r), reader.words.clone()))
     }
 
     /// The requests as a script, to be replayed by hand.

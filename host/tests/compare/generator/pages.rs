@@ -1,6 +1,6 @@
 //! Random pages of each kind, with fields at their limits.
 
-use super::build::{Builder, HeaderPage};
+use super::build::Builder;
 use super::dump::Dump;
 use super::rng::Rng;
 
@@ -103,15 +103,7 @@ pub fn header_page(rng: &mut Rng, b: &mut Builder, page: usize, made: &mut Dump,
     let size = file_size(rng, made);
     made.lengths.push(size as u64 % made.layout.data as u64);
     let shrink = rng.pick(&SHRINKS);
-    b.header(
-        page,
-        HeaderPage {
-            file_type,
-            parent,
-            size,
-            shrink,
-        },
-    );
+    b.header(page, [file_type, parent, size, shrink]);
     let id = perhaps_limit(rng, made, id);
     let words = header_words(rng, made.calm, id, file_type);
     let count = rng.pick(&[0, 0, 1, made.layout.data as u32, 0xFFFF_FFFF]);

@@ -8,8 +8,8 @@ use crate::second::layout::{table, Layout};
 use crate::second::page::tags;
 use crate::second::script::Request;
 
-/// Requests to this dump: about it as a whole, lookups on it alone, and one
-/// or two lists of additions and lookups on an index.
+/// Requests to this dump: about it as a whole, lookups on it alone, one or two
+/// lists of additions and lookups on an index, and calls on other cells.
 pub fn requests(rng: &mut Rng, dump: &Dump) -> Vec<Request> {
     let list = Vec::new();
     let mut asker = Asker {
@@ -25,6 +25,9 @@ pub fn requests(rng: &mut Rng, dump: &Dump) -> Vec<Request> {
     }
     for _ in 0..asker.rng.pick(&[1, 1, 2]) {
         asker.index_calls();
+    }
+    if asker.rng.chance(70) {
+        asker.foreign_calls();
     }
     asker.list
 }
@@ -55,7 +58,7 @@ impl Asker<'_> {
     }
 
     /// One lookup by object, or a listing.
-    fn lookup(&mut self, over: Over) {
+    pub fn lookup(&mut self, over: Over) {
         let object = self.object();
         let n = self.chunk();
         let ids = self.dump.ids.len();
@@ -85,7 +88,7 @@ impl Asker<'_> {
         self.start_with(Lent { layout, k, words });
     }
 
-    fn start_with(&mut self, lent: Lent) {
+    pub fn start_with(&mut self, lent: Lent) {
         if !self.refused(lent) {
             let layout = lent.layout.layout();
             self.started = layout.map(|l| (l, self.dump.bytes.len() / l.page()));
@@ -180,7 +183,7 @@ impl Asker<'_> {
 
     /// Additions in some order, with lookups, repeated and refused additions,
     /// and refused starts in between.
-    fn additions(&mut self, layout: Layout, pages: usize) {
+    pub fn additions(&mut self, layout: Layout, pages: usize) {
         let order = self.order(layout, pages);
         let most = (1600 / order.len() as u64).clamp(25, 90);
         for (done, &page) in order.iter().enumerate() {

@@ -1,6 +1,6 @@
 //! The shelf dump W: one file in eight pages of 512 bytes, K = 4.
 
-use super::build::{Builder, HeaderPage};
+use super::build::Builder;
 use crate::second::layout::Layout;
 
 pub const LAYOUT: Layout = Layout {
@@ -27,16 +27,7 @@ pub fn shelf() -> Builder {
 /// A header page of W: a file under the root.
 pub fn header(w: &mut Builder, page: usize, sequence: u32, size: u32, shrink: u32) {
     w.tags(page, [sequence, 0x1000_0101, 0x8000_0001, 0]);
-    let (file_type, parent) = (1, 1);
-    w.header(
-        page,
-        HeaderPage {
-            file_type,
-            parent,
-            size,
-            shrink,
-        },
-    );
+    w.header(page, [1, 1, size, shrink]);
 }
 
 /// A data page of W.

@@ -1,11 +1,17 @@
-//! The reader and its index: the set of pages added since the last accepted
-//! start. Lookups by object and listings work as if all other pages were blank.
+//! The reader and its index. On cells that its own calls left, lookups by object
+//! and listings go by the set of pages added since the start, as if all others
+//! were blank; on other cells, by what the words say.
 
+use super::cells::{need, unused, Cells};
 use super::layout::{opened, Layout, Named};
 use super::page::{kind, Kind};
+use super::records::{ids, records};
 use super::refusal::{refuse, Refusal};
-use super::rules::{live, records};
+use super::rules::Object;
 use super::wrong::Wrong;
+
+/// What each word of the index holds before the first call.
+const WORD: u32 = 0xA5A5_A5A5;
 
 /// A refused call: its number, its visits, and for ShortBuffer the length needed.
 #[derive(Clone, Copy, Debug, PartialEq, Eq)]
@@ -42,23 +48,39 @@ pub enum Over {
 }
 
 /// The pages added since an accepted start with this layout.
-struct Index {
+struct Added {
     layout: Layout,
-    added: Vec<bool>,
+    pages: Vec<bool>,
 }
 
-/// The reader of one dump.
+/// Where a lookup finds records: on these pages, or by the words of an index
+/// of so many pages.
+pub(super) enum Seen {
+    Pages(Vec<bool>),
+    Cells(usize),
+}
+
+/// The reader of one dump, with the words of its index; `added` where those
+/// are as its own calls left them.
 pub struct Reader<'d> {
     pub(super) dump: &'d [u8],
-    index: Option<Index>,
+    pub words: Vec<u32>,
+    added: Option<Added>,
     pub(super) wrong: Wrong,
 }
 
 impl<'d> Reader<'d> {
+    /// A reader for calls that are lent no index.
     pub fn new(dump: &'d [u8], wrong: Wrong) -> Reader<'d> {
+        Reader::lent(dump, 0, wrong)
+    }
+
+    /// A reader with index memory of so many words.
+    pub fn lent(dump: &'d [u8], words: u64, wrong: Wrong) -> Reader<'d> {
         Reader {
             dump,
-            index: None,
+            words: vec![WORD; words as usize],
+            added: None,
             wrong,
         }
     }
@@ -69,8 +91,18 @@ impl<'d> Reader<'d> {
     }
 
     fn short_index(&self, words: u64, pages: usize) -> bool {
-        let need = 4 * pages as u64 + 16;
+        let need = need(pages) as u64;
         words < need - u64::from(self.wrong == Wrong::IndexOneWordShort)
+    }
+
+    pub(super) fn cells(&self, layout: Layout, pages: usize) -> Cells<'_> {
+        Cells {
+            dump: self.dump,
+            layout,
+            pages,
+            words: &self.words,
+            wrong: self.wrong,
+        }
     }
 
     /// Start: no page is added any more. A refused start changes nothing.
@@ -79,24 +111,32 @@ impl<'d> Reader<'d> {
             let short = self.short_index(lent.words, opened.1);
             refuse(&[(Refusal::ShortIndex, short)], self.wrong).map(|()| opened)
         });
-        if let (Err(_), Wrong::RefusedStartForgets, Some(index)) =
-            (tests, self.wrong, &mut self.index)
+        if let (Err(_), Wrong::RefusedStartForgets, Some(added)) =
+            (tests, self.wrong, &mut self.added)
         {
-            index.added.fill(false);
+            added.pages.fill(false);
         }
         let (layout, pages) = tests?;
-        match &self.index {
-            Some(index) if self.wrong == Wrong::StartKeepsAdditions && index.layout == layout => {}
+        match &self.added {
+            Some(added) if self.wrong == Wrong::StartKeepsAdditions && added.layout == layout => {}
             _ => {
-                let added = vec![false; pages];
-                self.index = Some(Index { layout, added });
+                let pages = vec![false; pages];
+                self.added = Some(Added { layout, pages });
+            }
+        }
+        let end = match self.wrong {
+            Wrong::StartClearsAllLent => lent.words as usize,
+            _ => need(pages),
+        };
+        for (at, word) in self.words.iter_mut().enumerate().take(end) {
+            if self.wrong != Wrong::StartLeavesUnused || !unused(at) {
+                *word = 0;
             }
         }
         Ok(())
     }
 
-    /// Add a page, record or not. On cells of another start, or of none, this
-    /// reader does not judge.
+    /// Add a page, record or not.
     pub fn add(&mut self, lent: Lent, page: u64) -> Result<(), Refusal> {
         let (layout, pages) = self.opened(lent.layout, lent.k)?;
         let tests = [
@@ -104,32 +144,53 @@ impl<'d> Reader<'d> {
             (Refusal::BadPage, page >= pages as u64),
         ];
         refuse(&tests, self.wrong)?;
-        let kind = kind(self.dump, layout, page as usize, self.wrong);
+        let page = page as usize;
+        let mut addition = self.cells(layout, pages).add(page);
+        let kind = kind(self.dump, layout, page, self.wrong);
         let record = matches!(kind, Kind::Record(_));
-        let index = self.index.as_mut().filter(|i| i.layout == layout);
-        let added = &mut index.ok_or(Refusal::Unjudged)?.added[page as usize];
+        let own = self.added.as_mut().filter(|added| added.layout == layout);
+        if let Some(added) = &own {
+            addition.damaged = false;
+            addition.again = added.pages[page];
+        }
         let again = match self.wrong {
-            Wrong::NonRecordAddedAgain => *added && record,
+            Wrong::NonRecordAddedAgain => addition.again && record,
             Wrong::EveryPageAddedAgain => false,
-            _ => *added,
+            _ => addition.again,
         };
-        refuse(&[(Refusal::AlreadyAdded, again)], self.wrong)?;
-        *added = true;
+        let tests = [
+            (Refusal::IndexDamaged, addition.damaged),
+            (Refusal::AlreadyAdded, again),
+        ];
+        refuse(&tests, self.wrong)?;
+        match own {
+            Some(added) => added.pages[page] = true,
+            None => self.added = None,
+        }
+        for (at, word) in addition.writes {
+            self.words[at] = word;
+        }
         Ok(())
     }
 
-    /// The lent words were overwritten: no call is judged until a start.
-    pub fn forget(&mut self) {
-        self.index = None;
+    /// The words were overwritten: from here on they are not our calls'.
+    pub fn fill(&mut self, word: u32) {
+        self.words.fill(word);
+        self.added = None;
     }
 
-    /// The layout of a lookup and the pages it sees, after the tests of
+    pub fn poke(&mut self, at: usize, word: u32) {
+        self.words[at] = word;
+        self.added = None;
+    }
+
+    /// The layout of a lookup and where it finds records, after the tests of
     /// layout, length, index words, and the `asked` tests.
     pub(super) fn seen(
         &self,
         over: Over,
         asked: &[(Refusal, bool)],
-    ) -> Result<(Layout, Vec<bool>), Refusal> {
+    ) -> Result<(Layout, Seen), Refusal> {
         let (named, k) = match over {
             Over::Dump(layout, k) => (layout, k),
             Over::Index(lent) => (lent.layout, lent.k),
@@ -142,21 +203,59 @@ impl<'d> Reader<'d> {
         let mut tests = asked.to_vec();
         tests.push((Refusal::ShortIndex, short));
         refuse(&tests, self.wrong)?;
-        match (over, &self.index) {
-            (Over::Dump(..), _) => Ok((layout, vec![true; pages])),
-            (_, Some(index)) if index.layout == layout => Ok((layout, index.added.clone())),
-            _ => Err(Refusal::Unjudged),
+        let seen = match (over, &self.added) {
+            (Over::Dump(..), _) => Seen::Pages(vec![true; pages]),
+            (_, Some(added)) if added.layout == layout => Seen::Pages(added.pages.clone()),
+            _ => Seen::Cells(pages),
+        };
+        Ok((layout, seen))
+    }
+
+    /// The objects that a listing goes over, ascending by id.
+    fn objects_seen(&self, layout: Layout, seen: Seen) -> Vec<Object> {
+        let mut objects: Vec<Object> = match seen {
+            Seen::Pages(added) => {
+                let records = records(self.dump, layout, &added, self.wrong);
+                let mut ids = ids(&records);
+                if self.wrong == Wrong::ListUnsorted {
+                    let first = |id| records.iter().position(|r| r.object == id);
+                    ids.sort_by_key(|&id| first(id));
+                }
+                let among = |&id| Object::among(&records, id, layout, self.wrong);
+                ids.iter().map(among).collect()
+            }
+            Seen::Cells(pages) => {
+                let cells = self.cells(layout, pages);
+                let keys = cells.keys().into_iter();
+                keys.map(|key| Object::chained(cells, key)).collect()
+            }
+        };
+        if self.wrong != Wrong::ListUnsorted {
+            objects.sort_by_key(|object| object.id);
         }
+        objects
     }
 
     /// The live objects, written ascending into the buffer.
     pub fn list(&self, over: Over, buffer: &mut [u32]) -> Result<Vec<u32>, Refused> {
-        let (layout, added) = self.seen(over, &[])?;
-        let records = records(self.dump, layout, &added, self.wrong);
-        let ids = live(&records, layout, self.wrong);
+        let (layout, seen) = self.seen(over, &[])?;
+        let mut objects = self.objects_seen(layout, seen);
+        let met = |object: &Object| object.broken && object.newest_header().is_none();
+        let damaged = match self.wrong {
+            Wrong::ListPassesDamage => false,
+            Wrong::EveryLinkMet => objects.iter().any(|object| object.broken),
+            _ => objects.iter().any(met),
+        };
+        objects.retain(Object::live);
+        let ids: Vec<u32> = objects.iter().map(|object| object.id).collect();
         let short = buffer.len() < ids.len();
-        refuse(&[(Refusal::ShortBuffer, short)], self.wrong).map_err(|refusal| Refused {
-            need: Some(ids.len() as u64),
+        let damaged = damaged && !(short && self.wrong == Wrong::ListShortBufferFirst);
+        let tests = [
+            (Refusal::IndexDamaged, damaged),
+            (Refusal::ShortBuffer, short),
+        ];
+        refuse(&tests, self.wrong).map_err(|refusal| Refused {
+            need: (refusal == Refusal::ShortBuffer).then_some(ids.len() as u64),
             ..refusal.into()
         })?;
         buffer[..ids.len()].copy_from_slice(&ids);

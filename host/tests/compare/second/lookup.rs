@@ -1,10 +1,11 @@
 //! Lookups by object: size, chunk, read and borrowed part.
 
-use super::index::{Over, Reader, Refused};
+use super::index::{Over, Reader, Refused, Seen};
 use super::layout::Layout;
 use super::page::{self, LAST_CHUNK, LAST_OBJECT};
+use super::records::records;
 use super::refusal::{refuse, Refusal};
-use super::rules::{records, Object};
+use super::rules::Object;
 use super::wrong::Wrong;
 
 /// A chunk answered: the page of its copy, or nothing for a hole.
@@ -26,15 +27,29 @@ impl<'d> Reader<'d> {
         (Refusal::BadChunk, n == 0 || n > LAST_CHUNK)
     }
 
-    fn object(&self, layout: Layout, added: &[bool], object: u64) -> Object {
-        let records = records(self.dump, layout, added, self.wrong);
-        Object::among(&records, object, layout, self.wrong)
+    fn object(&self, layout: Layout, seen: &Seen, object: u64) -> Object {
+        let id = object as u32;
+        match seen {
+            Seen::Pages(added) => {
+                let records = records(self.dump, layout, added, self.wrong);
+                Object::among(&records, id, layout, self.wrong)
+            }
+            Seen::Cells(pages) => Object::chained(self.cells(layout, *pages), id),
+        }
     }
 
-    /// The refusals of an object that has no size to give, with their visits.
-    fn refuse_object(&self, object: &Object, more: &[(Refusal, bool)]) -> Result<(), Refused> {
+    /// The refusals of an object, with their visits. A lookup that goes to the
+    /// end of the chain meets a damaged link there.
+    fn refuse_object(
+        &self,
+        object: &Object,
+        to_end: bool,
+        more: &[(Refusal, bool)],
+    ) -> Result<(), Refused> {
         let header = object.newest_header();
+        let to_end = to_end || header.is_none() || self.wrong == Wrong::EveryLinkMet;
         let mut tests = vec![
+            (Refusal::IndexDamaged, object.broken && to_end),
             (Refusal::NoObject, object.records.is_empty()),
             (
                 Refusal::NoHeader,
@@ -50,6 +65,9 @@ impl<'d> Reader<'d> {
         refuse(&tests, self.wrong).map_err(|refusal| Refused {
             visits: match refusal {
                 Refusal::NoHeader => object.visits_of_all(),
+                Refusal::IndexDamaged if self.wrong == Wrong::DamagedVisitsCounted => {
+                    object.visits_of_all()
+                }
                 Refusal::Deleted | Refusal::NotAFile | Refusal::PastEnd => {
                     object.visits_to_header()
                 }
@@ -61,9 +79,9 @@ impl<'d> Reader<'d> {
 
     /// The size of an object, and the visits.
     pub fn size(&self, over: Over, object: u64) -> Result<(u64, u64), Refused> {
-        let (layout, added) = self.seen(over, &[Self::bad_object(object)])?;
-        let object = self.object(layout, &added, object);
-        self.refuse_object(&object, &[])?;
+        let (layout, seen) = self.seen(over, &[Self::bad_object(object)])?;
+        let object = self.object(layout, &seen, object);
+        self.refuse_object(&object, false, &[])?;
         Ok((object.size().unwrap_or(0), object.visits_to_header()))
     }
 
@@ -76,8 +94,8 @@ impl<'d> Reader<'d> {
         buffer: Option<u64>,
     ) -> Result<(Layout, Object, Chunk), Refused> {
         let asked = [Self::bad_object(object), Self::bad_chunk(n)];
-        let (layout, added) = self.seen(over, &asked)?;
-        let object = self.object(layout, &added, object);
+        let (layout, seen) = self.seen(over, &asked)?;
+        let object = self.object(layout, &seen, object);
         let past = object.size().is_some_and(|size| object.start(n) >= size);
         let copy = object.copy(n);
         let chunk = Chunk {
@@ -97,7 +115,11 @@ impl<'d> Reader<'d> {
         };
         let short = buffer.is_some_and(|length| length < need);
         let more = [(Refusal::PastEnd, past), (Refusal::ShortBuffer, short)];
-        match self.refuse_object(&object, &more) {
+        let file = object.file_type() == Some(1) && !object.deleted();
+        let hole = file && !past && copy.is_none();
+        let hidden = object.newest_data(n).is_some();
+        let to_end = hole && !(hidden && self.wrong == Wrong::HiddenCopyEndsWalk);
+        match self.refuse_object(&object, to_end, &more) {
             Err(refused) if refused.refusal == Refusal::ShortBuffer => Err(Refused {
                 visits: match self.wrong {
                     Wrong::ShortBufferVisitsNone => 0,

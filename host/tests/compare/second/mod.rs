@@ -1,12 +1,15 @@
 //! The second reader. It works out every rule of document 01 anew for each
-//! call, from the whole dump: all records are collected and sorted, and the
-//! index is no more than the set of pages added since the start.
+//! call, from the whole dump: all records are collected and sorted, and an
+//! index is the set of pages added since the start. What its words hold, and
+//! what they say where something else wrote them, it has from docs/CELLS.md.
 //!
 //! - `layout`: the table of layouts, and the tests of K and of the length.
 //! - `page`: tags, page kinds and header fields.
 //! - `find`: which layout a dump has.
+//! - `records`: the records of a dump and their order.
 //! - `rules`: newest, cuts, size, copy, hidden, shown, valid and visits.
 //! - `refusal`: the numbers and the order among several.
+//! - `cells`: the words of an index on any cells.
 //! - `index`: the added pages, and the calls start, add and list.
 //! - `lookup`: size, chunk, read and part.
 //! - `whole`: the calls that read the dump whatever was added.
@@ -14,11 +17,13 @@
 //! - `report`: the ten lines of the report.
 //! - `wrong`: rules made wrong on purpose, one at a time.
 
+pub mod cells;
 pub mod find;
 pub mod index;
 pub mod layout;
 pub mod lookup;
 pub mod page;
+pub mod records;
 pub mod refusal;
 pub mod report;
 pub mod rules;

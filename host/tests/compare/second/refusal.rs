@@ -2,9 +2,7 @@
 
 use super::wrong::Wrong;
 
-/// A refusal by its number. IndexDamaged (13) is not among them: on cells that
-/// the calls themselves left it is never given. In its place stands `Unjudged`,
-/// for a call outside demand 3, of which this reader says nothing.
+/// A refusal by its number.
 #[derive(Clone, Copy, Debug, PartialEq, Eq)]
 pub enum Refusal {
     BadLayout = 1,
@@ -19,7 +17,7 @@ pub enum Refusal {
     PastEnd = 10,
     ShortBuffer = 11,
     ShortIndex = 12,
-    Unjudged = 13,
+    IndexDamaged = 13,
     BadPage = 14,
     AlreadyAdded = 15,
     NotHeader = 16,
@@ -37,7 +35,7 @@ const ORDER: [Refusal; 16] = [
     NotHeader,
     BadObject,
     BadChunk,
-    Unjudged,
+    IndexDamaged,
     AlreadyAdded,
     NoObject,
     NoHeader,
@@ -59,6 +57,7 @@ pub fn refuse(tests: &[(Refusal, bool)], wrong: Wrong) -> Result<(), Refusal> {
         Wrong::BadChunkBeforeBadObject => swap(BadObject, BadChunk),
         Wrong::BadPageBeforeShortIndex => swap(ShortIndex, BadPage),
         Wrong::BadLengthBeforeBadLayout => swap(BadLayout, BadLength),
+        Wrong::AlreadyAddedBeforeDamaged => swap(IndexDamaged, AlreadyAdded),
         Wrong::NotAFileBeforeDeleted => swap(Deleted, NotAFile),
         _ => {}
     }

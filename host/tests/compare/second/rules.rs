@@ -2,79 +2,56 @@
 //! visits. A record is named by its place in the object's sorted list, so that
 //! a higher place is a newer record.
 
+use super::cells::Cells;
 use super::layout::Layout;
-use super::page::{kind, Body, Kind, Record};
+use super::page::{Body, Record};
 use super::wrong::Wrong;
 
-/// All records among the added pages of a dump, from oldest to newest.
-pub fn records(dump: &[u8], layout: Layout, added: &[bool], wrong: Wrong) -> Vec<Record> {
-    let mut records = Vec::new();
-    for (page, &added) in added.iter().enumerate() {
-        if !added && wrong != Wrong::PagesNotAddedSeen {
-            continue;
-        }
-        if let Kind::Record(record) = kind(dump, layout, page, wrong) {
-            records.push(record);
-        }
-    }
-    match wrong {
-        Wrong::OrderByPageAlone => records.sort_by_key(|r| r.page),
-        Wrong::LowerSequenceNewer => {
-            records.sort_by_key(|r| (std::cmp::Reverse(r.sequence), r.page))
-        }
-        Wrong::LowerPageNewer => records.sort_by_key(|r| (r.sequence, std::cmp::Reverse(r.page))),
-        Wrong::SequenceSigned => records.sort_by_key(|r| (r.sequence as i32, r.page)),
-        _ => records.sort_by_key(|r| (r.sequence, r.page)),
-    }
-    records
-}
-
-/// The ids of live objects, ascending: a newest header, and its parent is
-/// neither 3 nor 4.
-pub fn live(records: &[Record], layout: Layout, wrong: Wrong) -> Vec<u32> {
-    let mut ids = ids(records);
-    if wrong == Wrong::ListUnsorted {
-        let first = |id| records.iter().position(|r| r.object == id);
-        ids.sort_by_key(|&id| first(id));
-    }
-    ids.retain(|&id| {
-        let object = Object::among(records, id as u64, layout, wrong);
-        let header = object.newest_header().is_some();
-        let file = object.file_type() == Some(1);
-        match wrong {
-            Wrong::ListWithDeleted => header,
-            Wrong::ListWithHeaderless => !object.deleted(),
-            Wrong::ListOfFiles => file && !object.deleted(),
-            _ => header && !object.deleted(),
-        }
-    });
-    ids
-}
-
-/// The distinct ids among records, ascending.
-pub fn ids(records: &[Record]) -> Vec<u32> {
-    let mut ids: Vec<u32> = records.iter().map(|r| r.object).collect();
-    ids.sort_unstable();
-    ids.dedup();
-    ids
-}
-
-/// One object's records, from oldest to newest.
+/// One object's records, from oldest to newest. It is broken if what lies
+/// below the oldest cannot be known, by a damaged link.
 pub struct Object {
+    pub id: u32,
     pub records: Vec<Record>,
+    pub broken: bool,
     layout: Layout,
     wrong: Wrong,
 }
 
 impl Object {
     /// The records of one id among all.
-    pub fn among(records: &[Record], id: u64, layout: Layout, wrong: Wrong) -> Object {
+    pub fn among(records: &[Record], id: u32, layout: Layout, wrong: Wrong) -> Object {
         let mut records = records.to_vec();
-        records.retain(|record| record.object as u64 == id);
+        records.retain(|record| record.object == id);
         Object {
+            id,
             records,
+            broken: false,
             layout,
             wrong,
+        }
+    }
+
+    /// The records of one id that its links lead to.
+    pub fn chained(cells: Cells<'_>, id: u32) -> Object {
+        let mut chain = cells.chain(id);
+        chain.records.reverse();
+        Object {
+            id,
+            records: chain.records,
+            broken: chain.broken,
+            layout: cells.layout,
+            wrong: cells.wrong,
+        }
+    }
+
+    /// Whether it is listed: its newest header's parent is neither 3 nor 4.
+    pub fn live(&self) -> bool {
+        let header = self.newest_header().is_some();
+        match self.wrong {
+            Wrong::ListWithDeleted => header,
+            Wrong::ListWithHeaderless => !self.deleted(),
+            Wrong::ListOfFiles => self.file_type() == Some(1) && !self.deleted(),
+            _ => header && !self.deleted(),
         }
     }
 
@@ -180,7 +157,7 @@ impl Object {
     }
 
     /// The place of the copy of chunk n: its newest data record, hidden or not.
-    fn newest_data(&self, n: u64) -> Option<usize> {
+    pub fn newest_data(&self, n: u64) -> Option<usize> {
         let is_n = |r: &Record| matches!(r.body, Body::Data { chunk, .. } if chunk as u64 == n);
         match self.wrong {
             Wrong::OldestCopyWins => self.records.iter().position(is_n),

@@ -69,6 +69,10 @@ pub enum Request {
     Fill {
         word: u32,
     },
+    Poke {
+        at: usize,
+        word: u32,
+    },
 }
 
 /// An answer: its line, and the lent buffer as the call left it.
@@ -80,26 +84,28 @@ pub struct Answer {
 }
 
 impl Request {
-    /// The index words that the call is lent, if it is one on the index.
-    pub fn words(&self) -> Option<u64> {
+    /// The words that the request names: those of the index that its call is
+    /// lent, and those of a list's buffer.
+    pub fn words(&self) -> u64 {
+        let lent = |over| match over {
+            Over::Index(lent) => lent.words,
+            Over::Dump(..) => 0,
+        };
         match *self {
-            Request::Start { lent } | Request::Add { lent, .. } => Some(lent.words),
+            Request::Start { lent } | Request::Add { lent, .. } => lent.words,
             Request::Size { over, .. }
             | Request::Chunk { over, .. }
             | Request::Read { over, .. }
-            | Request::Part { over, .. }
-            | Request::List { over, .. } => match over {
-                Over::Index(lent) => Some(lent.words),
-                Over::Dump(..) => None,
-            },
-            _ => None,
+            | Request::Part { over, .. } => lent(over),
+            Request::List { over, buffer } => lent(over).max(buffer as u64),
+            _ => 0,
         }
     }
 }
 
-/// Index words that a list of requests needs: the most that any is lent.
+/// How many words the index of a list of requests has: the most that any names.
 pub fn index_words(requests: &[Request]) -> u64 {
-    requests.iter().filter_map(|r| r.words()).max().unwrap_or(0)
+    requests.iter().map(Request::words).max().unwrap_or(0)
 }
 
 impl fmt::Display for Layout {
@@ -156,6 +162,7 @@ impl fmt::Display for Request {
             Request::Part { over, object, n } => lookup(f, "part", over, &format!("{object} {n}")),
             Request::List { over, buffer } => lookup(f, "list", over, &buffer.to_string()),
             Request::Fill { word } => write!(f, "fill {word:#x}"),
+            Request::Poke { at, word } => write!(f, "poke {at} {word:#x}"),
         }
     }
 }
@@ -210,9 +217,13 @@ pub fn answer(reader: &mut Reader<'_>, request: &Request) -> Answer {
                 format!("ids={} words={buffer}", ids.join(","))
             })
         }
-        Request::Fill { .. } => {
-            reader.forget();
-            Ok("done".to_string())
+        Request::Fill { word } => {
+            reader.fill(word);
+            done(Ok(()))
+        }
+        Request::Poke { at, word } => {
+            reader.poke(at, word);
+            done(Ok(()))
         }
     };
     answer.line = line.unwrap_or_else(refusal_line);
@@ -224,9 +235,6 @@ fn done(result: Result<(), Refusal>) -> Result<String, Refused> {
 }
 
 fn refusal_line(refused: Refused) -> String {
-    if refused.refusal == Refusal::Unjudged {
-        return UNJUDGED.to_string();
-    }
     let line = format!(
         "refusal={} visits={}",
         refused.refusal as u8, refused.visits
@@ -236,9 +244,6 @@ fn refusal_line(refused: Refused) -> String {
         None => line,
     }
 }
-
-/// The line of a call outside demand 3's premise: there is nothing to compare.
-pub const UNJUDGED: &str = "unjudged";
 
 fn counts_line(reader: &Reader<'_>, layout: Named, k: u64) -> Result<String, Refused> {
     let c = reader.counts(layout, k)?;

@@ -5,8 +5,8 @@ use super::find;
 use super::index::Reader;
 use super::layout::{Layout, Named};
 use super::page::{self, fields, kind, Body, Field, Kind};
+use super::records::{ids, records};
 use super::refusal::{refuse, Refusal};
-use super::rules::{ids, records};
 use super::wrong::Wrong;
 
 /// How many pages there are of each kind.

@@ -142,6 +142,58 @@ wrong_rules! {
     RefusedStartForgets,
     /// One index word fewer is enough.
     IndexOneWordShort,
+    /// A start clears all words that it is lent.
+    StartClearsAllLent,
+    /// A start leaves the words that no rule reads.
+    StartLeavesUnused,
+
+    // What the words say.
+    /// Slots are searched from the object's home upwards.
+    SlotsSearchedUpwards,
+    /// A free slot does not end the search.
+    FreeSlotPassed,
+    /// Where no slot serves, it is slot 0.
+    FullTableTakesSlotZero,
+    /// An object's chain is that of its slot, whatever key that has.
+    KeyNotCompared,
+    /// A link outside the dump ends the chain.
+    LinkOutsideEnds,
+    /// A link may lead to a record of another object.
+    LinkToOtherObjectTaken,
+    /// A link may lead to any record of the object.
+    LinkToNewerTaken,
+    /// A link may lead to the record that it belongs to.
+    LinkToItselfTaken,
+    /// A record whose page has no mark ends the chain.
+    LookupsReadMarks,
+    /// A damaged link ends the chain like any other end.
+    DamageIsAnEnd,
+    /// A damaged link is met wherever it stands in the chain.
+    EveryLinkMet,
+    /// A hidden copy ends the walk.
+    HiddenCopyEndsWalk,
+    /// IndexDamaged reports the records before the damaged link.
+    DamagedVisitsCounted,
+    /// An addition meets every link of the chain.
+    AddMeetsEveryLink,
+    /// An addition overlooks a damaged link.
+    AddMeetsNoDamage,
+    /// A page without a mark may be added again, though the chain has it.
+    UnmarkedAddedAgain,
+    /// A marked record that the chain has not may be added.
+    MarkOfRecordIgnored,
+    /// A slot taken over keeps its first link.
+    ClaimKeepsFirst,
+    /// A record with nothing older behind it gets no mark.
+    LastRecordUnmarked,
+    /// A listing goes over every used slot, the key's own or not.
+    ListOfEverySlot,
+    /// A listing passes over keys that no object has.
+    ListWithoutHighKeys,
+    /// A listing passes over objects whose links are damaged.
+    ListPassesDamage,
+    /// A listing that does not fit is ShortBuffer, damaged or not.
+    ListShortBufferFirst,
 
     // Refusals.
     /// ShortBuffer is given before PastEnd.
@@ -150,6 +202,8 @@ wrong_rules! {
     BadChunkBeforeBadObject,
     /// BadPage is given before ShortIndex.
     BadPageBeforeShortIndex,
+    /// AlreadyAdded is given before IndexDamaged.
+    AlreadyAddedBeforeDamaged,
     /// NotAFile is given before Deleted.
     NotAFileBeforeDeleted,
     /// A buffer of just the shown length is too short.

@@ -95,8 +95,8 @@ fn cases_8_to_11() {
 #[test]
 fn cases_on_an_index() {
     let w = shelf();
-    let mut reader = Reader::new(&w.bytes, Wrong::None);
     let (layout, k, words) = (named(), BLOCK, 4 * 8 + 16);
+    let mut reader = Reader::lent(&w.bytes, words, Wrong::None);
     let lent = Lent { layout, k, words };
     let (over, object) = (Over::Index(lent), OBJECT);
     let mut ask = |request: Request| answer(&mut reader, &request).line;

@@ -3,7 +3,7 @@
 use crate::generator::shelf::{shelf, BLOCK, LAYOUT};
 use crate::second::index::{Lent, Over, Reader};
 use crate::second::layout::Named;
-use crate::second::script::{answer, index_words, Request, UNJUDGED};
+use crate::second::script::{answer, index_words, Request};
 use crate::second::wrong::Wrong;
 
 const LENT: Lent = Lent {
@@ -40,6 +40,7 @@ fn requests_as_lines() {
             "list 2 k=4 words=48 layout=6",
         ),
         (Request::Fill { word: 255 }, "fill 0xff"),
+        (Request::Poke { at: 17, word: 1 }, "poke 17 0x1"),
     ];
     for (request, line) in &lines {
         assert_eq!(&request.to_string(), line);
@@ -85,15 +86,38 @@ fn parts_are_places_in_the_dump() {
     }
 }
 
-/// Nothing is said of cells that no start made, beyond the refusals before.
+/// Cells that no start made say what their words say.
 #[test]
-fn cells_of_no_start_are_not_judged() {
+fn cells_of_no_start() {
     let w = shelf();
-    let mut reader = Reader::new(&w.bytes, Wrong::None);
-    let size = |object| Request::Size {
-        over: Over::Index(LENT),
-        object,
+    let mut reader = Reader::lent(&w.bytes, LENT.words, Wrong::None);
+    let mut ask = |request: Request| answer(&mut reader, &request).line;
+    let over = Over::Index(LENT);
+    let size = |object| Request::Size { over, object };
+    let list = Request::List { over, buffer: 1 };
+    assert_eq!(ask(size(257)), "refusal=6 visits=0");
+    assert_eq!(ask(size(0)), "refusal=4 visits=0");
+    assert_eq!(ask(list), "refusal=13 visits=0");
+    ask(Request::Fill { word: 0 });
+    assert_eq!(ask(list), "ids= words=1");
+    // slot 1 of 8: key 257, first page 6; its link leads to page 5, and that of 5 to itself
+    for (at, word) in [(21, 257), (22, 8), (40, 7), (36, 7)] {
+        ask(Request::Poke { at, word });
+    }
+    let chunk = |n| Request::Chunk {
+        over,
+        object: 257,
+        n,
     };
-    assert_eq!(answer(&mut reader, &size(257)).line, UNJUDGED);
-    assert_eq!(answer(&mut reader, &size(0)).line, "refusal=4 visits=0");
+    assert_eq!(ask(chunk(3)), "refusal=13 visits=0");
+    ask(Request::Poke { at: 36, word: 6 });
+    assert_eq!(ask(chunk(3)), "page=6 valid=10 shown=10 visits=3");
+    assert_eq!(ask(chunk(2)), "hole valid=0 shown=512 visits=3");
+    assert_eq!(ask(list), "ids=257 words=1");
+    let add = |page| Request::Add { lent: LENT, page };
+    assert_eq!(ask(add(4)), "refusal=15 visits=0");
+    ask(Request::Poke { at: 40, word: 6 });
+    ask(Request::Poke { at: 36, word: 0 });
+    assert_eq!(ask(add(5)), "done");
+    assert_eq!(ask(chunk(1)), "page=5 valid=300 shown=512 visits=3");
 }
