@@ -38,7 +38,7 @@ module _ (f : Text) (l : Layout) (k : ℕ) (dump : List ℕ) (i : ℕ) where
   text-here = part-here (headedOf l k dump i) refl
 
 module _ (l : Layout) (dump : List ℕ) where
-  valid-here : (p valid : ℕ) → let r = placeOf l (length dump) p valid in take (r .length) (drop (r .offset) dump) ≡ validPart l dump p valid
+  pub valid-here : (p valid : ℕ) → let r = placeOf l (length dump) p valid in take (r .length) (drop (r .offset) dump) ≡ validPart l dump p valid
   unfolding validPart
   valid-here p valid =
       by-test (pageIn l (length dump) p && leb valid (l .«data»)) _

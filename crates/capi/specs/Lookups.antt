@@ -1,7 +1,7 @@
--- What the lookups of an object, listings, counts of objects, starts and additions answer, as the exports give it.
-use Prim.Native.Nat.{ℕ, _*_}
+-- What the lookups of an object, listings, tables, counts of objects, starts and additions answer, as the exports give it.
+use Prim.Native.Nat.{ℕ, _-_, _*_}
 use mathlib.Core.Bool.{_&&_}
-use lib.Dec.{leb}
+use lib.Dec.{leb, ltb}
 use Rattle.page.specs.Choice.{pick}
 use Rattle.page.specs.Refusals.{refusalNumber}
 use Rattle.page.specs.Layouts.{pageLen}
@@ -17,10 +17,13 @@ use Rattle.chunk.specs.declared.answer.Tallied.{Tallied}
 use Rattle.chunk.specs.declared.answer.Tallied.the-variants as tallied
 use Rattle.index.specs.declared.additions.Added.{Added}
 use Rattle.index.specs.declared.additions.Added.the-variants as added
+use Rattle.file.specs.declared.table.Tabled.{Tabled}
+use Rattle.file.specs.declared.table.Tabled.the-variants as tabled
 use Rattle.capi.specs.declared.answer.SizeAnswer.{SizeAnswer}
 use Rattle.capi.specs.declared.answer.ChunkAnswer.{ChunkAnswer}
 use Rattle.capi.specs.declared.answer.PlaceAnswer.{PlaceAnswer}
 use Rattle.capi.specs.declared.answer.ListAnswer.{ListAnswer}
+use Rattle.capi.specs.declared.answer.TableAnswer.{TableAnswer}
 use Rattle.capi.specs.declared.answer.TallyAnswer.{TallyAnswer}
 
 abbrev pub sizeAnswer : Sized → SizeAnswer
@@ -71,6 +74,10 @@ placeAnswer l n (looked.Refused r v m) = noPlace
 placeAnswer l n (looked.Hole s v) = noPlace
 placeAnswer l n (looked.Copy p a s v) = placeOf l n (p .0) a
 
+-- where the part that a row of a table names stands
+abbrev pub rowPlace : Layout → ℕ → ℕ → ℕ → PlaceAnswer
+rowPlace l n place valid = pick (ltb place 2) noPlace (placeOf l n (place - 2) valid)
+
 abbrev pub listAnswer : Listed → ListAnswer
 listAnswer (listed.Refused r n) = record { refusal = refusalNumber r; need = n; count = 0 }
 listAnswer (listed.Ids m) = record { refusal = 0; need = 0; count = m }
@@ -78,6 +85,10 @@ listAnswer (listed.Ids m) = record { refusal = 0; need = 0; count = m }
 abbrev pub tallyAnswer : Tallied → TallyAnswer
 tallyAnswer (tallied.Refused r) = record { refusal = refusalNumber r; count = 0 }
 tallyAnswer (tallied.Count m) = record { refusal = 0; count = m }
+
+abbrev pub tableAnswer : Tabled → TableAnswer
+tableAnswer (tabled.Refused r n) = record { refusal = refusalNumber r; need = n; size = 0; rows = 0 }
+tableAnswer (tabled.Rows z m) = record { refusal = 0; need = 0; size = z; rows = m }
 
 -- the number of a refused start or addition; 0 where it was done
 abbrev pub addedAnswer : Added → ℕ

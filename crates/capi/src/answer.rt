@@ -1,10 +1,11 @@
 // What the lookups of an object answer, whether on a dump alone or on an index.
 ghost use mathlib.Core.Path.{_≡_};
-ghost use Rattle.capi.specs.Lookups.{sizeAnswer, chunkAnswer, placeOf, placeAnswer, listAnswer, tallyAnswer, addedAnswer};
+ghost use Rattle.capi.specs.Lookups.{sizeAnswer, chunkAnswer, placeOf, placeAnswer, listAnswer, tallyAnswer, tableAnswer, addedAnswer};
 use chunk::answer::Listed;
 use chunk::answer::Looked;
 use chunk::answer::Sized;
 use chunk::answer::Tallied;
+use file::table::Tabled;
 use index::additions::Added;
 use page::layout::Layout;
 use page::number::PageNumber;
@@ -43,6 +44,15 @@ pub struct ListAnswer {
     pub refusal: u32,
     pub need: u32,
     pub count: u32,
+}
+
+// The size of a file and how many rows its table has. Beside ShortBuffer `need` is how many words it needs, and 0 else.
+#[repr(C)]
+pub struct TableAnswer {
+    pub refusal: u32,
+    pub need: u32,
+    pub size: u64,
+    pub rows: u32,
 }
 
 // A number of objects.
@@ -104,7 +114,7 @@ pub(crate) fn chunk_answer(a: Looked) -> ChunkAnswer
 }
 
 // Where the first bytes of page p stand in a dump of this length; nowhere where the page is not in the dump or has not so many.
-fn place_of(l: Layout, len: usize, p: PageNumber, valid: u32) -> PlaceAnswer
+pub(crate) fn place_of(l: Layout, len: usize, p: PageNumber, valid: u32) -> PlaceAnswer
     ensures { λ r. ⌜ r ≡ placeOf l len (p .0) valid ⌝ }
 {
     if !l.holds(len, p) {
@@ -155,6 +165,25 @@ pub(crate) fn list_answer(a: Listed) -> ListAnswer
             refusal: 0,
             need: 0,
             count,
+        },
+    }
+}
+
+pub(crate) fn table_answer(t: Tabled) -> TableAnswer
+    ensures { λ r. ⌜ r ≡ tableAnswer t ⌝ }
+{
+    match t {
+        Tabled::Refused(r, need) => TableAnswer {
+            refusal: r.number(),
+            need,
+            size: 0,
+            rows: 0,
+        },
+        Tabled::Rows(size, rows) => TableAnswer {
+            refusal: 0,
+            need: 0,
+            size,
+            rows,
         },
     }
 }

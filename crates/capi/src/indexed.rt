@@ -1,32 +1,51 @@
-// Starting an index in lent words, adding pages to it, and the lookups of an object and the live list by it.
+// Starting an index in lent words, adding pages to it, and what it answers: lookups of an object, a file's table, the live list, the number of
+// objects.
 ghost use mathlib.Core.Path.{_≡_};
 ghost use lib.ListN.{length, take, drop};
 ghost use Rattle.page.specs.Layouts.{layoutAt};
 ghost use Rattle.chunk.specs.Answers.{readBy, bufferBy, partBy};
 ghost use Rattle.chunk.specs.Lists.{wordsBy};
 ghost use Rattle.index.specs.Additions.{startOf, addOf};
-ghost use Rattle.index.specs.Listing.{listFrom, idsFrom};
+ghost use Rattle.index.specs.Cells.{cellsFor};
+ghost use Rattle.index.specs.Listing.{listFrom, idsFrom, objectsFrom};
 ghost use Rattle.index.specs.Walks.{sizeFrom, chunkFrom};
-ghost use Rattle.capi.specs.Lookups.{sizeAnswer, chunkAnswer, placeAnswer, listAnswer, addedAnswer};
+ghost use Rattle.file.specs.Table.{rowPart, tableFrom, filledBy};
+ghost use Rattle.capi.specs.Lookups.{sizeAnswer, chunkAnswer, placeAnswer, rowPlace, listAnswer, tallyAnswer, tableAnswer, addedAnswer};
 use crate::answer::ChunkAnswer;
 use crate::answer::ListAnswer;
 use crate::answer::PlaceAnswer;
 use crate::answer::SizeAnswer;
+use crate::answer::TableAnswer;
+use crate::answer::TallyAnswer;
 use crate::answer::added_answer;
 use crate::answer::chunk_answer;
 use crate::answer::list_answer;
 use crate::answer::place_answer;
+use crate::answer::place_of;
 use crate::answer::size_answer;
+use crate::answer::table_answer;
+use crate::answer::tally_answer;
 use crate::layout::layout_at;
+use file::table::table;
 use index::additions::add;
 use index::additions::start;
+use index::cells::cells_for;
 use index::list::list;
+use index::list::objects;
 use index::lookups::chunk;
 use index::lookups::read;
 use index::lookups::size;
 use page::number::ChunkNumber;
 use page::number::ObjectId;
 use page::number::PageNumber;
+
+// How many words an index of so many pages has.
+#[no_mangle]
+pub extern "C" fn lohenarr_cells(pages: u32) -> usize
+    ensures { λ r. ⌜ r ≡ cellsFor pages ⌝ }
+{
+    cells_for(pages)
+}
 
 // Makes the index empty, whatever its words held.
 #[no_mangle]
@@ -148,4 +167,44 @@ pub extern "C" fn lohenarr_list(
     ensures { λ _. ⌜ now (words .exit) ≡ wordsBy (idsFrom (layoutAt layout) k (now (dump .entry)) (now (cells .entry))) (now (words .entry)) (listFrom (layoutAt layout) k (now (dump .entry)) (now (cells .entry)) (length (now (words .entry)))) ⌝ }
 {
     list_answer(list(dump, layout_at(layout), k, cells, words))
+}
+
+// How many objects have an added record.
+#[no_mangle]
+pub extern "C" fn lohenarr_objects(dump: &[u8], layout: u32, k: u32, cells: &[u32]) -> TallyAnswer
+    ensures { λ r. ⌜ r ≡ tallyAnswer (objectsFrom (layoutAt layout) k (now (dump .entry)) (now (cells .entry))) ⌝ }
+{
+    tally_answer(objects(dump, layout_at(layout), k, cells))
+}
+
+// The chunks of a file, written to a table of two words for each: where its copy is, 0 for a hole, 1 where a link of the index is damaged
+// before a copy, and the page and 2 else; and how many of its bytes are valid. Words past the rows stay, and a refusal writes nothing.
+#[no_mangle]
+pub extern "C" fn lohenarr_table(
+    dump: &[u8],
+    layout: u32,
+    k: u32,
+    cells: &[u32],
+    object: u32,
+    words: &mut [u32],
+) -> TableAnswer
+    ensures { λ r. ⌜ r ≡ tableAnswer (tableFrom (layoutAt layout) k (now (dump .entry)) (now (cells .entry)) object (length (now (words .entry)))) ⌝ }
+    ensures { λ _. ⌜ now (words .exit) ≡ filledBy (chunkFrom (layoutAt layout) k (now (dump .entry)) (now (cells .entry)) object) (now (words .entry)) (tableFrom (layoutAt layout) k (now (dump .entry)) (now (cells .entry)) object (length (now (words .entry)))) ⌝ }
+{
+    table_answer(table(dump, layout_at(layout), k, cells, ObjectId(object), words))
+}
+
+// The valid bytes of the copy that a row of a table names, as a part of the dump; an empty part where it names none.
+#[no_mangle]
+pub extern "C" fn lohenarr_row(dump: &[u8], layout: u32, place: u32, valid: u32) -> PlaceAnswer
+    ensures { λ r. ⌜ r ≡ rowPlace (layoutAt layout) (length (now (dump .entry))) place valid ⌝ }
+    ensures { λ r. ⌜ take (r .length) (drop (r .offset) (now (dump .entry))) ≡ rowPart (layoutAt layout) (now (dump .entry)) place valid ⌝ }
+{
+    if place < 2 {
+        return PlaceAnswer {
+            offset: 0,
+            length: 0,
+        };
+    }
+    place_of(layout_at(layout), dump.len(), PageNumber(place - 2), valid)
 }

@@ -21,14 +21,16 @@ use Rattle.page.proofs.Lengths.{opened-facts}
 use Rattle.page.proofs.Searching.{by-test}
 use Rattle.page.proofs.Within.{chunk-good}
 use Rattle.chunk.specs.Records.{baseOf}
+use Rattle.chunk.specs.Answers.{partBy}
 use Rattle.chunk.specs.declared.answer.Looked.{Looked}
 use Rattle.chunk.specs.declared.answer.Looked.the-variants as looked
 use Rattle.chunk.specs.declared.answer.Sized.the-variants as sized
+use Rattle.index.specs.Cells.{linkTo}
 use Rattle.index.specs.Slots.{firstLink}
 use Rattle.index.specs.Walks.{sizeFrom, chunkFrom}
 use Rattle.index.specs.Ahead.{unvisited}
 use Rattle.index.proofs.Ahead.{chunk-ahead}
-use Rattle.file.specs.Table.{whereWord, validWord, wordsOf, chunksIn, rows, allAhead, tableBy, tableFrom, filledBy}
+use Rattle.file.specs.Table.{whereWord, validWord, rowPart, wordsOf, chunksIn, rows, allAhead, tableBy, tableFrom, filledBy}
 use Rattle.file.specs.declared.table.Tabled.the-variants as tabled
 use Rattle.file.proofs.Rows.{rows-same}
 
@@ -57,6 +59,15 @@ same-words : (a : Looked) → (whereWord (unvisited a) ≡ whereWord a) × (vali
 same-words (looked.Copy p a s v) = (refl, refl)
 same-words (looked.Hole s v) = (refl, refl)
 same-words (looked.Refused r v n) = (refl, refl)
+
+-- the part that a row names is the one that the lookup lends
+pub row-part : (l : Layout) (dump : List ℕ) (a : Looked) → rowPart l dump (whereWord a) (validWord a) ≡ partBy l dump a
+unfolding rowPart partBy
+row-part l dump (looked.Copy p a s v) =
+    let e : linkTo (p .0) - 2 ≡ p .0 = omega arith in
+    rw (le-ltb (linkTo (p .0)) 2 (omega arith), e)
+row-part l dump (looked.Hole s v) = refl
+row-part l dump (looked.Refused r v n) = refl
 
 -- an accepted dump has data in its pages
 pub data-some : (l : Layout) (k n m : ℕ) → openedOf l k n ≡ opened.Pages m → 0 < l .«data»

@@ -14,6 +14,7 @@ use Rattle.page.specs.declared.layout.Layout.{Layout}
 use Rattle.page.specs.declared.refusal.Refusal.the-variants.{ShortBuffer}
 use Rattle.chunk.specs.Records.{chunkOf, countOf, baseOf}
 use Rattle.chunk.specs.Cuts.{nowhere}
+use Rattle.chunk.specs.Answers.{validPart}
 use Rattle.chunk.specs.declared.answer.Looked.{Looked}
 use Rattle.chunk.specs.declared.answer.Looked.the-variants as looked
 use Rattle.chunk.specs.declared.answer.Sized.{Sized}
@@ -35,6 +36,10 @@ abbrev pub validWord : Looked → ℕ
 validWord (looked.Copy p a s v) = a
 validWord (looked.Hole s v) = 0
 validWord (looked.Refused r v n) = 0
+
+-- the part of a dump that a row of these words names: the valid bytes of the copy, and an empty part for the others
+unfoldable pub rowPart : Layout → List ℕ → ℕ → ℕ → List ℕ
+rowPart l dump place valid = pick (ltb place 2) [] (validPart l dump (place - 2) valid)
 
 -- how many words so many rows have
 abbrev pub wordsOf : ℕ → ℕ
