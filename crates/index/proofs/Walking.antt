@@ -27,6 +27,14 @@ use Rattle.index.specs.declared.walks.Reached.the-variants as reached
 use Rattle.index.proofs.Through.{through, through-at, through-idle}
 use Rattle.index.proofs.Parting.{Fails}
 
+-- another page has no object
+pub other-none : (k : Kind) → isHeader k ≡ false → isData k ≡ false → objectOf k ≡ 0
+other-none Blank h d = refl
+other-none Foreign h d = refl
+other-none Damaged h d = refl
+other-none (Header s o t p z m) h d = let z : _≡_ {A = ℕ} 0 1 = cc in absurd (omega arith)
+other-none (Data s o c n) h d = let z : _≡_ {A = ℕ} 0 1 = cc in absurd (omega arith)
+
 -- a record is a header or data
 module _ (o : ℕ) (pos : 0 < o) where
   no-record : {A : Type 0} → 0 ≡ o → A

@@ -19,9 +19,8 @@ use crate::places::place_of;
 use crate::places::put_link;
 use crate::slots::claim;
 use crate::slots::slot_of;
-use chunk::record::object_of;
 use chunk::record::order_of;
-use chunk::record::sequence_of;
+use page::kind::Kind;
 use page::kind::kind_at;
 use page::layout::Layout;
 use page::layout::Opened;
@@ -120,11 +119,27 @@ fn add_page(dump: &[u8], l: Layout, pages: u32, cells: &mut [u32], p: PageNumber
         return Added::Refused(Refusal::BadPage);
     }
     let k = kind_at(dump, l, p);
-    let o = ObjectId(object_of(k));
-    if o.0 == 0 {
-        return add_other(cells, p);
-    }
-    add_record(dump, l, pages, cells, o, p, order_of(sequence_of(k), p))
+    let Kind::Header {
+        sequence,
+        object,
+        page_type: _,
+        parent: _,
+        size: _,
+        shrink: _,
+    } = k
+    else {
+        let Kind::Data {
+            sequence,
+            object,
+            chunk: _,
+            count: _,
+        } = k
+        else {
+            return add_other(cells, p);
+        };
+        return add_record(dump, l, pages, cells, object, p, order_of(sequence, p));
+    };
+    add_record(dump, l, pages, cells, object, p, order_of(sequence, p))
 }
 
 // Adds page p of a dump of a named layout in blocks of k to its index.

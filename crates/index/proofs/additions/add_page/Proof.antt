@@ -1,14 +1,20 @@
--- The tests come in the definition's order. A page that is a record has an object; another has none.
-use Prim.Native.Nat.{_<_, _≤_}
-use mathlib.Core.Path.{_≡_, sym, ap, _∙_}
+-- The tests come in the definition's order. A header and a data page are records, of the object and the sequence that they name; another page
+-- has no object.
+use Prim.Native.Nat.{ℕ, _<_, _≤_}
+use mathlib.Core.Path.{_≡_, refl, sym, ap, _∙_}
 use native.Mathlib.Omega.{arith}
 use lib.ListN.{length}
 use borrow.Author.Needs.{needs}
 use Rattle.page.specs.Kinds.{kindAt}
-use Rattle.chunk.specs.Records.{objectOf}
+use Rattle.page.specs.declared.kind.Kind.the-variants.{Header, Data}
+use Rattle.page.proofs.Sound.{else-header, else-data}
+use Rattle.page.proofs.Within.{header-within, data-within}
+use Rattle.chunk.specs.Records.{objectOf, ageOf}
 use Rattle.index.specs.Cells.{cellsFor}
 use Rattle.index.specs.Chains.{objects}
+use Rattle.index.specs.Places.{Recorded}
 use Rattle.index.proofs.Answers.{add-short, add-far, add-other, add-record}
+use Rattle.index.proofs.Walking.{other-none}
 use Rattle.index.proofs.additions.add_page.Statement.{statement}
 use Rattle.index.proofs.additions.add_page.Tie as tie
 
@@ -20,49 +26,98 @@ returns-2 c =
     let s = c .before .before in
     sym (add-far _ _ _ _ _ (rw (s .before .cells-for .ensures) at (s .if1 .left)) (c .if2 .taken))
 
--- the object of the page
-abbrev Object : tie.After-object-of → Type 0
-Object g =
-    let a = g .before .before .before .before .before .before .before .before .args in
-    g .object-of .result ≡ objects (kindAt (a .l) (a .dump .now)) (a .p .0)
-
-object : (g : tie.After-object-of) → Object g
-object g = g .object-of .ensures ∙ ap objectOf (g .before .kind-at .ensures)
-
 returns-3 : tie.Need-returns-3
 returns-3 c =
     let d = c .before .before in
-    let i = d .before .before in
-    let g = i .before .before in
-    let t = g .before .before in
+    let o = d .before .before in
+    let h = o .before in
+    let k = h .before in
+    let t = k .before in
     let s = t .before .before in
+    let none = other-none (k .kind-at .result) (else-header (k .kind-at .result) (h .match .keys2)) (else-data (k .kind-at .result) (o .match2 .keys2)) in
     d .add-other .ensures
-    ∙ sym (add-other _ _ _ _ _ (rw (s .before .cells-for .ensures) at (s .if1 .left)) (t .if2 .left) (sym (object g) ∙ i .if3 .taken))
+    ∙ sym (add-other _ _ _ _ _ (rw (s .before .cells-for .ensures) at (s .if1 .left)) (t .if2 .left) (rw (k .kind-at .ensures) at none))
+
+-- a page of a kind is a record of that object and age
+module _ (k : tie.After-kind-at) where
+  abbrev t : tie.Else2
+  t = k .before
+
+  abbrev s : tie.Else1
+  s = t .before .before
+
+  abbrev a : tie.Start
+  a = s .before .before .before .before
+
+  room : cellsFor (a .args .pages) ≤ length (a .args .cells .now)
+  room = omega (arith, s .if1 .left, s .before .cells-for .ensures)
+
+  recorded :
+      (o age : ℕ) →
+      0 < o →
+      o ≡ objects (kindAt (a .args .l) (a .args .dump .now)) (a .args .p .0) →
+      age ≡ ageOf (kindAt (a .args .l) (a .args .dump .now)) (a .args .p .0) →
+      Recorded (kindAt (a .args .l) (a .args .dump .now)) (a .args .pages) (a .args .cells .now) o (a .args .p .0) age
+  recorded o age h e f = record {
+    few = a .pre;
+    inside = t .if2 .left;
+    room = room;
+    some = h;
+    own = e;
+    aged = f;
+  }
+
+module _ (g : tie.After-k2) where
+  abbrev k₂ : tie.After-kind-at
+  k₂ = g .before .before .before
+
+  abbrev data-page : tie.Start
+  data-page = a k₂
+
+  is-data : kindAt (data-page .args .l) (data-page .args .dump .now) (data-page .args .p .0) ≡ Data (g .k2 .given .0 .0) (g .k2 .given .0 .1 .0) (g .k2 .given .0 .1 .1 .0) (g .k2 .given .0 .1 .1 .1 .0)
+  is-data = sym (k₂ .kind-at .ensures) ∙ g .k2 .given .1
+
+  data-some : 0 < g .k2 .given .0 .1 .0 .0
+  data-some = data-within _ _ _ _ _ _ _ is-data .object .least
+
+module _ (g : tie.After-k) where
+  abbrev k₁ : tie.After-kind-at
+  k₁ = g .before .before
+
+  abbrev header-page : tie.Start
+  header-page = a k₁
+
+  is-header : kindAt (header-page .args .l) (header-page .args .dump .now) (header-page .args .p .0) ≡ Header (g .k .given .0 .0) (g .k .given .0 .1 .0) (g .k .given .0 .1 .1 .0) (g .k .given .0 .1 .1 .1 .0) (g .k .given .0 .1 .1 .1 .1 .0) (g .k .given .0 .1 .1 .1 .1 .1 .0)
+  is-header = sym (k₁ .kind-at .ensures) ∙ g .k .given .1
+
+  header-some : 0 < g .k .given .0 .1 .0 .0
+  header-some = header-within _ _ _ _ _ _ _ _ _ is-header .object .least
 
 add-record-requires : tie.Need-add-record-requires
 add-record-requires c κs =
-    let i = c .before .before .before in
-    let g = i .before .before in
-    let t = g .before .before in
-    let s = t .before .before in
-    record {
-      few = s .before .before .before .before .pre;
-      inside = t .if2 .left;
-      room = rw (s .before .cells-for .ensures) at (s .if1 .left);
-      some = omega (arith, i .if3 .left);
-      own = object g;
-      aged = rw (c .order-of .ensures, c .before .sequence-of .ensures, g .before .kind-at .ensures);
-    }
+    let g = c .before .before .before in
+    recorded (k₂ g) _ _ (data-some g) (sym (ap objectOf (is-data g))) (c .order-of .ensures ∙ rw (is-data g))
 
 returns-4 : tie.Need-returns-4
 returns-4 c =
     let d = c .before .before in
-    let i = d .before .before .before .before in
-    let g = i .before .before in
-    let t = g .before .before in
-    let s = t .before .before in
+    let g = d .before .before .before .before in
+    let k = k₂ g in
     d .add-record .ensures
-    ∙ sym (add-record _ _ _ _ _ (rw (s .before .cells-for .ensures) at (s .if1 .left)) (t .if2 .left) (λ z. i .if3 .left (object g ∙ z)))
+    ∙ sym (add-record _ _ _ _ _ (room k) (t k .if2 .left) (λ z. absurd (omega (arith, data-some g, ap objectOf (is-data g)))))
+
+add-record-requires-2 : tie.Need-add-record-requires-2
+add-record-requires-2 c κs =
+    let g = c .before .before .before in
+    recorded (k₁ g) _ _ (header-some g) (sym (ap objectOf (is-header g))) (c .order-of2 .ensures ∙ rw (is-header g))
+
+returns-5 : tie.Need-returns-5
+returns-5 c =
+    let d = c .before .before in
+    let g = d .before .before .before .before in
+    let k = k₁ g in
+    d .add-record2 .ensures
+    ∙ sym (add-record _ _ _ _ _ (room k) (t k .if2 .left) (λ z. absurd (omega (arith, header-some g, ap objectOf (is-header g)))))
 
 pub add-page-spec : {M : Type 1} → statement M
 add-page-spec =
@@ -75,9 +130,13 @@ add-page-spec =
     (search needs)
     (search needs)
     (search needs)
-    returns-3
     (search needs)
+    returns-3
     (search needs)
     add-record-requires
     (search needs)
-    returns-4)
+    returns-4
+    (search needs)
+    add-record-requires-2
+    (search needs)
+    returns-5)
