@@ -30,7 +30,7 @@ module _
   answer = lookedOf says o n P c
 
   abbrev shown : ℕ
-  shown = shownOf says o n P c (sizeOf says P o (h .0) n)
+  shown = shownOf P c (sizeOf says P o (h .0) n)
 
   -- the lookup answers by the newest copy
   by-copy : answer ≡ copyBy says o n P c (h .0) shown (newestCopy says o c n)
@@ -51,7 +51,7 @@ module _
   -- otherwise the newest copy
   pub copy-in-sight :
       (q : ℕ) → newestCopy says o c n ≡ some q → ((p : ℕ) → Hides says o (h .0) (ageOf says q) n (baseOf P c) p → ⊥) →
-      answer ≡ looked.Copy (record { 0 = q }) (validOf says o n P c (says q) shown (lowestCut says o (h .0) (ageOf says q) n)) shown (since says o (min (ageOf says q) (ageOf says (h .0))) n)
+      answer ≡ looked.Copy (record { 0 = q }) (validOf P c (says q) shown (lowestCut says o (h .0) (ageOf says q) n)) shown (since says o (min (ageOf says q) (ageOf says (h .0))) n)
   unfolding copyBy copyAt
   copy-in-sight q e g =
       by-test (leb (lowestCut says o (h .0) (ageOf says q) n) (baseOf P c)) _
@@ -61,7 +61,7 @@ module _
   -- and it has valid bytes, since its byte count is at least 1 and a page has data
   pub valid-some :
       (q : ℕ) → 0 < P → 0 < countOf (says q) → ((p : ℕ) → Hides says o (h .0) (ageOf says q) n (baseOf P c) p → ⊥) →
-      0 < validOf says o n P c (says q) shown (lowestCut says o (h .0) (ageOf says q) n)
+      0 < validOf P c (says q) shown (lowestCut says o (h .0) (ageOf says q) n)
   valid-some q p k g =
       by-test (leb (lowestCut says o (h .0) (ageOf says q) n) (baseOf P c)) _
       (λ t. absurd (lowest-cut-hides says o (h .0) (ageOf says q) (baseOf P c) n ⊥ small (leb-true _ _ t) g))

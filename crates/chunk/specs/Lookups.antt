@@ -25,6 +25,14 @@ fileAt k h v =
     (pick (isFile k) (file.Header (record { 0 = h }) v)
     (file.Refused NotAFile v))
 
+-- how many bytes of chunk c a file of a size shows, with P data bytes to a page: as many as a page has, or as the size leaves
+abbrev pub shownOf : ℕ → ℕ → ℕ → ℕ
+shownOf P c size = min P (size - baseOf P c)
+
+-- how many bytes of a copy of chunk c that says k are valid: its byte count, no more than shown, and none behind a later cut
+abbrev pub validOf : ℕ → ℕ → Kind → ℕ → ℕ → ℕ
+validOf P c k shown cut = min (countOf k) (min shown (cut - baseOf P c))
+
 module _ (says : ℕ → Kind) (o n : ℕ) where
   -- the records visited from the newest down to page p
   abbrev pub downTo : ℕ → ℕ
@@ -50,19 +58,11 @@ module _ (says : ℕ → Kind) (o n : ℕ) where
     sizedOf = pick (badObject o) (sized.Refused BadObject 0) (sizedBy fileOf)
 
     module _ (c : ℕ) where
-      -- how many bytes of chunk c the file shows: as many as a page has, or as the size leaves
-      abbrev pub shownOf : ℕ → ℕ
-      shownOf size = min P (size - baseOf P c)
-
-      -- how many bytes of a copy are valid: its byte count, no more than shown, and none behind a later cut
-      abbrev pub validOf : Kind → ℕ → ℕ → ℕ
-      validOf k shown cut = min (countOf k) (min shown (cut - baseOf P c))
-
       -- the copy q of a live file with newest header h: hidden, and so a hole, if a later header cuts at or below the chunk's begin
       unfoldable pub copyAt : ℕ → ℕ → ℕ → Looked
       copyAt h shown q =
           pick (leb (lowestCut says o h (ageOf says q) n) (baseOf P c)) (looked.Hole shown (records says o n))
-          (looked.Copy (record { 0 = q }) (validOf (says q) shown (lowestCut says o h (ageOf says q) n)) shown
+          (looked.Copy (record { 0 = q }) (validOf P c (says q) shown (lowestCut says o h (ageOf says q) n)) shown
           (since says o (min (ageOf says q) (ageOf says h)) n))
 
       -- by the copy, if there is one
@@ -72,7 +72,7 @@ module _ (says : ℕ → Kind) (o n : ℕ) where
 
       -- chunk c of a live file of a size, which ends before it or not
       unfoldable pub chunkBy : ℕ → ℕ → ℕ → Looked
-      chunkBy h v size = pick (leb size (baseOf P c)) (looked.Refused PastEnd v 0) (copyBy h (shownOf size) (newestCopy says o c n))
+      chunkBy h v size = pick (leb size (baseOf P c)) (looked.Refused PastEnd v 0) (copyBy h (shownOf P c size) (newestCopy says o c n))
 
       unfoldable pub lookedBy : File → Looked
       lookedBy (file.Refused r v) = looked.Refused r v 0

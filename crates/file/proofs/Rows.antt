@@ -15,12 +15,13 @@ use Rattle.page.specs.declared.kind.Kind.{Kind}
 use Rattle.page.specs.declared.refusal.Refusal.the-variants.{IndexDamaged}
 use Rattle.page.proofs.Layouts.{and-left, and-right}
 use Rattle.page.proofs.Searching.{by-test}
-use Rattle.chunk.specs.Records.{chunkOf, countOf, baseOf}
+use Rattle.chunk.specs.Records.{chunkOf, baseOf}
 use Rattle.chunk.specs.declared.answer.Looked.{Looked}
 use Rattle.chunk.specs.declared.answer.Looked.the-variants as looked
+use Rattle.chunk.specs.Lookups.{shownOf, validOf}
 use Rattle.index.specs.Cells.{word, linkTo}
 use Rattle.index.specs.Chains.{Trace, clean, broken, rec}
-use Rattle.index.specs.Walks.{shownIn, isShown, found, cutBy}
+use Rattle.index.specs.Walks.{isShown, found, cutBy}
 use Rattle.index.specs.Ahead.{stillNewest, ahead}
 use Rattle.index.proofs.Ahead.{ahead-end, ahead-broken, ahead-here, ahead-on}
 use Rattle.file.specs.Table.{whereWord, validWord, wordsOf, rowAt, rows, noted, closedWord, Closed}
@@ -45,7 +46,7 @@ Told t c answer = Has t c (whereWord answer) (validWord answer)
 
 -- what is noted
 abbrev validAt : ℕ → ℕ → ℕ → Kind → ℕ
-validAt P size cut k = min (countOf k) (min (min P (size - baseOf P (chunkOf k))) (cut - baseOf P (chunkOf k)))
+validAt P size cut k = validOf P (chunkOf k) k (shownOf P (chunkOf k) size) cut
 
 abbrev stored : List ℕ → ℕ → ℕ → ℕ → ℕ → Kind → List ℕ
 stored t P size cut q k = set (set t (rowAt (chunkOf k)) (linkTo q)) (rowAt (chunkOf k) + 1) (validAt P size cut k)
@@ -143,7 +144,7 @@ module _ (says : ℕ → Kind) (P size m : ℕ) (t : List ℕ) (room : wordsOf m
     (e : chain ≡ rec q rest)
   where
     abbrev from : ℕ → Bool → ℕ → Trace → Looked
-    from c = ahead says P c (shownIn says P c size)
+    from c = ahead says P c (shownOf P c size)
 
     -- noting a record keeps every row on the way to its answer
     module _ (c : ℕ) (some : 0 < c) (most : c ≤ m) (answer : Looked) where
@@ -153,7 +154,7 @@ module _ (says : ℕ → Kind) (P size m : ℕ) (t : List ℕ) (room : wordsOf m
       -- the record is shown for the chunk
       shown-row : isShown says P c cut q ≡ true → Has t c 0 0 → from c newest cut chain ≡ answer → (u : List ℕ) → u ≡ stored t P size cut q (says q) → chunkOf (says q) ≡ c → Row u c next answer
       shown-row h f a u i j =
-          let l : found says P c (shownIn says P c size) cut q 0 ≡ answer = sym (ahead-here says P c (shownIn says P c size) newest cut chain q rest e h) ∙ a in
+          let l : found says P c (shownOf P c size) cut q 0 ≡ answer = sym (ahead-here says P c (shownOf P c size) newest cut chain q rest e h) ∙ a in
           let o = own t P size cut q (says q) m (rw j some) (rw j most) room in
           rw (i, ← l, ← j) (done (omega (arith, o .at)) o)
 
@@ -162,7 +163,7 @@ module _ (says : ℕ → Kind) (P size m : ℕ) (t : List ℕ) (room : wordsOf m
       done-row u same g f = let r = same _ _ f in done (omega (arith, r .at, f .at)) r
 
       free-row : (u : List ℕ) → ((w a : ℕ) → Has t c w a → Has u c w a) → isShown says P c cut q ≡ false → Has t c 0 0 → from c newest cut chain ≡ answer → Row u c next answer
-      free-row u same h f a = free (same 0 0 f) (sym (ahead-on says P c (shownIn says P c size) newest cut chain q rest e h) ∙ a)
+      free-row u same h f a = free (same 0 0 f) (sym (ahead-on says P c (shownOf P c size) newest cut chain q rest e h) ∙ a)
 
       abbrev noting-here : List ℕ
       noting-here = noted t m P size cut q (says q)

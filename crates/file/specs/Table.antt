@@ -12,16 +12,17 @@ use Rattle.page.specs.Numbers.{mostChunk}
 use Rattle.page.specs.declared.kind.Kind.{Kind}
 use Rattle.page.specs.declared.layout.Layout.{Layout}
 use Rattle.page.specs.declared.refusal.Refusal.the-variants.{ShortBuffer}
-use Rattle.chunk.specs.Records.{chunkOf, countOf, baseOf}
+use Rattle.chunk.specs.Records.{chunkOf, baseOf}
 use Rattle.chunk.specs.Cuts.{nowhere}
 use Rattle.chunk.specs.Answers.{validPart}
 use Rattle.chunk.specs.declared.answer.Looked.{Looked}
 use Rattle.chunk.specs.declared.answer.Looked.the-variants as looked
 use Rattle.chunk.specs.declared.answer.Sized.{Sized}
 use Rattle.chunk.specs.declared.answer.Sized.the-variants as sized
+use Rattle.chunk.specs.Lookups.{shownOf, validOf}
 use Rattle.index.specs.Cells.{word, linkTo}
 use Rattle.index.specs.Chains.{top}
-use Rattle.index.specs.Walks.{shownIn, under, sizeFrom, chunkFrom}
+use Rattle.index.specs.Walks.{under, sizeFrom, chunkFrom}
 use Rattle.index.specs.Ahead.{ahead}
 use Rattle.file.specs.declared.table.Tabled.{Tabled}
 use Rattle.file.specs.declared.table.Tabled.the-variants.{Rows, Refused}
@@ -74,7 +75,7 @@ tableFrom l k dump cells o room = tableBy (l .«data») room (sizeFrom l k dump 
 
 -- what lies ahead for each chunk of a file of a size, from a link on
 abbrev pub allAhead : (ℕ → Kind) → ℕ → ℕ → ℕ → List ℕ → ℕ → ℕ → ℕ → Looked
-allAhead says P size n cells o first c = ahead says P c (shownIn says P c size) true nowhere (under says n cells o top first)
+allAhead says P size n cells o first c = ahead says P c (shownOf P c size) true nowhere (under says n cells o top first)
 
 -- a table of m rows in which page q, which says k, is noted: if its chunk has a row, nothing is noted there, and no newer header hides it
 unfoldable pub noted : List ℕ → ℕ → ℕ → ℕ → ℕ → ℕ → Kind → List ℕ
@@ -83,7 +84,7 @@ noted t m P size cut q k =
     (pick (not (eqb (word t (rowAt (chunkOf k))) 0)) t
     (pick (leb cut (baseOf P (chunkOf k))) t
     (set (set t (rowAt (chunkOf k)) (linkTo q)) (rowAt (chunkOf k) + 1)
-    (min (countOf k) (min (min P (size - baseOf P (chunkOf k))) (cut - baseOf P (chunkOf k)))))))
+    (validOf P (chunkOf k) k (shownOf P (chunkOf k) size) cut))))
 
 -- the first word of a row after a damaged link was met
 abbrev pub closedWord : ℕ → ℕ

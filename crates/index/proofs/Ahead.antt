@@ -25,7 +25,7 @@ use Rattle.page.proofs.Lengths.{opened-some}
 use Rattle.page.proofs.Within.{chunk-within}
 use Rattle.chunk.specs.Records.{chunkOf, baseOf}
 use Rattle.chunk.specs.Cuts.{nowhere}
-use Rattle.chunk.specs.Lookups.{fileAt}
+use Rattle.chunk.specs.Lookups.{fileAt, shownOf}
 use Rattle.chunk.specs.declared.answer.File.{File}
 use Rattle.chunk.specs.declared.answer.File.the-variants as file
 use Rattle.chunk.specs.declared.answer.Looked.{Looked}
@@ -34,7 +34,7 @@ use Rattle.chunk.specs.declared.answer.Sized.the-variants as sized
 use Rattle.index.specs.Cells.{cellsFor}
 use Rattle.index.specs.Slots.{firstLink}
 use Rattle.index.specs.Chains.{top, Trace, clean, broken, rec, chain}
-use Rattle.index.specs.Walks.{headless, behind, metWith, reach, cutBy, shownIn, isShown, found, seek, sizeAt, sizeFile, copyFrom, sizeReached, chunkReached, sizeWalk, chunkWalk, under, chainOf, sizeIn, chunkIn, sizeFrom, chunkFrom}
+use Rattle.index.specs.Walks.{headless, behind, metWith, reach, cutBy, isShown, found, seek, sizeAt, sizeFile, copyFrom, sizeReached, chunkReached, sizeWalk, chunkWalk, under, chainOf, sizeIn, chunkIn, sizeFrom, chunkFrom}
 use Rattle.index.specs.Ahead.{unvisited, stillNewest, ahead}
 use Rattle.index.specs.declared.walks.Met.{Met}
 use Rattle.index.specs.declared.walks.Met.the-variants.{Copy, Nothing}
@@ -152,7 +152,7 @@ reach-bare says P c d (rec q t) end m m′ v =
 -- a chunk of a file that has a size and does not end before it
 module _ (says : ℕ → Kind) (P c z v : ℕ) (some : 0 < c) (near : baseOf P c < nowhere) (before : baseOf P c < z) (t : Trace) where
   abbrev all : Looked
-  all = ahead says P c (shownIn says P c z) true nowhere t
+  all = ahead says P c (shownOf P c z) true nowhere t
 
   never : {A : Type 0} {r : Refusal} {u : ℕ} → sized.Refused r u ≡ sized.Size z v → A
   never e = let w : _≡_ {A = ℕ} 0 1 = cc in absurd (omega arith)
@@ -160,7 +160,7 @@ module _ (says : ℕ → Kind) (P c z v : ℕ) (some : 0 < c) (near : baseOf P c
   by-file :
       (h e w : ℕ) (m : Met) →
       sizeFile (sizeAt says h e) (fileAt (says h) h w) ≡ sized.Size z v →
-      ((u : ℕ) → all ≡ unvisited (copyFrom says P c h (shownIn says P c z) u (behind says t) m)) →
+      ((u : ℕ) → all ≡ unvisited (copyFrom says P c h (shownOf P c z) u (behind says t) m)) →
       all ≡ unvisited (chunkReached says P c (behind says t) (reached.Header (record { 0 = h }) e m w))
   unfolding chunkReached
   by-file h e w m s a = go (fileAt (says h) h w) refl
@@ -171,7 +171,7 @@ module _ (says : ℕ → Kind) (P c z v : ℕ) (some : 0 < c) (near : baseOf P c
           let same : sizeAt says h e ≡ z = let f = rw q at s in cc in
           rw (chunk-live says P c (sizeAt says h e) m (behind says t) (says h) h w g u q, same, lt-leb z (baseOf P c) before) (a w)
 
-  by-reached : (s r : Reached) → bare s ≡ bare r → sizeReached says s ≡ sized.Size z v → Agrees says P c (shownIn says P c z) t r
+  by-reached : (s r : Reached) → bare s ≡ bare r → sizeReached says s ≡ sized.Size z v → Agrees says P c (shownOf P c z) t r
       → all ≡ unvisited (chunkReached says P c (behind says t) r)
   unfolding sizeReached
   by-reached (reached.Refused x u) (reached.Refused y w) e q a = never q
@@ -187,7 +187,7 @@ module _ (says : ℕ → Kind) (P c z v : ℕ) (some : 0 < c) (near : baseOf P c
   unfolding sizeWalk chunkWalk
   walk-ahead e =
       by-reached (reach says P 0 0 Nothing 0 t) (reach says P c 0 Nothing 0 t) (reach-bare says P 0 c t 0 Nothing Nothing 0) e
-      (agrees says P c (shownIn says P c z) some near t 0 0)
+      (agrees says P c (shownOf P c z) some near t 0 0)
 
 -- an accepted dump of n pages, by an index that gives the object a size
 module _
@@ -216,7 +216,7 @@ module _
         (c : ℕ) →
         badChunk c ≡ false →
         baseOf (l .«data») c < z →
-        ahead (kindAt l dump) (l .«data») c (shownIn (kindAt l dump) (l .«data») c z) true nowhere
+        ahead (kindAt l dump) (l .«data») c (shownOf (l .«data») c z) true nowhere
         (under (kindAt l dump) n cells o top (firstLink n cells o))
         ≡ unvisited (chunkFrom l k dump cells o c)
     unfolding chunkFrom chunkIn chain

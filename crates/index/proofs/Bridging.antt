@@ -21,11 +21,11 @@ use Rattle.chunk.specs.Records.{ageOf, isGone, isFile, chunkOf, baseOf}
 use Rattle.chunk.specs.Newest.{newestCopy, since, records}
 use Rattle.chunk.specs.Cuts.{nowhere, lowestCut}
 use Rattle.chunk.specs.Sizes.{sizeOf}
-use Rattle.chunk.specs.Lookups.{fileAt, fileBy, fileOf, sizedBy, copyAt, copyBy, chunkBy, lookedBy}
+use Rattle.chunk.specs.Lookups.{fileAt, fileBy, fileOf, sizedBy, copyAt, copyBy, chunkBy, lookedBy, shownOf}
 use Rattle.chunk.specs.declared.answer.File.the-variants as file
 use Rattle.index.specs.Chains.{objects, top}
 use Rattle.index.specs.Held.{seen, recs, fromList}
-use Rattle.index.specs.Walks.{seenSays, recordsIn, sizeVisits, chunkVisits, sizeFile, sizeAt, sizeReached, cutBy, metWith, reach, shownIn, copyFrom, chunkFile, chunkReached, chunkWalk, sizeWalk}
+use Rattle.index.specs.Walks.{seenSays, recordsIn, sizeVisits, chunkVisits, sizeFile, sizeAt, sizeReached, cutBy, metWith, reach, copyFrom, chunkFile, chunkReached, chunkWalk, sizeWalk}
 use Rattle.index.specs.declared.walks.Met.{Met}
 use Rattle.index.specs.declared.walks.Met.the-variants.{Nothing}
 use Rattle.index.specs.declared.walks.Reached.the-variants as reached
@@ -79,7 +79,7 @@ module _ (says S : ℕ → Kind) (o n b P : ℕ) (pos : 0 < o) where
     -- refusals that leave a live file or none
     chunk-at :
         (c : ℕ) (m : Met) (k : Kind) (v : ℕ) →
-        copyFrom says P c h (shownIn says P c (sizeOf S P o h n)) v (fromList B) m ≡ copyBy S o n P c h (shownIn says P c (sizeOf S P o h n)) (newestCopy S o c n) →
+        copyFrom says P c h (shownOf P c (sizeOf S P o h n)) v (fromList B) m ≡ copyBy S o n P c h (shownOf P c (sizeOf S P o h n)) (newestCopy S o c n) →
         chunkFile says P c (sizeOf S P o h n) m (fromList B) (fileAt k h v) ≡ lookedBy S o n P c (fileAt k h v)
     unfolding chunkFile lookedBy chunkBy fileAt
     chunk-at c m k v g =
@@ -87,8 +87,8 @@ module _ (says S : ℕ → Kind) (o n b P : ℕ) (pos : 0 < o) where
 
     chunk-walk-at :
         (c : ℕ) →
-        copyFrom says P c h (shownIn says P c (sizeOf S P o h n)) (length A + 1) (fromList B) (through (metWith says P c) Nothing A)
-        ≡ copyBy S o n P c h (shownIn says P c (sizeOf S P o h n)) (newestCopy S o c n) →
+        copyFrom says P c h (shownOf P c (sizeOf S P o h n)) (length A + 1) (fromList B) (through (metWith says P c) Nothing A)
+        ≡ copyBy S o n P c h (shownOf P c (sizeOf S P o h n)) (newestCopy S o c n) →
         chunkWalk says P c (fromList (A ++ (h ∷ B))) ≡ lookedBy S o n P c (fileOf S o n)
     unfolding chunkWalk chunkReached
     chunk-walk-at c g =
@@ -227,7 +227,7 @@ module _ (says S : ℕ → Kind) (o n b P : ℕ) (pos : 0 < o) where
         (by-test (eqb (length L) 0) _ (λ t. rw t) (λ t. rw t))
     chunk-parted L (at A h B f e) l =
         chunk-walk-at A h B l f e c
-        (copy-parted c numbered near (shownIn says P c (sizeOf S P o h n)) A h B l f e (parted (copied says P c) A) (parted (copied says P c) B))
+        (copy-parted c numbered near (shownOf P c (sizeOf S P o h n)) A h B l f e (parted (copied says P c) A) (parted (copied says P c) B))
 
 -- the added records of object o of a dump with few enough pages
 module _

@@ -17,12 +17,12 @@ use Rattle.page.specs.declared.number.PageNumber.{PageNumber}
 use Rattle.page.specs.declared.kind.Kind.{Kind}
 use Rattle.page.specs.declared.refusal.Refusal.the-variants.{NoObject, NoHeader, Deleted, NotAFile, PastEnd, IndexDamaged}
 use Rattle.chunk.specs.Records.{ageOf, isGone, isFile, baseOf}
-use Rattle.chunk.specs.Lookups.{fileAt}
+use Rattle.chunk.specs.Lookups.{fileAt, shownOf}
 use Rattle.chunk.specs.declared.answer.File.the-variants as file
 use Rattle.chunk.specs.declared.answer.Looked.the-variants as looked
 use Rattle.index.specs.Cells.{word, linkAt}
 use Rattle.index.specs.Chains.{objects, Lead, End, Damaged, Record, Trace, clean, broken, rec, by, leadOf, traceBy, trace}
-use Rattle.index.specs.Walks.{recordsIn, behind, cutBy, metWith, reach, shownIn, found, isShown, seek, copyFrom, chunkFile, under, below}
+use Rattle.index.specs.Walks.{recordsIn, behind, cutBy, metWith, reach, found, isShown, seek, copyFrom, chunkFile, under, below}
 use Rattle.index.specs.declared.walks.Met.{Met}
 use Rattle.index.specs.declared.walks.Met.the-variants.{Nothing}
 use Rattle.index.specs.declared.walks.Reached.{Reached}
@@ -173,7 +173,7 @@ pub chunk-live :
     (says : ℕ → Kind) (P c size : ℕ) (m : Met) (t : Trace) (k : Kind) (h v : ℕ) (g : PageNumber) (u : ℕ) →
     fileAt k h v ≡ file.Header g u →
     chunkFile says P c size m t (fileAt k h v)
-    ≡ pick (leb size (baseOf P c)) (looked.Refused PastEnd v 0) (copyFrom says P c h (shownIn says P c size) v t m)
+    ≡ pick (leb size (baseOf P c)) (looked.Refused PastEnd v 0) (copyFrom says P c h (shownOf P c size) v t m)
 unfolding fileAt chunkFile
 chunk-live says P c size m t k h v g u e = go (isGone k) (isFile k) e
   where
@@ -181,7 +181,7 @@ chunk-live says P c size m t k h v g u e = go (isGone k) (isFile k) e
         (a b : Bool) →
         pick a (file.Refused Deleted v) (pick b (file.Header (record { 0 = h }) v) (file.Refused NotAFile v)) ≡ file.Header g u →
         chunkFile says P c size m t (pick a (file.Refused Deleted v) (pick b (file.Header (record { 0 = h }) v) (file.Refused NotAFile v)))
-        ≡ pick (leb size (baseOf P c)) (looked.Refused PastEnd v 0) (copyFrom says P c h (shownIn says P c size) v t m)
+        ≡ pick (leb size (baseOf P c)) (looked.Refused PastEnd v 0) (copyFrom says P c h (shownOf P c size) v t m)
     go true b e = let z : _≡_ {A = ℕ} 0 1 = cc in absurd (omega arith)
     go false true e = refl
     go false false e = let z : _≡_ {A = ℕ} 0 1 = cc in absurd (omega arith)

@@ -12,10 +12,10 @@ use Rattle.page.proofs.Searching.{by-test}
 use Rattle.page.specs.declared.kind.Kind.{Kind}
 use Rattle.chunk.specs.Records.{isGone, isFile, baseOf}
 use Rattle.chunk.specs.Cuts.{nowhere}
-use Rattle.chunk.specs.Lookups.{fileAt}
+use Rattle.chunk.specs.Lookups.{fileAt, shownOf}
 use Rattle.index.specs.Chains.{Trace, clean, broken, rec}
 use Rattle.index.specs.Held.{fromList}
-use Rattle.index.specs.Walks.{recordsIn, sizeVisits, chunkVisits, behind, sizeAt, sizeReached, cutBy, metWith, reach, shownIn, isShown, seek, copyFrom, chunkFile, chunkReached, chunkWalk, sizeWalk}
+use Rattle.index.specs.Walks.{recordsIn, sizeVisits, chunkVisits, behind, sizeAt, sizeReached, cutBy, metWith, reach, isShown, seek, copyFrom, chunkFile, chunkReached, chunkWalk, sizeWalk}
 use Rattle.index.specs.declared.walks.Met.{Met}
 use Rattle.index.specs.declared.walks.Met.the-variants.{Copy, Nothing}
 use Rattle.index.specs.declared.walks.Reached.{Reached}
@@ -83,5 +83,5 @@ module _ (says : ℕ → Kind) (P : ℕ) where
             by-test (isGone k) _
             (λ s. rw s le)
             (λ s. rw s (by-test (isFile k) _
-            (λ u. rw u (by-test (leb z (baseOf P c)) _ (λ w. rw w le) (λ w. rw w (copy (shownIn says P c z) (h .0) v m i))))
+            (λ u. rw u (by-test (leb z (baseOf P c)) _ (λ w. rw w le) (λ w. rw w (copy (shownOf P c z) (h .0) v m i))))
             (λ u. rw u le)))

@@ -1,6 +1,6 @@
 -- Lookups down the chain of an object, on any chain (document 01, "Index" for the visits, and the refusal table). A lookup visits records from
 -- the newest on, and meets the links that lead to them; v counts the records visited.
-use Prim.Native.Nat.{ℕ, suc, _+_, _-_, max, min}
+use Prim.Native.Nat.{ℕ, suc, _+_, max, min}
 use mathlib.Core.Bool.{Bool, true, false, _&&_}
 use mathlib.Core.List.{List}
 use lib.ListN.{length}
@@ -14,10 +14,10 @@ use Rattle.page.specs.declared.kind.Kind.{Kind}
 use Rattle.page.specs.declared.kind.Kind.the-variants.{Blank}
 use Rattle.page.specs.declared.layout.Layout.{Layout}
 use Rattle.page.specs.declared.refusal.Refusal.the-variants.{BadObject, BadChunk, NoObject, NoHeader, PastEnd, ShortIndex, IndexDamaged}
-use Rattle.chunk.specs.Records.{ageOf, chunkOf, countOf, fileSize, baseOf}
+use Rattle.chunk.specs.Records.{ageOf, chunkOf, fileSize, baseOf}
 use Rattle.chunk.specs.Cuts.{nowhere, cutOf}
 use Rattle.chunk.specs.Sizes.{endOf}
-use Rattle.chunk.specs.Lookups.{fileAt}
+use Rattle.chunk.specs.Lookups.{fileAt, shownOf, validOf}
 use Rattle.chunk.specs.Answers.{onPages}
 use Rattle.chunk.specs.declared.answer.File.{File}
 use Rattle.chunk.specs.declared.answer.File.the-variants as file
@@ -99,13 +99,9 @@ module _ (says : ℕ → Kind) where
         pick (isHeader (says q)) (reached.Header (record { 0 = q }) end m (v + 1))
         (reach (max (endOf P (says q)) end) (metWith q m) (v + 1) t)
 
-    -- how many bytes of chunk c a file of a size shows
-    abbrev pub shownIn : ℕ → ℕ
-    shownIn size = min P (size - baseOf P c)
-
     -- page q is the copy of chunk c, where `cut` is the lowest cut of newer headers
     abbrev pub found : ℕ → ℕ → ℕ → ℕ → Looked
-    found shown cut q v = looked.Copy (record { 0 = q }) (min (countOf (says q)) (min shown (cut - baseOf P c))) shown v
+    found shown cut q v = looked.Copy (record { 0 = q }) (validOf P c (says q) shown cut) shown v
 
     -- whether page q is a copy of chunk c that the lowest cut of newer headers does not hide
     abbrev pub isShown : ℕ → ℕ → Bool
@@ -127,7 +123,7 @@ module _ (says : ℕ → Kind) where
     unfoldable pub chunkFile : ℕ → Met → Trace → File → Looked
     chunkFile size m t (file.Refused r v) = looked.Refused r v 0
     chunkFile size m t (file.Header h v) =
-        pick (leb size (baseOf P c)) (looked.Refused PastEnd v 0) (copyFrom (h .0) (shownIn size) v t m)
+        pick (leb size (baseOf P c)) (looked.Refused PastEnd v 0) (copyFrom (h .0) (shownOf P c size) v t m)
 
     -- chunk c by what was reached, and the chain behind that
     unfoldable pub chunkReached : Trace → Reached → Looked

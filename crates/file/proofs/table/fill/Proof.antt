@@ -7,7 +7,8 @@ use native.Mathlib.Omega.{arith}
 use lib.ListN.{length, drop, replicate}
 use borrow.Author.Needs.{needs}
 use Rattle.page.specs.Kinds.{kindAt}
-use Rattle.index.specs.Walks.{shownIn, under}
+use Rattle.chunk.specs.Lookups.{shownOf}
+use Rattle.index.specs.Walks.{under}
 use Rattle.index.specs.Ahead.{ahead}
 use Rattle.index.specs.declared.chains.Step.the-variants.{End, Damaged, Record}
 use Rattle.index.proofs.Links.{Stepped, stepped}
@@ -24,7 +25,7 @@ Inv-loop dump l pages cells o first size count table₀ link₀ bound₀ cut₀ 
     (length table ≡ length table₀)
     × (drop (wordsOf count) table ≡ drop (wordsOf count) table₀)
     × ((c : ℕ) → 0 < c → c ≤ count →
-    Row table c (ahead says P c (shownIn says P c size) newest cut (under says pages cells (o .0) bound link)) (allAhead says P size pages cells (o .0) first c))
+    Row table c (ahead says P c (shownOf P c size) newest cut (under says pages cells (o .0) bound link)) (allAhead says P size pages cells (o .0) first c))
 
 abbrev μ-loop : tie.MeasureT-loop
 μ-loop dump l pages cells o first size count table₀ link₀ bound₀ cut₀ newest₀ table link bound cut newest = bound

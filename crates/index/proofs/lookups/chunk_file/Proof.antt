@@ -10,8 +10,9 @@ use Rattle.page.specs.declared.kind.Kind.{Kind}
 use Rattle.page.specs.declared.refusal.Refusal.the-variants.{PastEnd}
 use Rattle.chunk.specs.Records.{baseOf}
 use Rattle.chunk.specs.declared.answer.Looked.the-variants.{Refused}
+use Rattle.chunk.specs.Lookups.{shownOf}
 use Rattle.index.specs.Chains.{Trace}
-use Rattle.index.specs.Walks.{sizeAt, shownIn, copyFrom, chunkFile, chunkReached, below}
+use Rattle.index.specs.Walks.{sizeAt, copyFrom, chunkFile, chunkReached, below}
 use Rattle.index.specs.declared.walks.Reached.the-variants.{Header}
 use Rattle.index.proofs.Turning.{chunk-live}
 use Rattle.index.proofs.lookups.chunk_file.Statement.{statement}
@@ -30,7 +31,7 @@ live :
     let a = s .args in
     chunkReached (says s) (a .l .«data») (a .c .0) (rest s) (Header (a .h) (a .end) (a .met) (a .visits))
     ≡ pick (leb (c .larger .result) (baseOf (a .l .«data») (a .c .0))) (Refused PastEnd (a .visits) 0)
-    (copyFrom (says s) (a .l .«data») (a .c .0) (a .h .0) (shownIn (says s) (a .l .«data») (a .c .0) (c .larger .result)) (a .visits) (rest s) (a .met))
+    (copyFrom (says s) (a .l .«data») (a .c .0) (a .h .0) (shownOf (a .l .«data») (a .c .0) (c .larger .result)) (a .visits) (rest s) (a .met))
 unfolding chunkReached
 live c =
     let t = c .before .before in
