@@ -1,7 +1,7 @@
 -- The answers about layouts and page counts, as the exports give them: the refusal's number first, 0 where nothing is refused.
 use Prim.Native.Nat.{ℕ}
 use Rattle.page.specs.Refusals.{refusalNumber}
-use Rattle.page.specs.Layouts.{numberOf}
+use Rattle.page.specs.Layouts.{layouts, numberOf}
 use Rattle.page.specs.declared.layout.Named.{Named}
 use Rattle.page.specs.declared.layout.Named.the-variants as named
 use Rattle.page.specs.declared.layout.Opened.{Opened}
@@ -11,7 +11,7 @@ use Rattle.capi.specs.declared.layout.PagesAnswer.{PagesAnswer}
 
 -- a layout with its number in the table; beside a refusal that is 13, which the table lacks
 abbrev pub layoutAnswer : Named → LayoutAnswer
-layoutAnswer (named.Refused r) = record { refusal = refusalNumber r; number = 13; «data» = 0; spare = 0; tag = 0 }
+layoutAnswer (named.Refused r) = record { refusal = refusalNumber r; number = layouts; «data» = 0; spare = 0; tag = 0 }
 layoutAnswer (named.Layout l) = record {
   refusal = 0;
   number = numberOf l;

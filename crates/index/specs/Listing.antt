@@ -53,7 +53,7 @@ isDamaged Other = false
 unfoldable pub standing : Ask → (ℕ → Kind) → Reached → Standing
 standing ask says (reached.Header h end m v) = pick (isAny ask) Asked (pick (isGone (says (h .0))) Other Asked)
 standing ask says (reached.Refused r v) =
-    pick (eqb (refusalNumber r) 13) Damaged
+    pick (eqb (refusalNumber r) (refusalNumber IndexDamaged)) Damaged
     (pick (isAny ask && eqb (refusalNumber r) 7) Asked
     Other)
 

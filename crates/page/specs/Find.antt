@@ -6,7 +6,7 @@ use lib.ListN.{length}
 use lib.Dec.{eqb, leb}
 use Rattle.page.specs.Choice.{pick}
 use Rattle.page.specs.Search.{firstFrom, count}
-use Rattle.page.specs.Layouts.{layoutAt}
+use Rattle.page.specs.Layouts.{layouts, layoutAt}
 use Rattle.page.specs.Lengths.{blockFits, lengthFits, wholeBlocks, pageCount}
 use Rattle.page.specs.Tags.{claimAt}
 use Rattle.page.specs.declared.layout.Named.{Named}
@@ -90,11 +90,11 @@ highest score (suc n) = max (highest score n) (score n)
 
 -- the first number in the table whose score is the highest
 unfoldable pub winner : (ℕ → ℕ) → ℕ
-winner score = firstFrom (λ c. eqb (score c) (highest score 13)) 0 13
+winner score = firstFrom (λ c. eqb (score c) (highest score layouts)) 0 layouts
 
 -- the highest score wins, then table order; NoLayout where no candidate fits
 unfoldable pub winnerOf : (ℕ → ℕ) → Named
-winnerOf score = pick (eqb (highest score 13) 0) (named.Refused NoLayout) (named.Layout (layoutAt (winner score)))
+winnerOf score = pick (eqb (highest score layouts) 0) (named.Refused NoLayout) (named.Layout (layoutAt (winner score)))
 
 -- the layout of a dump in blocks of k pages; a length that no candidate divides is NoLayout
 unfoldable pub findOf : List ℕ → ℕ → Named

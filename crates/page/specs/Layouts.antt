@@ -15,6 +15,17 @@ use Rattle.page.specs.declared.refusal.Refusal.the-variants.{BadLayout}
 abbrev pub layoutOf : ℕ → ℕ → ℕ → Layout
 layoutOf p s t = record { «data» = p; spare = s; tag = t }
 
+-- how many layouts the table has
+abbrev pub layouts : ℕ
+layouts = 13
+
+-- how many bytes the tags of a page are, and those of a header that are read
+abbrev pub tagLength : ℕ
+tagLength = 16
+
+abbrev pub headerBytes : ℕ
+headerBytes = 480
+
 -- the columns of the table
 unfoldable pub dataSizes : List ℕ
 dataSizes = 2048 ∷ 2048 ∷ 2048 ∷ 4096 ∷ 4096 ∷ 4096 ∷ 512 ∷ 8192 ∷ 8192 ∷ 8192 ∷ 16384 ∷ 16384 ∷ 16384 ∷ []
@@ -31,7 +42,7 @@ layoutAt n = layoutOf (getD dataSizes n 0) (getD spareSizes n 0) (getD tagOffset
 
 -- a layout named by its number: 13 and above are not in the table
 unfoldable pub byNumber : ℕ → Named
-byNumber n = pick (leb 13 n) (named.Refused BadLayout) (named.Layout (layoutAt n))
+byNumber n = pick (leb layouts n) (named.Refused BadLayout) (named.Layout (layoutAt n))
 
 -- whether a layout has these sizes and this tag offset
 unfoldable pub hasSizes : ℕ → ℕ → ℕ → Layout → Bool
@@ -39,7 +50,7 @@ hasSizes p s t l = eqb (l .«data») p && eqb (l .spare) s && eqb (l .tag) t
 
 -- the first number in the table of a layout of these sizes and this tag offset; 13 where there is none
 unfoldable pub numberOfSizes : ℕ → ℕ → ℕ → ℕ
-numberOfSizes p s t = firstFrom (λ n. hasSizes p s t (layoutAt n)) 0 13
+numberOfSizes p s t = firstFrom (λ n. hasSizes p s t (layoutAt n)) 0 layouts
 
 -- a layout named by its sizes and its tag offset
 unfoldable pub bySizes : ℕ → ℕ → ℕ → Named
@@ -51,7 +62,7 @@ numberOf l = numberOfSizes (l .«data») (l .spare) (l .tag)
 
 -- whether the table has a layout
 abbrev pub isListed : Layout → Bool
-isListed l = ltb (numberOf l) 13
+isListed l = ltb (numberOf l) layouts
 
 -- the length of a page: P data bytes and then S spare bytes
 abbrev pub pageLen : Layout → ℕ
@@ -63,4 +74,4 @@ tagPlace l = l .«data» + l .tag
 
 -- the one condition on sizes: a header has room in the data, and the 16 tag bytes at T in the spare
 unfoldable pub roomy : Layout → Bool
-roomy l = leb 480 (l .«data») && leb (l .tag + 16) (l .spare)
+roomy l = leb headerBytes (l .«data») && leb (l .tag + tagLength) (l .spare)

@@ -3,7 +3,7 @@ use Prim.Native.Nat.{ℕ, _+_, _*_, _/_, _%_}
 use mathlib.Core.Bool.{Bool, true, false, not, _&&_}
 use lib.Dec.{eqb, ltb, leb}
 use Rattle.page.specs.Choice.{pick}
-use Rattle.page.specs.Layouts.{pageLen, roomy, numberOf}
+use Rattle.page.specs.Layouts.{layouts, pageLen, roomy, numberOf}
 use Rattle.page.specs.declared.layout.Layout.{Layout}
 use Rattle.page.specs.declared.layout.Opened.{Opened}
 use Rattle.page.specs.declared.layout.Opened.the-variants.{Pages, Refused}
@@ -16,9 +16,13 @@ use Rattle.page.specs.declared.refusal.Refusal.the-variants.{BadLayout, 
 abbrev pub mostBytes : ℕ
 mostBytes = 1073741824
 
--- a block has 1 to 256 pages
+-- the most pages of a block
+abbrev pub mostPages : ℕ
+mostPages = 256
+
+-- a block has at least one page, and not too many
 unfoldable pub blockFits : ℕ → Bool
-blockFits k = not (eqb k 0) && leb k 256
+blockFits k = not (eqb k 0) && leb k mostPages
 
 -- a dump is not empty, and not too long
 unfoldable pub lengthFits : ℕ → Bool
@@ -35,7 +39,7 @@ pageCount l n = n / pageLen l
 -- a dump of n bytes, of a named layout and in blocks of k pages
 unfoldable pub openedOf : Layout → ℕ → ℕ → Opened
 openedOf l k n =
-    pick (leb 13 (numberOf l)) (Refused BadLayout)
+    pick (leb layouts (numberOf l)) (Refused BadLayout)
     (pick (not (blockFits k)) (Refused BadLayout)
     (pick (not (lengthFits n)) (Refused BadLength)
     (pick (not (wholeBlocks l k n)) (Refused BadLength)

@@ -33,17 +33,24 @@ tagsOf s = record { sequence = le32 s 0; object = le32 s 4; chunk = le32 s 8; co
 unfoldable pub tagBytes : Layout → List ℕ → List ℕ
 tagBytes l page = take 16 (drop (l .tag) (drop (l .«data») page))
 
+-- the top bit of a word, and how many ids its low 28 bits tell apart
+abbrev pub topBit : ℕ
+topBit = 0x80000000
+
+abbrev pub ids : ℕ
+ids = 0x10000000
+
 -- whether the top bit of the chunk word is set
 abbrev pub isTyped : Tags → Bool
-isTyped t = leb 0x80000000 (t .chunk)
+isTyped t = leb topBit (t .chunk)
 
 -- the object id of a header: with the top bit the low 28 bits of the object word, else the whole word
 unfoldable pub objectIn : Tags → ℕ
-objectIn t = pick (isTyped t) (t .object % 0x10000000) (t .object)
+objectIn t = pick (isTyped t) (t .object % ids) (t .object)
 
 -- the type in a header's tags, with the top bit: the high 4 bits of the object word
 abbrev pub typeIn : Tags → ℕ
-typeIn t = t .object / 0x10000000
+typeIn t = t .object / ids
 
 -- a header, Damaged instead if its object id is out of range; its byte count is ignored
 unfoldable pub headerClaim : Tags → Claim
