@@ -1,6 +1,6 @@
 -- The chunks of a file are those that it does not end before; and a row has the words of its chunk's lookup.
 use Prim.Native.Nat.{ℕ, _+_, _-_, _*_, _/_, _≤_, _<_, min}
-use mathlib.Core.Bool.{false}
+use mathlib.Core.Bool.{Bool, false}
 use mathlib.Core.List.{List, _++_}
 use mathlib.Core.Logic.{_↔_}
 use mathlib.Core.Path.{_≡_, refl, sym, ap, _∙_}
@@ -20,15 +20,19 @@ use Rattle.page.proofs.Layouts.{roomy-facts}
 use Rattle.page.proofs.Lengths.{opened-facts}
 use Rattle.page.proofs.Searching.{by-test}
 use Rattle.page.proofs.Within.{chunk-good}
-use Rattle.chunk.specs.Records.{baseOf}
+use Rattle.chunk.specs.Records.{ageOf, baseOf}
+use Rattle.chunk.specs.Lookups.{lookedOf}
 use Rattle.chunk.specs.Answers.{partBy}
 use Rattle.chunk.specs.declared.answer.Looked.{Looked}
 use Rattle.chunk.specs.declared.answer.Looked.the-variants as looked
 use Rattle.chunk.specs.declared.answer.Sized.the-variants as sized
 use Rattle.index.specs.Cells.{linkTo}
 use Rattle.index.specs.Slots.{firstLink}
-use Rattle.index.specs.Walks.{sizeFrom, chunkFrom}
+use Rattle.index.specs.Chains.{objects}
+use Rattle.index.specs.Held.{Held}
+use Rattle.index.specs.Walks.{seenSays, sizeFrom, chunkFrom}
 use Rattle.index.specs.Ahead.{unvisited}
+use Rattle.index.proofs.Looking.{chunk-from-held}
 use Rattle.index.proofs.Ahead.{chunk-ahead}
 use Rattle.file.specs.Table.{whereWord, validWord, rowPart, wordsOf, chunksIn, rows, allAhead, tableBy, tableFrom, filledBy}
 use Rattle.file.specs.declared.table.Tabled.the-variants as tabled
@@ -107,3 +111,11 @@ module _
           ≡ rows (allAhead (kindAt l dump) (l .«data») z n cells o (firstLink n cells o)) (chunksIn (l .«data») z) ++ drop (wordsOf (chunksIn (l .«data») z)) table
       unfolding filledBy
       table-filled = ap (λ (x : List ℕ). x ++ drop (wordsOf (chunksIn (l .«data») z)) table) (sym rows-looked)
+
+-- on cells that hold exactly the added pages, each row is what the rules answer where pages not added read as blank
+pub rows-held :
+    (l : Layout) (k : ℕ) (dump : List ℕ) (n : ℕ) (e : openedOf l k (length dump) ≡ opened.Pages n)
+    (added : ℕ → Bool) (cells : List ℕ) (held : Held n (objects (kindAt l dump)) (ageOf (kindAt l dump)) added cells) (o m : ℕ) →
+    rows (chunkFrom l k dump cells o) m ≡ rows (lookedOf (seenSays (kindAt l dump) added) o n (l .«data»)) m
+rows-held l k dump n e added cells held o m =
+    rows-same _ _ m (λ c h i. rw (chunk-from-held l k dump n e added cells held o c .0) (refl, refl))
