@@ -158,12 +158,11 @@ fn lookups(dump: &[u8], layout: u32, rounds: usize) {
 
 /// How many bytes a file has that is read whole.
 fn whole(library: &Objects<'_>, object: u32) -> usize {
-    let mut length = 0;
-    let read = library.contents(object, |bytes| {
-        length += black_box(bytes).len();
-        Ok(())
-    });
-    read.map_or(0, |()| length)
+    let Ok(table) = library.table(object) else {
+        return 0;
+    };
+    let pieces = library.contents(&table);
+    pieces.map(|bytes| black_box(bytes).len()).sum()
 }
 
 /// Page and valid length of a copy.
