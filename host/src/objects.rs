@@ -1,6 +1,6 @@
 //! The objects of a dump and their chunks, by an index of all its pages.
 
-use crate::ffi::{self, Answer, ChunkAnswer, KindAnswer, SizeAnswer};
+use crate::ffi::{self, Answer, ChunkAnswer, KindAnswer, SizeAnswer, TallyAnswer};
 use crate::refusal::SHORT_BUFFER;
 use crate::table::Table;
 
@@ -67,6 +67,11 @@ impl<'d> Objects<'d> {
         )?;
         ids.truncate(answer.count as usize);
         Ok(ids)
+    }
+
+    /// How many objects there are, live or not.
+    pub fn count(&self) -> TallyAnswer {
+        ffi::objects(self.dump, self.layout, self.k, &self.cells)
     }
 }
 
