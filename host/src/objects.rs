@@ -4,8 +4,10 @@ use crate::ffi::{self, Answer, ChunkAnswer, KindAnswer, SizeAnswer, TallyAnswer}
 use crate::refusal::SHORT_BUFFER;
 use crate::table::Table;
 
-/// Words that are mostly enough for a listing or a table, so that one call is.
-const SOME: usize = 4096;
+/// Words that are mostly enough for a listing and for a table, so that one call
+/// is.
+const SOME_IDS: usize = 4096;
+const SOME_ROWS: usize = 1024;
 
 /// A dump with the index of all its pages.
 pub struct Objects<'d> {
@@ -44,6 +46,7 @@ impl<'d> Objects<'d> {
     pub fn table(&self, object: u32) -> Result<Table, u32> {
         let (dump, layout, k, cells) = (self.dump, self.layout, self.k, &self.cells);
         let (answer, words) = filled(
+            SOME_ROWS,
             |words| ffi::table(dump, layout, k, cells, object, words),
             |answer| answer.need,
         )?;
@@ -62,6 +65,7 @@ impl<'d> Objects<'d> {
     pub fn list(&self) -> Result<Vec<u32>, u32> {
         let (dump, layout, k, cells) = (self.dump, self.layout, self.k, &self.cells);
         let (answer, mut ids) = filled(
+            SOME_IDS,
             |words| ffi::list(dump, layout, k, cells, words),
             |answer| answer.need,
         )?;
@@ -78,10 +82,11 @@ impl<'d> Objects<'d> {
 /// The answer of a call, and the words that it was lent to write to: some, or
 /// if those are too few as many as it needs.
 fn filled<A: Answer>(
+    some: usize,
     call: impl Fn(&mut [u32]) -> A,
     need: impl Fn(&A) -> u32,
 ) -> Result<(A, Vec<u32>), u32> {
-    let mut words = vec![0; SOME];
+    let mut words = vec![0; some];
     let mut answer = call(&mut words);
     if answer.refusal() == SHORT_BUFFER {
         words = vec![0; need(&answer) as usize];
