@@ -131,6 +131,15 @@ typedef struct {
     uint32_t count;
 } lohenarr_tally_answer;
 
+/* The size of a file and how many rows its table has. Beside ShortBuffer, need
+ * is how many words it needs. */
+typedef struct {
+    uint32_t refusal;
+    uint32_t need;
+    uint64_t size;
+    uint32_t rows;
+} lohenarr_table_answer;
+
 /* The most bytes that a dump has. */
 size_t lohenarr_most_bytes(void);
 
@@ -185,7 +194,10 @@ lohenarr_tally_answer lohenarr_dump_live(const uint8_t *dump, size_t len, uint32
 /* How many objects have records. */
 lohenarr_tally_answer lohenarr_dump_objects(const uint8_t *dump, size_t len, uint32_t layout, uint32_t k);
 
-/* An index is lent as words: at least 4 for each page and 16. Between its start
+/* How many words an index of so many pages has at least. */
+size_t lohenarr_cells(uint32_t pages);
+
+/* An index is lent as words. Between its start
  * and a lookup nobody else may write to it; whatever it holds, every call ends.
  * Every call on it is given the same dump and layout.
  *
@@ -203,6 +215,19 @@ lohenarr_place_answer lohenarr_part(const uint8_t *dump, size_t len, uint32_t la
 
 /* The ids of the live objects, written in ascending order, by an index. */
 lohenarr_list_answer lohenarr_list(const uint8_t *dump, size_t len, uint32_t layout, uint32_t k, const uint32_t *cells, size_t cells_len, uint32_t *words, size_t words_len);
+
+/* How many objects have an added record, by an index. */
+lohenarr_tally_answer lohenarr_objects(const uint8_t *dump, size_t len, uint32_t layout, uint32_t k, const uint32_t *cells, size_t cells_len);
+
+/* The chunks of a file from 1 on, by one walk over its records: a row of two
+ * words for each. The first says where the copy is: 0 for a hole, 1 where
+ * the index is damaged before a copy is met, and else the page and 2. The second
+ * is how many of its bytes are valid; behind them a chunk is zeros, up to a
+ * page's data or the file's end. Words past the rows stay as they were. */
+lohenarr_table_answer lohenarr_table(const uint8_t *dump, size_t len, uint32_t layout, uint32_t k, const uint32_t *cells, size_t cells_len, uint32_t object, uint32_t *words, size_t words_len);
+
+/* The valid bytes of the copy that a row of a table names, as a part of the dump. */
+lohenarr_place_answer lohenarr_row(const uint8_t *dump, size_t len, uint32_t layout, uint32_t place, uint32_t valid);
 
 #ifdef __cplusplus
 }

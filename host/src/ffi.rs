@@ -33,7 +33,7 @@ macro_rules! answers {
 
 answers! {
     LayoutAnswer PagesAnswer CountsAnswer KindAnswer HeaderAnswer PartAnswer SizeAnswer ChunkAnswer
-    ListAnswer TallyAnswer
+    ListAnswer TallyAnswer TableAnswer
 }
 
 /// A layout with its number in the table; beside a refusal the number is 13.
@@ -201,6 +201,17 @@ pub struct TallyAnswer {
     pub count: u32,
 }
 
+/// The size of a file and how many rows its table has. Beside ShortBuffer
+/// `need` is how many words it needs.
+#[repr(C)]
+#[derive(Clone, Copy, Debug, PartialEq, Eq)]
+pub struct TableAnswer {
+    pub refusal: u32,
+    pub need: u32,
+    pub size: u64,
+    pub rows: u32,
+}
+
 #[rustfmt::skip]
 extern "C" {
     fn lohenarr_most_bytes() -> usize;
@@ -221,6 +232,7 @@ extern "C" {
     fn lohenarr_dump_list(dump: *const u8, len: usize, layout: u32, k: u32, words: *mut u32, words_len: usize) -> ListAnswer;
     fn lohenarr_dump_live(dump: *const u8, len: usize, layout: u32, k: u32) -> TallyAnswer;
     fn lohenarr_dump_objects(dump: *const u8, len: usize, layout: u32, k: u32) -> TallyAnswer;
+    fn lohenarr_cells(pages: u32) -> usize;
     fn lohenarr_start(dump: *const u8, len: usize, layout: u32, k: u32, cells: *mut u32, cells_len: usize) -> u32;
     fn lohenarr_add(dump: *const u8, len: usize, layout: u32, k: u32, cells: *mut u32, cells_len: usize, page: u32) -> u32;
     fn lohenarr_size(dump: *const u8, len: usize, layout: u32, k: u32, cells: *const u32, cells_len: usize, object: u32) -> SizeAnswer;
@@ -228,6 +240,9 @@ extern "C" {
     fn lohenarr_read(dump: *const u8, len: usize, layout: u32, k: u32, cells: *const u32, cells_len: usize, object: u32, n: u32, buffer: *mut u8, buffer_len: usize) -> ChunkAnswer;
     fn lohenarr_part(dump: *const u8, len: usize, layout: u32, k: u32, cells: *const u32, cells_len: usize, object: u32, n: u32) -> PlaceAnswer;
     fn lohenarr_list(dump: *const u8, len: usize, layout: u32, k: u32, cells: *const u32, cells_len: usize, words: *mut u32, words_len: usize) -> ListAnswer;
+    fn lohenarr_objects(dump: *const u8, len: usize, layout: u32, k: u32, cells: *const u32, cells_len: usize) -> TallyAnswer;
+    fn lohenarr_table(dump: *const u8, len: usize, layout: u32, k: u32, cells: *const u32, cells_len: usize, object: u32, words: *mut u32, words_len: usize) -> TableAnswer;
+    fn lohenarr_row(dump: *const u8, len: usize, layout: u32, place: u32, valid: u32) -> PlaceAnswer;
 }
 
 /// The most bytes that a dump has.
@@ -329,6 +344,11 @@ pub fn dump_objects(dump: &[u8], layout: u32, k: u32) -> TallyAnswer {
     unsafe { lohenarr_dump_objects(dump.as_ptr(), dump.len(), layout, k) }
 }
 
+/// How many words an index of so many pages has.
+pub fn cells(pages: u32) -> usize {
+    unsafe { lohenarr_cells(pages) }
+}
+
 /// Makes an index empty: the number of the refusal, or 0.
 pub fn start(dump: &[u8], layout: u32, k: u32, cells: &mut [u32]) -> u32 {
     let (at, words) = (cells.as_mut_ptr(), cells.len());
@@ -372,4 +392,24 @@ pub fn list(dump: &[u8], layout: u32, k: u32, cells: &[u32], words: &mut [u32]) 
     let (at, count) = (cells.as_ptr(), cells.len());
     let (to, room) = (words.as_mut_ptr(), words.len());
     unsafe { lohenarr_list(dump.as_ptr(), dump.len(), layout, k, at, count, to, room) }
+}
+
+/// How many objects have an added record, by the index.
+pub fn objects(dump: &[u8], layout: u32, k: u32, cells: &[u32]) -> TallyAnswer {
+    let (at, words) = (cells.as_ptr(), cells.len());
+    unsafe { lohenarr_objects(dump.as_ptr(), dump.len(), layout, k, at, words) }
+}
+
+/// The chunks of a file, two words for each, by the index.
+#[rustfmt::skip]
+pub fn table(dump: &[u8], layout: u32, k: u32, cells: &[u32], object: u32, words: &mut [u32]) -> TableAnswer {
+    let (at, count) = (cells.as_ptr(), cells.len());
+    let (to, room) = (words.as_mut_ptr(), words.len());
+    unsafe { lohenarr_table(dump.as_ptr(), dump.len(), layout, k, at, count, object, to, room) }
+}
+
+/// The valid bytes of the copy that a row of a table names, as a part of the
+/// dump.
+pub fn row(dump: &[u8], layout: u32, place: u32, valid: u32) -> PlaceAnswer {
+    unsafe { lohenarr_row(dump.as_ptr(), dump.len(), layout, place, valid) }
 }

@@ -8,6 +8,7 @@
 //! - `refusal`: the names of the refusals, and what each means.
 //! - `failure`: why a command ends without its answer.
 //! - `objects`: the objects of a dump and their chunks, as the commands ask for them.
+//! - `table`: the chunks of a file and its bytes.
 //! - `commands`: a file for each command.
 //! - `script`: the requests of a script and their answers.
 //! - `crc`: CRC-32, by which a script's answers show bytes.
@@ -21,3 +22,4 @@ pub mod map;
 pub mod objects;
 pub mod refusal;
 pub mod script;
+pub mod table;

@@ -1,17 +1,13 @@
 //! The objects of a dump and their chunks, by an index of all its pages.
 
-use std::io;
-
-use crate::ffi::{self, Answer as _, ChunkAnswer, KindAnswer, ListAnswer, SizeAnswer};
+use crate::ffi::{self, Answer, ChunkAnswer, KindAnswer, SizeAnswer, TallyAnswer};
 use crate::refusal::SHORT_BUFFER;
+use crate::table::Table;
 
-/// How many words an index has for each page, and how many besides. With
-/// fewer the library refuses the start.
-const PER_PAGE: usize = 4;
-const SHARED: usize = 16;
-
-/// Room for the ids that a dump mostly has, so that one listing is enough.
-const SOME: usize = 4096;
+/// Words that are mostly enough for a listing and for a table, so that one call
+/// is.
+const SOME_IDS: usize = 4096;
+const SOME_ROWS: usize = 1024;
 
 /// A dump with the index of all its pages.
 pub struct Objects<'d> {
@@ -25,7 +21,7 @@ impl<'d> Objects<'d> {
     /// Makes the index, or gives the number of the refusal.
     pub fn of(dump: &'d [u8], layout: u32, k: u32) -> Result<Objects<'d>, u32> {
         let pages = ffi::pages(dump, layout, k).given()?.pages;
-        let mut cells = vec![0; PER_PAGE * pages as usize + SHARED];
+        let mut cells = vec![0; ffi::cells(pages)];
         done(ffi::start(dump, layout, k, &mut cells))?;
         for page in by_sequence(dump, layout, k, pages) {
             done(ffi::add(dump, layout, k, &mut cells, page))?;
@@ -46,47 +42,57 @@ impl<'d> Objects<'d> {
         ffi::chunk(self.dump, self.layout, self.k, &self.cells, object, n)
     }
 
-    /// The chunks of a live file with their numbers, from 1 on, until one is
-    /// refused: past the end, or beyond the last number that a chunk has.
-    pub fn chunks(&self, object: u32) -> impl Iterator<Item = (u32, ChunkAnswer)> + '_ {
-        let all = (1..).map(move |n| (n, self.chunk(object, n)));
-        all.take_while(|(_, chunk)| chunk.refusal == 0)
+    /// The table of a live file, or the number of the refusal.
+    pub fn table(&self, object: u32) -> Result<Table, u32> {
+        let (dump, layout, k, cells) = (self.dump, self.layout, self.k, &self.cells);
+        let (answer, words) = filled(
+            SOME_ROWS,
+            |words| ffi::table(dump, layout, k, cells, object, words),
+            |answer| answer.need,
+        )?;
+        Table::of(answer, words)
     }
 
-    /// Hands on the bytes of a live file chunk by chunk: of each the valid
-    /// ones, then zeros up to the shown length. It ends as `chunks` does.
-    pub fn contents(
-        &self,
-        object: u32,
-        mut hand_on: impl FnMut(&[u8]) -> io::Result<()>,
-    ) -> io::Result<()> {
-        let (dump, layout, k, cells) = (self.dump, self.layout, self.k, &self.cells);
-        let mut buffer = vec![0; ffi::layout(layout).data as usize];
-        for n in 1.. {
-            let chunk = ffi::read(dump, layout, k, cells, object, n, &mut buffer);
-            if chunk.refusal != 0 {
-                break;
-            }
-            hand_on(&buffer[..chunk.shown as usize])?;
-        }
-        Ok(())
+    /// The bytes of a live file, in pieces.
+    pub fn contents<'t>(&self, table: &'t Table) -> impl Iterator<Item = &'t [u8]>
+    where
+        'd: 't,
+    {
+        table.pieces(self.dump, self.layout)
     }
 
     /// The ids of the live objects, ascending, or the number of the refusal.
     pub fn list(&self) -> Result<Vec<u32>, u32> {
-        let mut ids = vec![0; SOME];
-        let mut answer = self.list_into(&mut ids);
-        if answer.refusal == SHORT_BUFFER {
-            ids.resize(answer.need as usize, 0);
-            answer = self.list_into(&mut ids);
-        }
-        ids.truncate(answer.given()?.count as usize);
+        let (dump, layout, k, cells) = (self.dump, self.layout, self.k, &self.cells);
+        let (answer, mut ids) = filled(
+            SOME_IDS,
+            |words| ffi::list(dump, layout, k, cells, words),
+            |answer| answer.need,
+        )?;
+        ids.truncate(answer.count as usize);
         Ok(ids)
     }
 
-    fn list_into(&self, words: &mut [u32]) -> ListAnswer {
-        ffi::list(self.dump, self.layout, self.k, &self.cells, words)
+    /// How many objects there are, live or not.
+    pub fn count(&self) -> TallyAnswer {
+        ffi::objects(self.dump, self.layout, self.k, &self.cells)
     }
+}
+
+/// The answer of a call, and the words that it was lent to write to: some, or
+/// if those are too few as many as it needs.
+fn filled<A: Answer>(
+    some: usize,
+    call: impl Fn(&mut [u32]) -> A,
+    need: impl Fn(&A) -> u32,
+) -> Result<(A, Vec<u32>), u32> {
+    let mut words = vec![0; some];
+    let mut answer = call(&mut words);
+    if answer.refusal() == SHORT_BUFFER {
+        words = vec![0; need(&answer) as usize];
+        answer = call(&mut words);
+    }
+    Ok((answer.given()?, words))
 }
 
 /// What was done, or the number of the refusal.
@@ -109,4 +115,24 @@ fn by_sequence(dump: &[u8], layout: u32, k: u32, pages: u32) -> impl Iterator<It
     blocks
         .into_iter()
         .flat_map(move |(_, number)| block(number))
+}
+
+#[cfg(test)]
+mod tests {
+    use super::*;
+    use crate::refusal::INDEX_DAMAGED;
+
+    /// The link below the newest header of W's file leads outside: the size is
+    /// known, and the table is refused.
+    #[test]
+    fn a_table_of_damaged_cells_is_refused() {
+        let dump = include_bytes!("../tests/data/W");
+        let mut objects = Objects::of(dump, 6, 4).unwrap();
+        let chunks = |objects: &Objects| objects.table(257).map(|table| table.rows().count());
+        assert_eq!(chunks(&objects), Ok(3));
+        let link_of_page_4 = ffi::cells(4);
+        objects.cells[link_of_page_4] = u32::MAX;
+        assert_eq!(objects.size(257).size, 1034);
+        assert_eq!(chunks(&objects), Err(INDEX_DAMAGED));
+    }
 }

@@ -23,9 +23,10 @@ const NAMES: [&str; 16] = [
     "NotHeader",
 ];
 
-/// Refusals that a command acts on.
+/// Refusals that a command acts on or gives.
 pub const NOT_A_FILE: u32 = 9;
 pub const SHORT_BUFFER: u32 = 11;
+pub const INDEX_DAMAGED: u32 = 13;
 
 /// The name of a refusal.
 pub fn name(refusal: u32) -> &'static str {

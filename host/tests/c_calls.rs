@@ -45,6 +45,8 @@ fn places() -> String {
         ("place_answer.length", offset_of!(PlaceAnswer, length)),
         ("list_answer.count", offset_of!(ListAnswer, count)),
         ("tally_answer.count", offset_of!(TallyAnswer, count)),
+        ("table_answer.size", offset_of!(TableAnswer, size)),
+        ("table_answer.rows", offset_of!(TableAnswer, rows)),
     ];
     let lines = fields.map(|(field, offset)| format!("lohenarr_{field} {offset}\n"));
     let sizes = [
@@ -59,6 +61,7 @@ fn places() -> String {
         size_of::<PlaceAnswer>(),
         size_of::<ListAnswer>(),
         size_of::<TallyAnswer>(),
+        size_of::<TableAnswer>(),
     ];
     let sizes = sizes.map(|size| format!(" {size}"));
     format!("{}sizes{}\n", lines.concat(), sizes.concat())
@@ -74,6 +77,7 @@ name 0: 1594+256
 refused 14
 size 0: 1034, visits 3
 live 0: 1, 257 7
+cells 48
 start 0
 add 0
 add 0
@@ -85,6 +89,10 @@ add 0
 read 0: copy 1 page 1 valid 300 shown 512, visits 5
 read 11: need 512
 part 528+300
+objects 0: 1
+table 11: need 6, 7
+table 0: size 1034, rows 3: 3 300 0 0 8 10 7
+row 3168+10
 ";
     let shelf = File::open(Path::new(HOST).join("tests/data/W")).unwrap();
     let output = Command::new(compiled()).stdin(shelf).output().unwrap();

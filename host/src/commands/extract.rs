@@ -5,8 +5,8 @@ use std::io::Write;
 use super::Opened;
 use crate::arguments::Typed;
 use crate::failure::Failure;
-use crate::objects::Objects;
 use crate::refusal::NOT_A_FILE;
+use crate::table::Table;
 
 pub fn extract(
     opened: &Opened,
@@ -15,25 +15,25 @@ pub fn extract(
 ) -> Result<(), Failure> {
     let (objects, asked) = opened.objects()?;
     if let Some(object) = object {
-        opened.given(objects.size(object.number), asked.of(object))?;
-        return copies(&objects, object.number, out);
+        let table = opened.done(objects.table(object.number), asked.of(object))?;
+        return copies(&table, object.number, out);
     }
     for object in opened.done(objects.list(), asked)? {
-        let size = objects.size(object);
-        if size.refusal == NOT_A_FILE {
+        let table = objects.table(object);
+        if table.as_ref().is_err_and(|&refusal| refusal == NOT_A_FILE) {
             continue;
         }
-        opened.given(size, asked.of(&object.into()))?;
-        copies(&objects, object, out)?;
+        let table = opened.done(table, asked.of(&object.into()))?;
+        copies(&table, object, out)?;
     }
     Ok(())
 }
 
 /// The four lines of each shown copy of a live file.
-fn copies(objects: &Objects<'_>, object: u32, out: &mut impl Write) -> Result<(), Failure> {
-    for (n, chunk) in objects.chunks(object) {
-        if let Some(page) = chunk.page() {
-            let valid = chunk.valid;
+fn copies(table: &Table, object: u32, out: &mut impl Write) -> Result<(), Failure> {
+    for row in table.rows() {
+        if let Some(page) = row.page() {
+            let (n, valid) = (row.n, row.valid);
             writeln!(
                 out,
                 "object={object}\nchunk={n}\npage={page}\nvalid={valid}"

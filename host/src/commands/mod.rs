@@ -135,7 +135,14 @@ impl Opened {
 
     /// The objects, and what is asked of this dump.
     pub fn objects(&self) -> Result<(Objects<'_>, Asked<'_>), Failure> {
-        let layout = self.layout()?;
+        self.objects_of(self.layout()?)
+    }
+
+    /// The same under a layout.
+    pub fn objects_of(
+        &self,
+        layout: ffi::LayoutAnswer,
+    ) -> Result<(Objects<'_>, Asked<'_>), Failure> {
         let asked = self.asked_of(layout);
         let objects = Objects::of(&self.dump, layout.number, self.block.number);
         Ok((self.done(objects, asked)?, asked))

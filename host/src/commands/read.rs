@@ -2,12 +2,14 @@
 
 use std::ffi::OsStr;
 use std::fs::{self, File};
-use std::io::{self, BufWriter, IsTerminal, Write};
+use std::io::{self, ErrorKind, IoSlice, IsTerminal, Write};
 
 use super::Opened;
 use crate::arguments::Typed;
 use crate::failure::Failure;
-use crate::objects::Objects;
+
+/// How many pieces are handed to the system at once: no more than it takes.
+const AT_ONCE: usize = 1024;
 
 pub fn read(
     opened: &Opened,
@@ -16,18 +18,15 @@ pub fn read(
     out: &mut impl Write,
 ) -> Result<(), Failure> {
     let (objects, asked) = opened.objects()?;
-    let asked = asked.of(object);
-    let object = object.number;
-    let size = opened.given(objects.size(object), asked)?.size;
+    let table = opened.done(objects.table(object.number), asked.of(object))?;
+    let pieces = objects.contents(&table);
     let Some(name) = name else {
-        return Ok(copy(&objects, object, size, out, |_| ())?);
+        return Ok(write_all(pieces, out, |_| ())?);
     };
     let unwritten = |error| Failure::File(format!("cannot write {}: {error}", name.display()));
-    let file = File::create_new(name).map_err(unwritten)?;
-    let mut file = BufWriter::new(file);
-    let mut progress = Progress::new(size);
-    let written = copy(&objects, object, size, &mut file, |n| progress.show(n));
-    let written = written.and_then(|()| file.flush());
+    let mut file = File::create_new(name).map_err(unwritten)?;
+    let mut progress = Progress::new(table.size);
+    let written = write_all(pieces, &mut file, |n| progress.show(n));
     progress.end();
     if written.is_err() {
         let _ = fs::remove_file(name);
@@ -35,33 +34,34 @@ pub fn read(
     written.map_err(unwritten)
 }
 
-/// Writes the file's bytes. Where chunks have no numbers any more there is no
-/// copy, and zeros follow up to the size.
-fn copy(
-    objects: &Objects<'_>,
-    object: u32,
-    size: u64,
+/// Writes pieces that are not empty as they stand, many at once, and says how
+/// many bytes are written.
+fn write_all<'p>(
+    mut pieces: impl Iterator<Item = &'p [u8]>,
     out: &mut impl Write,
     mut written: impl FnMut(u64),
 ) -> io::Result<()> {
     let mut done = 0;
-    objects.contents(object, |bytes| {
-        out.write_all(bytes)?;
-        done += bytes.len() as u64;
+    loop {
+        let batch = pieces.by_ref().take(AT_ONCE).map(IoSlice::new);
+        let mut batch: Vec<_> = batch.collect();
+        let mut left = &mut batch[..];
+        if left.is_empty() {
+            return Ok(());
+        }
+        while !left.is_empty() {
+            match out.write_vectored(left) {
+                Ok(0) => return Err(ErrorKind::WriteZero.into()),
+                Ok(count) => {
+                    done += count as u64;
+                    IoSlice::advance_slices(&mut left, count);
+                }
+                Err(error) if error.kind() == ErrorKind::Interrupted => {}
+                Err(error) => return Err(error),
+            }
+        }
         written(done);
-        Ok(())
-    })?;
-    zeros(size - done, out)
-}
-
-fn zeros(mut count: u64, out: &mut impl Write) -> io::Result<()> {
-    static ZEROS: [u8; 1 << 16] = [0; 1 << 16];
-    while count > 0 {
-        let now = count.min(ZEROS.len() as u64);
-        out.write_all(&ZEROS[..now as usize])?;
-        count -= now;
     }
-    Ok(())
 }
 
 /// How much of a file is written, on standard error where that is a terminal.

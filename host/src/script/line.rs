@@ -1,7 +1,9 @@
 //! Answers as lines.
 
 use crate::crc::crc32;
-use crate::ffi::{ChunkAnswer, CountsAnswer, ListAnswer, PlaceAnswer, SizeAnswer};
+use crate::ffi::{
+    ChunkAnswer, CountsAnswer, ListAnswer, PlaceAnswer, SizeAnswer, TableAnswer, TallyAnswer,
+};
 use crate::refusal::SHORT_BUFFER;
 
 /// A refusal with its visits; with the length needed if a buffer was too short.
@@ -71,4 +73,23 @@ pub fn list(answer: ListAnswer, words: &[u32]) -> String {
     let ids = words.iter().take(answer.count as usize);
     let ids: Vec<String> = ids.map(u32::to_string).collect();
     format!("ids={} words={}", ids.join(","), words.len())
+}
+
+pub fn objects(answer: TallyAnswer) -> String {
+    match answer.refusal {
+        0 => format!("objects={}", answer.count),
+        number => done(number),
+    }
+}
+
+/// The rows that were written in front of the words, and how many words were
+/// lent.
+pub fn table(answer: TableAnswer, words: &[u32]) -> String {
+    if answer.refusal != 0 {
+        return refused(answer.refusal, 0, answer.need);
+    }
+    let rows = words.chunks_exact(2).take(answer.rows as usize);
+    let rows: Vec<String> = rows.map(|row| format!("{}:{}", row[0], row[1])).collect();
+    let (size, length) = (answer.size, words.len());
+    format!("size={size} rows={} words={length}", rows.join(","))
 }

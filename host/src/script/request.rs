@@ -41,13 +41,16 @@ pub enum Request {
     Read { over: Over, object: u32, n: u32, length: usize },
     Part { over: Over, object: u32, n: u32 },
     List { over: Over, length: usize },
+    Objects { over: Over },
+    Table { lent: Lent, object: u32, length: usize },
+    Row { layout: u32, place: u32, valid: u32 },
     Fill { word: u32 },
     Poke { at: usize, word: u32 },
     Peek { at: usize },
 }
 
 impl Request {
-    /// How many words the request names, for the index or for a list.
+    /// How many words the request names, for the index, a list or a table.
     pub fn words(&self) -> Option<usize> {
         let over = |over: Over| match over {
             Over::Index(lent) => lent.words,
@@ -59,8 +62,10 @@ impl Request {
             Request::Size { over: o, .. }
             | Request::Chunk { over: o, .. }
             | Request::Read { over: o, .. }
-            | Request::Part { over: o, .. } => over(o),
+            | Request::Part { over: o, .. }
+            | Request::Objects { over: o } => over(o),
             Request::List { over: o, length } => over(o).max(Some(length)),
+            Request::Table { lent, length, .. } => lent.words.max(Some(length)),
             _ => None,
         }
     }
@@ -127,11 +132,26 @@ impl Words<'_> {
             "peek" => Request::Peek {
                 at: self.length("I")?,
             },
-            "dsize" | "dchunk" | "dread" | "dpart" | "dlist" => {
+            "table" => {
+                let lent = self.lent()?;
+                let object = self.number("OBJ")?;
+                let length = self.length("WORDS")?;
+                Request::Table {
+                    lent,
+                    object,
+                    length,
+                }
+            }
+            "row" => Request::Row {
+                layout: self.next("L", layout)?,
+                place: self.number("PLACE")?,
+                valid: self.number("VALID")?,
+            },
+            "dsize" | "dchunk" | "dread" | "dpart" | "dlist" | "dobjects" => {
                 let over = Over::Dump(self.on()?);
                 self.lookup(&name[1..], over)?
             }
-            "size" | "chunk" | "read" | "part" | "list" => {
+            "size" | "chunk" | "read" | "part" | "list" | "objects" => {
                 let over = Over::Index(self.lent()?);
                 self.lookup(name, over)?
             }
@@ -140,6 +160,9 @@ impl Words<'_> {
     }
 
     fn lookup(&mut self, name: &str, over: Over) -> Result<Request, String> {
+        if name == "objects" {
+            return Ok(Request::Objects { over });
+        }
         if name == "list" {
             let length = self.length("WORDS")?;
             return Ok(Request::List { over, length });
@@ -246,6 +269,31 @@ mod tests {
                 },
             ),
             ("poke 1 0xFFFFFFFF", Request::Poke { at: 1, word: !0 }),
+            (
+                "dobjects 6 4",
+                Request::Objects {
+                    over: Over::Dump(on),
+                },
+            ),
+            (
+                "table 257 6 words=48",
+                Request::Table {
+                    lent: Lent {
+                        words: Some(48),
+                        ..Lent::default()
+                    },
+                    object: 257,
+                    length: 6,
+                },
+            ),
+            (
+                "row 512/16/0 8 10",
+                Request::Row {
+                    layout: 6,
+                    place: 8,
+                    valid: 10,
+                },
+            ),
         ];
         for (line, expected) in lines {
             assert_eq!(request(line), Ok(Some(expected)), "{line}");
@@ -263,6 +311,8 @@ mod tests {
             ("size 257 j=4", "there is no option j="),
             ("dsize 6 4 257 k=4", "dsize does not take k=4"),
             ("pages 512/16 4", "L cannot be 512/16"),
+            ("table 257", "WORDS is missing"),
+            ("objects 257", "objects does not take 257"),
             ("fill 0x100000000", "X cannot be 0x100000000"),
             ("size 257 k=", "k cannot be "),
         ];

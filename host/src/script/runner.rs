@@ -74,6 +74,20 @@ impl<'d> Runner<'d> {
                 answer.words = filled(length, WORD)?;
                 self.list(over, &mut answer.words)
             }
+            Request::Objects { over } => self.objects(over),
+            Request::Table {
+                lent,
+                object,
+                length,
+            } => {
+                answer.words = filled(length, WORD)?;
+                self.table(lent, object, &mut answer.words)
+            }
+            Request::Row {
+                layout,
+                place,
+                valid,
+            } => line::part(ffi::row(self.dump, layout, place, valid), self.dump),
             _ => self.whole(request),
         };
         Ok(answer)
@@ -177,6 +191,23 @@ impl<'d> Runner<'d> {
             }
         };
         line::list(answer, words)
+    }
+
+    fn objects(&self, over: Over) -> String {
+        line::objects(match over {
+            Over::Dump(on) => ffi::dump_objects(self.dump, on.layout, on.k),
+            Over::Index(lent) => {
+                let (on, words) = self.given(lent);
+                ffi::objects(self.dump, on.layout, on.k, &self.index[..words])
+            }
+        })
+    }
+
+    fn table(&self, lent: Lent, object: u32, words: &mut [u32]) -> String {
+        let (on, count) = self.given(lent);
+        let cells = &self.index[..count];
+        let answer = ffi::table(self.dump, on.layout, on.k, cells, object, words);
+        line::table(answer, words)
     }
 
     /// A word of the index memory.

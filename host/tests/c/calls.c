@@ -8,6 +8,7 @@
 static uint8_t dump[65536];
 static uint8_t buffer[512];
 static uint32_t cells[48];
+static uint32_t table[7] = {7, 7, 7, 7, 7, 7, 7};
 
 int main(void) {
     size_t len = fread(dump, 1, sizeof dump, stdin);
@@ -26,6 +27,7 @@ int main(void) {
     uint32_t ids[2] = {0, 7};
     lohenarr_list_answer live = lohenarr_dump_list(dump, len, found.number, 4, ids, 2);
     printf("live %u: %u, %u %u\n", live.refusal, live.count, ids[0], ids[1]);
+    printf("cells %zu\n", lohenarr_cells(8));
     printf("start %u\n", lohenarr_start(dump, len, found.number, 4, cells, 48));
     for (uint32_t page = 0; page < 8; page++)
         if (page != 5)
@@ -37,6 +39,16 @@ int main(void) {
     printf("read %u: need %u\n", chunk.refusal, chunk.need);
     lohenarr_place_answer part = lohenarr_part(dump, len, found.number, 4, cells, 48, 257, 1);
     printf("part %zu+%zu\n", part.offset, part.length);
+    lohenarr_tally_answer objects = lohenarr_objects(dump, len, found.number, 4, cells, 48);
+    printf("objects %u: %u\n", objects.refusal, objects.count);
+    lohenarr_table_answer rows = lohenarr_table(dump, len, found.number, 4, cells, 48, 257, table, 5);
+    printf("table %u: need %u, %u\n", rows.refusal, rows.need, table[0]);
+    rows = lohenarr_table(dump, len, found.number, 4, cells, 48, 257, table, 7);
+    printf("table %u: size %llu, rows %u:", rows.refusal, (unsigned long long)rows.size, rows.rows);
+    for (int i = 0; i < 7; i++)
+        printf(" %u", table[i]);
+    part = lohenarr_row(dump, len, found.number, table[4], table[5]);
+    printf("\nrow %zu+%zu\n", part.offset, part.length);
     FIELD(lohenarr_layout_answer, tag);
     FIELD(lohenarr_kind_answer, count);
     FIELD(lohenarr_header_answer, rdev);
@@ -48,9 +60,12 @@ int main(void) {
     FIELD(lohenarr_place_answer, length);
     FIELD(lohenarr_list_answer, count);
     FIELD(lohenarr_tally_answer, count);
-    printf("sizes %zu %zu %zu %zu %zu %zu %zu %zu %zu %zu %zu\n", sizeof(lohenarr_layout_answer), sizeof(lohenarr_pages_answer),
+    FIELD(lohenarr_table_answer, size);
+    FIELD(lohenarr_table_answer, rows);
+    printf("sizes %zu %zu %zu %zu %zu %zu %zu %zu %zu %zu %zu %zu\n", sizeof(lohenarr_layout_answer), sizeof(lohenarr_pages_answer),
            sizeof(lohenarr_counts_answer), sizeof(lohenarr_kind_answer), sizeof(lohenarr_header_answer),
            sizeof(lohenarr_part_answer), sizeof(lohenarr_size_answer), sizeof(lohenarr_chunk_answer),
-           sizeof(lohenarr_place_answer), sizeof(lohenarr_list_answer), sizeof(lohenarr_tally_answer));
+           sizeof(lohenarr_place_answer), sizeof(lohenarr_list_answer), sizeof(lohenarr_tally_answer),
+           sizeof(lohenarr_table_answer));
     return 0;
 }

@@ -17,6 +17,8 @@ mod second;
 
 use std::env;
 
+use lohenarr::ffi;
+
 use generator::case;
 use library::Library;
 use second::wrong::Wrong;
@@ -43,6 +45,13 @@ fn the_library_and_the_second_reader_agree() {
     }
     println!("{answers} answers on {seeds} dumps");
     assert!(answers > 50 * seeds, "too few answers to compare");
+}
+
+#[test]
+fn an_index_has_the_words_it_needs() {
+    for pages in [0, 1, 8, 2_033_601, u32::MAX] {
+        assert_eq!(ffi::cells(pages), second::cells::need(pages as usize));
+    }
 }
 
 #[test]

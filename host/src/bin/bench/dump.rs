@@ -12,8 +12,7 @@ const BLOCK: usize = super::BLOCK as usize * PAGE;
 /// The id of the long file; those of the short ones follow.
 pub const LONG: u32 = 257;
 pub const SHORT: u32 = 1000;
-/// The long file's chunks on a dump that has room for them: each is found by a
-/// walk from the newest record, so that a read of all grows with their square.
+/// The long file's chunks on a dump that has room for them.
 const LONG_CHUNKS: u32 = 50_000;
 
 /// So many blocks from the first on have sound pages alone: by these the

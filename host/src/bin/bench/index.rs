@@ -1,9 +1,10 @@
-//! The same index in plain Rust: chains, sizes, chunks, the live list and whole
-//! files.
-
-use std::hint::black_box;
+//! The same index in plain Rust: chains, sizes, chunks, tables, the live list
+//! and whole files.
 
 use super::plain::{bad_type, claim_of, word, Claim, LAYOUTS};
+
+/// The last number that a chunk has.
+const LAST_CHUNK: u64 = 0xF_FFFF;
 
 /// A place behind every file's end.
 const NOWHERE: u64 = u64::MAX;
@@ -148,12 +149,6 @@ impl<'d> Index<'d> {
             }
         }
         let (page, cut) = copy?;
-        self.shown(page, n, cut)
-    }
-
-    /// Page and valid length of a copy of chunk n, unless it is hidden by the
-    /// lowest cut of newer headers.
-    fn shown(&self, page: usize, n: u32, cut: u64) -> Option<(u32, u32)> {
         let count = u64::from(word(self.tags(page), 12));
         let valid = count.min(cut.saturating_sub(self.end(n, 0)));
         (valid > 0).then_some((page as u32, valid as u32))
@@ -178,44 +173,63 @@ impl<'d> Index<'d> {
         false
     }
 
-    /// How many bytes a live file has that is read whole, chunk by chunk.
-    pub fn whole(&self, object: u32) -> usize {
-        self.contents(object, |n| self.chunk(object, n))
+    /// How many objects have a record. The links met are those of a listing.
+    pub fn objects(&self) -> u32 {
+        let keys = (0..self.pages).map(|slot| self.cells[4 * slot + KEY]);
+        let mut count = 0;
+        for object in keys.filter(|&key| key != 0) {
+            let mut walk = self.walk(object, self.slot(object));
+            let Some((_, mut chunk)) = walk.next(self) else {
+                continue;
+            };
+            count += 1;
+            while chunk != 0 {
+                chunk = walk.next(self).map_or(0, |(_, chunk)| chunk);
+            }
+        }
+        count
     }
 
-    /// The same by one walk: of each chunk the first copy met.
-    pub fn whole_by_one_walk(&self, object: u32) -> usize {
-        let size = self.size(object).unwrap_or(0) as usize;
-        let mut copies = vec![None; size.div_ceil(self.data)];
+    /// The size of a live file and a row for each chunk: page and valid length
+    /// of the copy, of which a hole has 0. One walk notes of each chunk the
+    /// first copy met that no newer header hides.
+    pub fn table(&self, object: u32) -> Option<(u64, Vec<(u32, u32)>)> {
+        let size = self.size(object)?;
+        let chunks = size.div_ceil(self.data as u64).min(LAST_CHUNK);
+        let mut rows = vec![(0, 0); chunks as usize];
         let (mut newest, mut cut) = (true, NOWHERE);
         let mut walk = self.walk(object, self.slot(object));
         while let Some((page, chunk)) = walk.next(self) {
             if chunk == 0 {
                 cut = cut.min(self.cut(page, newest));
                 newest = false;
-            } else if let Some(copy @ None) = copies.get_mut(chunk as usize - 1) {
-                *copy = Some((page, cut));
+                continue;
+            }
+            let row = rows.get_mut(chunk as usize - 1);
+            if let Some(row) = row.filter(|row| row.1 == 0) {
+                let left = cut.min(size).saturating_sub(self.end(chunk, 0));
+                let count = word(self.tags(page), 12);
+                *row = (page as u32, left.min(u64::from(count)) as u32);
             }
         }
-        self.contents(object, |n| {
-            let (page, cut) = copies[n as usize - 1]?;
-            self.shown(page, n, cut)
-        })
+        Some((size, rows))
     }
 
-    /// How many bytes a live file has, each put into a buffer from the copies.
-    fn contents(&self, object: u32, copy: impl Fn(u32) -> Option<(u32, u32)>) -> usize {
-        let size = self.size(object).unwrap_or(0) as usize;
-        let mut buffer = vec![0; self.data];
-        for n in 1..=size.div_ceil(self.data) {
-            let shown = self.data.min(size - (n - 1) * self.data);
-            let (page, valid) = copy(n as u32).unwrap_or((0, 0));
-            let valid = shown.min(valid as usize);
-            buffer[..valid].copy_from_slice(&self.page(page as usize)[..valid]);
-            buffer[valid..shown].fill(0);
-            black_box(&buffer);
+    /// Hands on the bytes of a live file by its table: of each chunk the valid
+    /// ones as they stand in the dump, then zeros.
+    pub fn contents(&self, object: u32, mut hand_on: impl FnMut(&[u8])) {
+        let Some((size, rows)) = self.table(object) else {
+            return;
+        };
+        let zeros = vec![0; self.data];
+        let mut left = size;
+        for (page, valid) in rows {
+            let shown = self.data.min(left as usize);
+            let valid = valid as usize;
+            hand_on(&self.page(page as usize)[..valid]);
+            hand_on(&zeros[valid..shown]);
+            left -= shown as u64;
         }
-        size
     }
 
     /// Where a header cuts.

@@ -7,9 +7,12 @@
 //! and read once before anything is timed. The two take turns, each going
 //! first every other time. Shown are best and median of each, the ratio of the
 //! bests, and the median of the ratios of neighbouring turns. `touch` reads
-//! one word of each page: the least that a scan costs. `read` is every short
-//! file and `long` the long one, both chunk by chunk; `one walk` is the long
-//! one by a single walk down its chain, as only plain Rust can for now.
+//! one word of each page: the least that a scan costs.
+//!
+//! Plain Rust has the same index words, filled in the same order, and tries
+//! each link that it meets. `table` is the rows of the long file, by one walk on
+//! both sides; `read` is every short file and `long` the long one, each by its
+//! table, and both sides copy each piece of the dump to the same buffer.
 
 mod dump;
 mod index;
@@ -17,6 +20,7 @@ mod plain;
 mod sleuthkit;
 mod timing;
 
+use std::cell::RefCell;
 use std::env;
 use std::fs;
 use std::hint::black_box;
@@ -40,7 +44,8 @@ fn main() -> ExitCode {
         eprintln!("usage: bench [MIB, at most 1024] [ROUNDS]");
         return ExitCode::from(2);
     };
-    let file = Temporary::new();
+    let file = Temporary::new("dump");
+    let out = Temporary::new("out");
     if let Err(error) = dump::write(&file.0, mib) {
         eprintln!("cannot write {}: {error}", file.0.display());
         return ExitCode::from(2);
@@ -48,7 +53,7 @@ fn main() -> ExitCode {
     match Dump::open(file.0.as_os_str(), false) {
         Ok(dump) => {
             measure(&dump, rounds);
-            sleuthkit::compare(&file.0, &[LONG + 1, LONG]);
+            sleuthkit::compare(&file.0, &out.0, &[LONG + 1, LONG]);
         }
         Err(error) => {
             eprintln!("cannot read {}: {error}", file.0.display());
@@ -129,23 +134,12 @@ fn lookups(dump: &[u8], layout: u32, rounds: usize) {
     );
     timing::compare("list", rounds, || library.list(), || Ok(plain.list()));
     timing::compare(
-        "read",
+        "objects",
         rounds,
-        || {
-            files()
-                .skip(1)
-                .map(|object| whole(&library, object))
-                .sum::<usize>()
-        },
-        || files().skip(1).map(|object| plain.whole(object)).sum(),
+        || library.count().count,
+        || plain.objects(),
     );
-    timing::compare(
-        "long",
-        rounds,
-        || whole(&library, LONG),
-        || plain.whole(LONG),
-    );
-    timing::alone("one walk", rounds, || plain.whole_by_one_walk(LONG));
+    contents(&library, &plain, rounds);
     println!("files: the long one has {} bytes", library.size(LONG).size);
     let pages = ffi::pages(dump, layout, BLOCK).pages;
     println!(
@@ -154,16 +148,48 @@ fn lookups(dump: &[u8], layout: u32, rounds: usize) {
         memory("VmHWM"),
         memory("RssFile")
     );
+    for object in files() {
+        let (mut one, mut other) = (Vec::new(), Vec::new());
+        read(&library, object, |piece| one.extend_from_slice(piece));
+        plain.contents(object, |piece| other.extend_from_slice(piece));
+        assert!(one == other, "object {object}: the two differ");
+    }
 }
 
-/// How many bytes a file has that is read whole.
-fn whole(library: &Objects<'_>, object: u32) -> usize {
-    let mut length = 0;
-    let read = library.contents(object, |bytes| {
-        length += black_box(bytes).len();
-        Ok(())
-    });
-    read.map_or(0, |()| length)
+/// Tables, and files read whole.
+fn contents(library: &Objects<'_>, plain: &Index<'_>, rounds: usize) {
+    let short = || LONG + 1..LONG + dump::SHORT;
+    timing::compare(
+        "table",
+        rounds,
+        || library.table(LONG).ok().map(|table| table.size),
+        || plain.table(LONG).map(|(size, _)| size),
+    );
+    let buffer = RefCell::new(vec![0; 1 << 16]);
+    let put = |piece: &[u8]| {
+        let mut buffer = buffer.borrow_mut();
+        buffer[..piece.len()].copy_from_slice(piece);
+        black_box(&buffer);
+    };
+    timing::compare(
+        "read",
+        rounds,
+        || short().for_each(|object| read(library, object, put)),
+        || short().for_each(|object| plain.contents(object, put)),
+    );
+    timing::compare(
+        "long",
+        rounds,
+        || read(library, LONG, put),
+        || plain.contents(LONG, put),
+    );
+}
+
+/// Hands on the pieces of a live file.
+fn read(library: &Objects<'_>, object: u32, hand_on: impl FnMut(&[u8])) {
+    if let Ok(table) = library.table(object) {
+        library.contents(&table).for_each(hand_on);
+    }
 }
 
 /// Page and valid length of a copy.
@@ -185,8 +211,8 @@ fn memory(name: &str) -> u64 {
 struct Temporary(PathBuf);
 
 impl Temporary {
-    fn new() -> Temporary {
-        Temporary(env::temp_dir().join(format!("lohenarr-bench-{}", process::id())))
+    fn new(name: &str) -> Temporary {
+        Temporary(env::temp_dir().join(format!("lohenarr-bench-{}-{name}", process::id())))
     }
 }
 

@@ -3,11 +3,14 @@
 
 use super::dump::Dump;
 use super::rng::Rng;
-use crate::second::index::Lent;
+use crate::second::index::{Lent, Over, Reader};
 use crate::second::layout::{opened, table, Layout, Named};
 use crate::second::page::{LAST_CHUNK, LAST_OBJECT};
 use crate::second::script::Request;
 use crate::second::wrong::Wrong;
+
+/// Tables of so many words are not asked for, but for a refusal.
+const MANY: u64 = 128;
 
 /// Beyond 32 bits: a number that must not be cut down to one in range.
 const WIDE: u64 = 1 << 32;
@@ -136,6 +139,39 @@ impl Asker<'_> {
             _ => data + self.rng.below(40),
         };
         length as usize
+    }
+
+    /// Words for a table: those of its rows when every page is added, about as
+    /// many, or any few.
+    pub fn table_words(&mut self, object: u64) -> usize {
+        let reader = Reader::new(&self.dump.bytes, Wrong::None);
+        let size = reader.size(Over::Dump(self.dump.layout.into(), self.dump.k), object);
+        let chunks = size.map_or(0, |(size, _)| size.div_ceil(self.dump.layout.data as u64));
+        let any = self.rng.below(2 * self.dump.span + 6);
+        let words = match (2 * chunks, self.rng.below(10)) {
+            (MANY.., _) | (_, 0 | 1) => any,
+            (need, 2..=4) => need.saturating_sub(1),
+            (need, 5 | 6) => need,
+            (need, _) => need + self.rng.between(1, 5),
+        };
+        words as usize
+    }
+
+    /// A row's words: of a page and a length, each mostly in range.
+    pub fn row(&mut self) -> Request {
+        let layout = self.any_layout();
+        let page = self.page();
+        let place = self.rng.pick(&[0, 1, page, page + 2, page + 2, page + 2]);
+        let data = self.dump.layout.data as u64;
+        let any = self.rng.below(data);
+        let valid = self
+            .rng
+            .pick(&[0, 1, data, data, data + 1, any, any, WIDE + any]);
+        Request::Row {
+            layout,
+            place,
+            valid,
+        }
     }
 
     /// The index words that a layout's pages need.

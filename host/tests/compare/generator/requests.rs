@@ -62,7 +62,12 @@ impl Asker<'_> {
         let object = self.object();
         let n = self.chunk();
         let ids = self.dump.ids.len();
-        let lookup = match self.rng.below(20) {
+        if let Over::Index(lent) = over {
+            if self.rng.chance(15) {
+                return self.table(lent, object);
+            }
+        }
+        let lookup = match self.rng.below(21) {
             0..=3 => Request::Size { over, object },
             4..=9 => Request::Chunk { over, object, n },
             10..=15 => Request::Read {
@@ -72,12 +77,27 @@ impl Asker<'_> {
                 buffer: self.buffer(),
             },
             16..=17 => Request::Part { over, object, n },
+            18 => Request::Objects { over },
             _ => Request::List {
                 over,
                 buffer: self.rng.pick(&[0, 1, ids / 2, ids, ids + 1, ids + 4]),
             },
         };
         self.list.push(lookup);
+    }
+
+    /// The table of a file, and the bytes of some row.
+    fn table(&mut self, lent: Lent, object: u64) {
+        let buffer = self.table_words(object);
+        self.list.push(Request::Table {
+            lent,
+            object,
+            buffer,
+        });
+        if self.rng.chance(50) {
+            let row = self.row();
+            self.list.push(row);
+        }
     }
 
     /// A start that may be refused.

@@ -55,7 +55,8 @@ fn every_answer_and_refusal_occurs() {
             "{number}"
         );
     }
-    let others = "done size page hole part ids layout pages blank foreign damaged header data type";
+    let others =
+        "done size page hole part ids layout pages blank foreign damaged header data type objects";
     for word in others.split(' ') {
         assert!(shapes.contains_key(word), "{word}");
     }

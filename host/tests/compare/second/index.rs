@@ -211,7 +211,7 @@ impl<'d> Reader<'d> {
         Ok((layout, seen))
     }
 
-    /// The objects that a listing goes over, ascending by id.
+    /// The objects that a listing or a count goes over, ascending by id.
     fn objects_seen(&self, layout: Layout, seen: Seen) -> Vec<Object> {
         let mut objects: Vec<Object> = match seen {
             Seen::Pages(added) => {
@@ -236,16 +236,36 @@ impl<'d> Reader<'d> {
         objects
     }
 
+    /// Whether a listing or a count of these objects meets a damaged link: one
+    /// above an object's newest header.
+    fn damaged(&self, objects: &[Object]) -> bool {
+        let met = |object: &Object| object.broken && object.newest_header().is_none();
+        match self.wrong {
+            Wrong::EveryLinkMet => objects.iter().any(|object| object.broken),
+            _ => objects.iter().any(met),
+        }
+    }
+
+    /// How many objects have a record.
+    pub fn objects(&self, over: Over) -> Result<usize, Refusal> {
+        let (layout, seen) = self.seen(over, &[])?;
+        let mut objects = self.objects_seen(layout, seen);
+        let damaged = self.damaged(&objects) && self.wrong != Wrong::CountPassesDamage;
+        refuse(&[(Refusal::IndexDamaged, damaged)], self.wrong)?;
+        objects.retain(|object| match self.wrong {
+            Wrong::CountOfLive => object.live(),
+            Wrong::CountOfKeys => true,
+            Wrong::CountOfHeaders => object.newest_header().is_some(),
+            _ => !object.records.is_empty(),
+        });
+        Ok(objects.len())
+    }
+
     /// The live objects, written ascending into the buffer.
     pub fn list(&self, over: Over, buffer: &mut [u32]) -> Result<Vec<u32>, Refused> {
         let (layout, seen) = self.seen(over, &[])?;
         let mut objects = self.objects_seen(layout, seen);
-        let met = |object: &Object| object.broken && object.newest_header().is_none();
-        let damaged = match self.wrong {
-            Wrong::ListPassesDamage => false,
-            Wrong::EveryLinkMet => objects.iter().any(|object| object.broken),
-            _ => objects.iter().any(met),
-        };
+        let damaged = self.damaged(&objects) && self.wrong != Wrong::ListPassesDamage;
         objects.retain(Object::live);
         let ids: Vec<u32> = objects.iter().map(|object| object.id).collect();
         let short = buffer.len() < ids.len();

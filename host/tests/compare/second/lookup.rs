@@ -19,7 +19,7 @@ pub struct Chunk {
 
 impl<'d> Reader<'d> {
     /// The tests of an object id and of a chunk number.
-    fn bad_object(object: u64) -> (Refusal, bool) {
+    pub(super) fn bad_object(object: u64) -> (Refusal, bool) {
         (Refusal::BadObject, object == 0 || object > LAST_OBJECT)
     }
 
@@ -27,7 +27,7 @@ impl<'d> Reader<'d> {
         (Refusal::BadChunk, n == 0 || n > LAST_CHUNK)
     }
 
-    fn object(&self, layout: Layout, seen: &Seen, object: u64) -> Object {
+    pub(super) fn object(&self, layout: Layout, seen: &Seen, object: u64) -> Object {
         let id = object as u32;
         match seen {
             Seen::Pages(added) => {
@@ -40,7 +40,7 @@ impl<'d> Reader<'d> {
 
     /// The refusals of an object, with their visits. A lookup that goes to the
     /// end of the chain meets a damaged link there.
-    fn refuse_object(
+    pub(super) fn refuse_object(
         &self,
         object: &Object,
         to_end: bool,

@@ -10,8 +10,9 @@
 //! - `rules`: newest, cuts, size, copy, hidden, shown, valid and visits.
 //! - `refusal`: the numbers and the order among several.
 //! - `cells`: the words of an index on any cells.
-//! - `index`: the added pages, and the calls start, add and list.
+//! - `index`: the added pages, and the calls start, add, list and objects.
 //! - `lookup`: size, chunk, read and part.
+//! - `table`: the chunks of a file, by the lookup of each.
 //! - `whole`: the calls that read the dump whatever was added.
 //! - `script`: requests and their answer lines.
 //! - `report`: the ten lines of the report.
@@ -28,6 +29,7 @@ pub mod refusal;
 pub mod report;
 pub mod rules;
 pub mod script;
+pub mod table;
 pub mod whole;
 pub mod wrong;
 

@@ -34,9 +34,10 @@ fn lines(reader: &Reader<'_>, found: Layout, k: u64) -> Result<String, Refusal> 
     let layout = Named::from(found);
     let pages = reader.pages(layout, k)?;
     let counts = reader.counts(layout, k)?;
-    let objects = reader.objects(layout, k)?;
+    let over = Over::Dump(layout, k);
+    let objects = reader.objects(over)?;
     let mut ids = vec![0; objects];
-    let live = reader.list(Over::Dump(layout, k), &mut ids);
+    let live = reader.list(over, &mut ids);
     let live = live.map_err(|refused| refused.refusal)?.len();
     let lines = [
         format!("layout={found}"),

@@ -11,7 +11,7 @@ use crate::digest::crc32;
 
 /// One request with everything that its call is given. Lookups are over the
 /// dump alone or over the index; `buffer` counts bytes for a read and words
-/// for a list.
+/// for a list or a table.
 #[derive(Clone, Copy, Debug, PartialEq, Eq)]
 pub enum Request {
     Find {
@@ -66,6 +66,19 @@ pub enum Request {
         over: Over,
         buffer: usize,
     },
+    Objects {
+        over: Over,
+    },
+    Table {
+        lent: Lent,
+        object: u64,
+        buffer: usize,
+    },
+    Row {
+        layout: Named,
+        place: u64,
+        valid: u64,
+    },
     Fill {
         word: u32,
     },
@@ -85,7 +98,7 @@ pub struct Answer {
 
 impl Request {
     /// The words that the request names: those of the index that its call is
-    /// lent, and those of a list's buffer.
+    /// lent, and those of a list's or a table's buffer.
     pub fn words(&self) -> u64 {
         let lent = |over| match over {
             Over::Index(lent) => lent.words,
@@ -96,8 +109,10 @@ impl Request {
             Request::Size { over, .. }
             | Request::Chunk { over, .. }
             | Request::Read { over, .. }
-            | Request::Part { over, .. } => lent(over),
+            | Request::Part { over, .. }
+            | Request::Objects { over } => lent(over),
             Request::List { over, buffer } => lent(over).max(buffer as u64),
+            Request::Table { lent, buffer, .. } => lent.words.max(buffer as u64),
             _ => 0,
         }
     }
@@ -161,6 +176,22 @@ impl fmt::Display for Request {
             } => lookup(f, "read", over, &format!("{object} {n} {buffer}")),
             Request::Part { over, object, n } => lookup(f, "part", over, &format!("{object} {n}")),
             Request::List { over, buffer } => lookup(f, "list", over, &buffer.to_string()),
+            Request::Objects {
+                over: Over::Dump(layout, k),
+            } => write!(f, "dobjects {layout} {k}"),
+            Request::Objects {
+                over: Over::Index(lent),
+            } => write!(f, "objects {}", options(lent)),
+            Request::Table {
+                lent,
+                object,
+                buffer,
+            } => write!(f, "table {object} {buffer} {}", options(lent)),
+            Request::Row {
+                layout,
+                place,
+                valid,
+            } => write!(f, "row {layout} {place} {valid}"),
             Request::Fill { word } => write!(f, "fill {word:#x}"),
             Request::Poke { at, word } => write!(f, "poke {at} {word:#x}"),
         }
@@ -205,10 +236,7 @@ pub fn answer(reader: &mut Reader<'_>, request: &Request) -> Answer {
             let crc = crc32(&answer.bytes);
             read.map(|chunk| format!("{} buffer={buffer}/{crc:08x}", chunk_line(chunk)))
         }
-        Request::Part { over, object, n } => Ok(match reader.part(over, object, n) {
-            Some((at, bytes)) => format!("part={at}+{}/{:08x}", bytes.len(), crc32(bytes)),
-            None => "part=empty".to_string(),
-        }),
+        Request::Part { over, object, n } => Ok(part_line(reader.part(over, object, n))),
         Request::List { over, buffer } => {
             answer.words = vec![0xA5A5_A5A5; buffer];
             let list = reader.list(over, &mut answer.words);
@@ -217,6 +245,27 @@ pub fn answer(reader: &mut Reader<'_>, request: &Request) -> Answer {
                 format!("ids={} words={buffer}", ids.join(","))
             })
         }
+        Request::Objects { over } => reader
+            .objects(over)
+            .map(|objects| format!("objects={objects}"))
+            .map_err(Refused::from),
+        Request::Table {
+            lent,
+            object,
+            buffer,
+        } => {
+            answer.words = vec![0xA5A5_A5A5; buffer];
+            let table = reader.table(lent, object, &mut answer.words);
+            table.map(|(size, rows)| {
+                let rows: Vec<String> = rows.iter().map(|[p, v]| format!("{p}:{v}")).collect();
+                format!("size={size} rows={} words={buffer}", rows.join(","))
+            })
+        }
+        Request::Row {
+            layout,
+            place,
+            valid,
+        } => Ok(part_line(reader.row(layout, place, valid))),
         Request::Fill { word } => {
             reader.fill(word);
             done(Ok(()))
@@ -251,6 +300,13 @@ fn counts_line(reader: &Reader<'_>, layout: Named, k: u64) -> Result<String, Ref
         "blank={} foreign={} damaged={} headers={} data={}",
         c.blank, c.foreign, c.damaged, c.headers, c.data
     ))
+}
+
+fn part_line(part: Option<(usize, &[u8])>) -> String {
+    match part {
+        Some((at, bytes)) => format!("part={at}+{}/{:08x}", bytes.len(), crc32(bytes)),
+        None => "part=empty".to_string(),
+    }
 }
 
 fn kind_line(kind: Kind) -> String {

@@ -5,7 +5,6 @@ use super::find;
 use super::index::Reader;
 use super::layout::{Layout, Named};
 use super::page::{self, fields, kind, Body, Field, Kind};
-use super::records::{ids, records};
 use super::refusal::{refuse, Refusal};
 use super::wrong::Wrong;
 
@@ -73,12 +72,5 @@ impl<'d> Reader<'d> {
         };
         refuse(&[(Refusal::NotHeader, !header)], self.wrong)?;
         Ok(fields(self.dump, layout, page))
-    }
-
-    /// The number of distinct ids among the records of the dump.
-    pub fn objects(&self, layout: Named, k: u64) -> Result<usize, Refusal> {
-        let (layout, pages) = self.opened(layout, k)?;
-        let records = records(self.dump, layout, &vec![true; pages], self.wrong);
-        Ok(ids(&records).len())
     }
 }

@@ -195,6 +195,46 @@ wrong_rules! {
     /// A listing that does not fit is ShortBuffer, damaged or not.
     ListShortBufferFirst,
 
+    // Tables.
+    /// A last chunk that is not full has no row.
+    TableWithoutBrokenChunk,
+    /// There is a row for the chunk behind a last full one.
+    TableOneRowMore,
+    /// Chunks without numbers have rows too.
+    TableBeyondNumbers,
+    /// What a table needs is given in rows.
+    TableNeedInRows,
+    /// A table of just the rows is too short.
+    TableOneWordMore,
+    /// A table that is too short is cleared.
+    ShortTableCleared,
+    /// Words past the rows are cleared.
+    TableClearsRest,
+    /// The row of a hole is left as it was.
+    HoleRowUnwritten,
+    /// A damaged link met by a row refuses the whole table.
+    DamagedRowRefuses,
+    /// A row that meets a damaged link says that it is a hole.
+    DamagedRowIsHole,
+    /// A row says the number of the page as it stands.
+    RowNamesPage,
+    /// A row says the shown length.
+    RowHasShown,
+    /// The bytes of a row are those of the page with its first word's number.
+    RowOfPage,
+    /// The bytes of a row may reach into the spare.
+    RowReachesSpare,
+
+    // Counting.
+    /// Only live objects are counted.
+    CountOfLive,
+    /// Only objects with a header are counted.
+    CountOfHeaders,
+    /// Stored ids are counted, with a record or without.
+    CountOfKeys,
+    /// Counting passes over damaged links.
+    CountPassesDamage,
+
     // Refusals.
     /// ShortBuffer is given before PastEnd.
     ShortBufferBeforePastEnd,

@@ -39,6 +39,27 @@ fn requests_as_lines() {
             },
             "list 2 k=4 words=48 layout=6",
         ),
+        (Request::Objects { over: dump }, "dobjects 512/16/0 4"),
+        (
+            Request::Objects { over: index },
+            "objects k=4 words=48 layout=6",
+        ),
+        (
+            Request::Table {
+                lent,
+                object,
+                buffer: 6,
+            },
+            "table 257 6 k=4 words=48 layout=6",
+        ),
+        (
+            Request::Row {
+                layout,
+                place: 8,
+                valid: 10,
+            },
+            "row 512/16/0 8 10",
+        ),
         (Request::Fill { word: 255 }, "fill 0xff"),
         (Request::Poke { at: 17, word: 1 }, "poke 17 0x1"),
     ];
