@@ -5,6 +5,7 @@ pub mod Counts
 pub mod Probing
 pub mod Holding
 pub mod Answers
+pub mod Running
 pub mod Keeping
 pub mod Lending
 pub mod Ordering

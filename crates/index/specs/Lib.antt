@@ -3,6 +3,7 @@ pub mod Slots
 pub mod Chains
 pub mod Places
 pub mod Additions
+pub mod Runs
 pub mod Held
 pub mod Walks
 pub mod Ahead

@@ -108,7 +108,13 @@ fn add_other(cells: &mut [u32], p: PageNumber) -> Added
 }
 
 // Adds page p to the index of a dump of so many pages. A page that is no record is passed over: it is marked, and chained nowhere.
-fn add_page(dump: &[u8], l: Layout, pages: u32, cells: &mut [u32], p: PageNumber) -> Added
+pub(crate) fn add_page(
+    dump: &[u8],
+    l: Layout,
+    pages: u32,
+    cells: &mut [u32],
+    p: PageNumber,
+) -> Added
     requires { ⌜ pages ≤ 2 ^ 31 ⌝ }
     ensures { λ r. ⌜ outcome r (now (cells .exit)) ≡ addTo pages (objects (kindAt l (now (dump .entry)))) (ageOf (kindAt l (now (dump .entry)))) (now (cells .entry)) (p .0) ⌝ }
 {

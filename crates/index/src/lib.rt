@@ -5,5 +5,6 @@ pub mod chains;
 pub mod list;
 pub mod lookups;
 pub mod places;
+pub mod runs;
 pub mod slots;
 pub mod walks;

@@ -1,0 +1,30 @@
+-- Each arm of the match is a case of the definition.
+use mathlib.Core.Path.{refl, sym, _∙_}
+use native.Mathlib.Omega.{arith}
+use lib.ListN.{length}
+use borrow.Author.Needs.{needs}
+use Rattle.page.proofs.Lengths.{opened-most}
+use Rattle.index.specs.Runs.{runOf, runIn}
+use Rattle.index.proofs.runs.add_run.Statement.{statement}
+use Rattle.index.proofs.runs.add_run.Tie as tie
+
+run-pages-requires : tie.Need-run-pages-requires
+run-pages-requires c κs =
+    let k = c .before .before in
+    let o = k .before .before in
+    let a = o .before .before .before .args in
+    omega (arith, opened-most (a .l) (a .k) (length (a .dump .now)) _ (sym (o .opened .ensures) ∙ k .o2 .given .1))
+
+returns : tie.Need-returns
+unfolding runOf runIn
+returns c = rw (← c .before .before .before .opened .ensures, c .before .o .given .1) refl
+
+returns-2 : tie.Need-returns-2
+unfolding runOf runIn
+returns-2 c =
+    let s = c .before .before in
+    let k = s .before .before .before in
+    rw (← k .before .before .opened .ensures, k .o2 .given .1) (s .run-pages .ensures)
+
+pub add-run-spec : {M : Type 1} → statement M
+add-run-spec = tie.close (tie.spec (search needs) (search needs) (search needs) run-pages-requires returns (search needs) returns-2)

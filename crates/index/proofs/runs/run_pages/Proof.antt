@@ -1,0 +1,63 @@
+-- The loop's invariant: the whole run ends as the rest of it does from here on.
+use Prim.Native.Nat.{_-_}
+use mathlib.Core.Path.{_≡_, refl, sym, _∙_}
+use native.Mathlib.Omega.{arith}
+use lib.ListN.{length}
+use borrow.Author.Needs.{needs}
+use Rattle.page.specs.Kinds.{kindAt}
+use Rattle.chunk.specs.Records.{ageOf}
+use Rattle.index.specs.Chains.{objects}
+use Rattle.index.specs.Runs.{runBy}
+use Rattle.index.proofs.Running.{run-none, run-more, run-stop}
+use Rattle.index.proofs.runs.run_pages.Statement.{statement}
+use Rattle.index.proofs.runs.run_pages.Tie as tie
+
+abbrev Inv-loop : tie.InvT-loop
+Inv-loop dump l pages cells₀ end p₀ cells p =
+    (length cells ≡ length cells₀)
+    × (runBy pages (objects (kindAt l dump)) (ageOf (kindAt l dump)) (end - p₀) p₀ cells₀
+    ≡ runBy pages (objects (kindAt l dump)) (ageOf (kindAt l dump)) (end - p) p cells)
+
+abbrev μ-loop : tie.MeasureT-loop
+μ-loop dump l pages cells₀ end p₀ cells p = end - p
+
+returns : tie.Need-returns Inv-loop μ-loop
+returns c =
+    let g = c .before in
+    let d = g .before .before .before .before in
+    let i = d .before .before in
+    let q = i .before .loop in
+    sym (q .inv .1 ∙ run-stop _ _ _ _ _ _ (i .loop-test .taken) _ _ (rw (g .added .given .1) at (d .add-page .ensures)))
+
+same-length : tie.Need-same-length Inv-loop μ-loop
+same-length c =
+    let d = c .before .before .before .before .before in
+    d .add-page .kept .1 .1 .1 .0 ∙ d .before .before .before .loop .inv .0
+
+loop-again : tie.Need-loop-again Inv-loop μ-loop
+loop-again c =
+    let d = c .before .before .before .before in
+    let i = d .before .before in
+    let q = i .before .loop in
+    (d .add-page .kept .1 .1 .1 .0 ∙ q .inv .0, q .inv .1 ∙ run-more _ _ _ _ _ _ (i .loop-test .taken) _ (rw (c .enum-told .given .1) at (d .add-page .ensures)))
+
+returns-2 : tie.Need-returns-2 Inv-loop μ-loop
+returns-2 c = let q = c .before .loop in sym (q .inv .1 ∙ run-none _ _ _ _ _ _ (omega arith))
+
+pub run-pages-spec : {M : Type 1} → statement M
+run-pages-spec =
+    tie.close
+    (tie.spec
+    Inv-loop
+    μ-loop
+    (λ c. (refl, refl))
+    (search needs)
+    (search needs)
+    same-length
+    returns
+    (search needs)
+    (λ c. omega arith)
+    (λ c. omega arith)
+    loop-again
+    (λ c. c .before .loop .inv .0)
+    returns-2)

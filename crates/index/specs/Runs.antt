@@ -1,0 +1,44 @@
+-- Adding a run of pages: one addition after the other, until one is refused. It is a list of additions in one call; those before the refused one
+-- stand, and the refused one changes nothing.
+use Prim.Native.Nat.{ℕ, zero, suc, _+_, _-_}
+use mathlib.Core.List.{List}
+use lib.ListN.{length}
+use Rattle.page.specs.Lengths.{openedOf}
+use Rattle.page.specs.Kinds.{kindAt}
+use Rattle.page.specs.declared.kind.Kind.{Kind}
+use Rattle.page.specs.declared.layout.Layout.{Layout}
+use Rattle.page.specs.declared.layout.Opened.{Opened}
+use Rattle.page.specs.declared.layout.Opened.the-variants as opened
+use Rattle.chunk.specs.Records.{ageOf}
+use Rattle.index.specs.Chains.{objects}
+use Rattle.index.specs.Additions.{Outcome, addTo}
+use Rattle.index.specs.declared.additions.Added.{Added}
+use Rattle.index.specs.declared.additions.Added.the-variants as added
+use Rattle.index.specs.declared.runs.Run.{Run}
+use Rattle.index.specs.declared.runs.Run.the-variants.{Done, Stopped}
+
+-- what a run answers, and the cells that it leaves
+pub record Ran : Type 0 where
+  pub answer : Run
+  pub cells : List ℕ
+
+abbrev pub ran : Run → List ℕ → Ran
+ran r c = record { answer = r; cells = c }
+
+-- by the addition of page p: it goes on from what that left, or stops there
+abbrev pub onward : Added → List ℕ → ℕ → (List ℕ → Ran) → Ran
+onward added.Done c p rest = rest c
+onward (added.Refused r) c p rest = ran (Stopped (record { 0 = p }) r) c
+
+-- so many pages from page p on, of n
+unfoldable pub runBy : (n : ℕ) (obj age : ℕ → ℕ) → ℕ → ℕ → List ℕ → Ran
+runBy n obj age zero p c = ran Done c
+runBy n obj age (suc m) p c = onward (addTo n obj age c p .answer) (addTo n obj age c p .cells) p (runBy n obj age m (p + 1))
+
+unfoldable pub runIn : Opened → (ℕ → Kind) → ℕ → ℕ → List ℕ → Ran
+runIn (opened.Refused r) says from to c = ran (Stopped (record { 0 = from }) r) c
+runIn (opened.Pages n) says from to c = runBy n (objects says) (ageOf says) (to - from) from c
+
+-- the pages of a dump from one to before another
+unfoldable pub runOf : Layout → ℕ → List ℕ → List ℕ → ℕ → ℕ → Ran
+runOf l k dump c from to = runIn (openedOf l k (length dump)) (kindAt l dump) from to c

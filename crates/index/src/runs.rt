@@ -1,0 +1,65 @@
+// Adding a run of pages in one call, so that a dump is opened once for all of them.
+ghost use mathlib.Core.Path.{_≡_};
+ghost use Prim.Native.Nat.{_-_, _≤_, _^_};
+ghost use Rattle.page.specs.Kinds.{kindAt};
+ghost use Rattle.chunk.specs.Records.{ageOf};
+ghost use Rattle.index.specs.Chains.{objects};
+ghost use Rattle.index.specs.Runs.{ran, runBy, runOf};
+use crate::additions::Added;
+use crate::additions::add_page;
+use page::layout::Layout;
+use page::layout::Opened;
+use page::number::PageNumber;
+use page::refusal::Refusal;
+
+// How a run of additions ended: all were done, or one was refused, and those before it stand.
+pub enum Run {
+    Done,
+    Stopped(PageNumber, Refusal),
+}
+
+// Adds the pages from one to before another to the index of a dump of so many pages, until one is refused.
+fn run_pages(
+    dump: &[u8],
+    l: Layout,
+    pages: u32,
+    cells: &mut [u32],
+    from: PageNumber,
+    to: PageNumber,
+) -> Run
+    requires { ⌜ pages ≤ 2 ^ 31 ⌝ }
+    ensures { λ r. ⌜ ran r (now (cells .exit)) ≡ runBy pages (objects (kindAt l (now (dump .entry)))) (ageOf (kindAt l (now (dump .entry)))) (to .0 - from .0) (from .0) (now (cells .entry)) ⌝ }
+{
+    let end = to.0;
+    let mut p = from.0;
+    while p < end {
+        let added = add_page(dump, l, pages, cells, PageNumber(p));
+        match added {
+            Added::Refused(r) => {
+                return Run::Stopped(PageNumber(p), r);
+            }
+            Added::Done => {
+                p += 1;
+            }
+        }
+    }
+    Run::Done
+}
+
+// Adds the pages of a dump of a named layout in blocks of k from one to before another to its index, until one is refused.
+pub fn add_run(
+    dump: &[u8],
+    l: Layout,
+    k: u32,
+    cells: &mut [u32],
+    from: PageNumber,
+    to: PageNumber,
+) -> Run
+    ensures { λ r. ⌜ ran r (now (cells .exit)) ≡ runOf l k (now (dump .entry)) (now (cells .entry)) (from .0) (to .0) ⌝ }
+{
+    let o = l.opened(dump.len(), k);
+    match o {
+        Opened::Refused(r) => Run::Stopped(from, r),
+        Opened::Pages(pages) => run_pages(dump, l, pages, cells, from, to),
+    }
+}
