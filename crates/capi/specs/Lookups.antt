@@ -17,6 +17,8 @@ use Rattle.chunk.specs.declared.answer.Tallied.{Tallied}
 use Rattle.chunk.specs.declared.answer.Tallied.the-variants as tallied
 use Rattle.index.specs.declared.additions.Added.{Added}
 use Rattle.index.specs.declared.additions.Added.the-variants as added
+use Rattle.index.specs.declared.runs.Run.{Run}
+use Rattle.index.specs.declared.runs.Run.the-variants as run
 use Rattle.file.specs.declared.table.Tabled.{Tabled}
 use Rattle.file.specs.declared.table.Tabled.the-variants as tabled
 use Rattle.capi.specs.declared.answer.SizeAnswer.{SizeAnswer}
@@ -24,6 +26,7 @@ use Rattle.capi.specs.declared.answer.ChunkAnswer.{ChunkAnswer}
 use Rattle.capi.specs.declared.answer.PlaceAnswer.{PlaceAnswer}
 use Rattle.capi.specs.declared.answer.ListAnswer.{ListAnswer}
 use Rattle.capi.specs.declared.answer.TableAnswer.{TableAnswer}
+use Rattle.capi.specs.declared.answer.RunAnswer.{RunAnswer}
 use Rattle.capi.specs.declared.answer.TallyAnswer.{TallyAnswer}
 
 abbrev pub sizeAnswer : Sized → SizeAnswer
@@ -94,3 +97,8 @@ tableAnswer (tabled.Rows z m) = record { refusal = 0; need = 0; size = z; rows =
 abbrev pub addedAnswer : Added → ℕ
 addedAnswer (added.Refused r) = refusalNumber r
 addedAnswer added.Done = 0
+
+-- how a run of additions ended
+abbrev pub runAnswer : Run → RunAnswer
+runAnswer (run.Stopped p r) = record { refusal = refusalNumber r; page = p .0 }
+runAnswer run.Done = record { refusal = 0; page = 0 }

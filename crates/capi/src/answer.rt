@@ -1,12 +1,13 @@
 // What the lookups of an object answer, whether on a dump alone or on an index.
 ghost use mathlib.Core.Path.{_≡_};
-ghost use Rattle.capi.specs.Lookups.{sizeAnswer, chunkAnswer, placeOf, placeAnswer, listAnswer, tallyAnswer, tableAnswer, addedAnswer};
+ghost use Rattle.capi.specs.Lookups.{sizeAnswer, chunkAnswer, placeOf, placeAnswer, listAnswer, tallyAnswer, tableAnswer, addedAnswer, runAnswer};
 use chunk::answer::Listed;
 use chunk::answer::Looked;
 use chunk::answer::Sized;
 use chunk::answer::Tallied;
 use file::table::Tabled;
 use index::additions::Added;
+use index::runs::Run;
 use page::layout::Layout;
 use page::number::PageNumber;
 
@@ -53,6 +54,13 @@ pub struct TableAnswer {
     pub need: u32,
     pub size: u64,
     pub rows: u32,
+}
+
+// How a run of additions ended: with 0 all were done, else the addition of this page was refused, and those before it stand.
+#[repr(C)]
+pub struct RunAnswer {
+    pub refusal: u32,
+    pub page: u32,
 }
 
 // A number of objects.
@@ -207,5 +215,20 @@ pub(crate) fn added_answer(a: Added) -> u32
     match a {
         Added::Refused(r) => r.number(),
         Added::Done => 0,
+    }
+}
+
+pub(crate) fn run_answer(a: Run) -> RunAnswer
+    ensures { λ r. ⌜ r ≡ runAnswer a ⌝ }
+{
+    match a {
+        Run::Stopped(p, r) => RunAnswer {
+            refusal: r.number(),
+            page: p.0,
+        },
+        Run::Done => RunAnswer {
+            refusal: 0,
+            page: 0,
+        },
     }
 }

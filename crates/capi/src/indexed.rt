@@ -6,14 +6,16 @@ ghost use Rattle.page.specs.Layouts.{layoutAt};
 ghost use Rattle.chunk.specs.Answers.{readBy, bufferBy, partBy};
 ghost use Rattle.chunk.specs.Lists.{wordsBy};
 ghost use Rattle.index.specs.Additions.{startOf, addOf};
+ghost use Rattle.index.specs.Runs.{runOf};
 ghost use Rattle.index.specs.Cells.{cellsFor};
 ghost use Rattle.index.specs.Listing.{listFrom, idsFrom, objectsFrom};
 ghost use Rattle.index.specs.Walks.{sizeFrom, chunkFrom};
 ghost use Rattle.file.specs.Table.{rowPart, tableFrom, filledBy};
-ghost use Rattle.capi.specs.Lookups.{sizeAnswer, chunkAnswer, placeAnswer, rowPlace, listAnswer, tallyAnswer, tableAnswer, addedAnswer};
+ghost use Rattle.capi.specs.Lookups.{sizeAnswer, chunkAnswer, placeAnswer, rowPlace, listAnswer, tallyAnswer, tableAnswer, addedAnswer, runAnswer};
 use crate::answer::ChunkAnswer;
 use crate::answer::ListAnswer;
 use crate::answer::PlaceAnswer;
+use crate::answer::RunAnswer;
 use crate::answer::SizeAnswer;
 use crate::answer::TableAnswer;
 use crate::answer::TallyAnswer;
@@ -22,6 +24,7 @@ use crate::answer::chunk_answer;
 use crate::answer::list_answer;
 use crate::answer::place_answer;
 use crate::answer::place_of;
+use crate::answer::run_answer;
 use crate::answer::size_answer;
 use crate::answer::table_answer;
 use crate::answer::tally_answer;
@@ -35,6 +38,7 @@ use index::list::objects;
 use index::lookups::chunk;
 use index::lookups::read;
 use index::lookups::size;
+use index::runs::add_run;
 use page::number::ChunkNumber;
 use page::number::ObjectId;
 use page::number::PageNumber;
@@ -69,6 +73,29 @@ pub extern "C" fn lohenarr_add(
     ensures { λ _. ⌜ now (cells .exit) ≡ addOf (layoutAt layout) k (now (dump .entry)) (now (cells .entry)) page .cells ⌝ }
 {
     added_answer(add(dump, layout_at(layout), k, cells, PageNumber(page)))
+}
+
+// Adds the pages from one to before another to the index, one after the other, until one is refused; those before it stand.
+#[no_mangle]
+pub extern "C" fn lohenarr_add_run(
+    dump: &[u8],
+    layout: u32,
+    k: u32,
+    cells: &mut [u32],
+    from: u32,
+    to: u32,
+) -> RunAnswer
+    ensures { λ r. ⌜ r ≡ runAnswer (runOf (layoutAt layout) k (now (dump .entry)) (now (cells .entry)) from to .answer) ⌝ }
+    ensures { λ _. ⌜ now (cells .exit) ≡ runOf (layoutAt layout) k (now (dump .entry)) (now (cells .entry)) from to .cells ⌝ }
+{
+    run_answer(add_run(
+        dump,
+        layout_at(layout),
+        k,
+        cells,
+        PageNumber(from),
+        PageNumber(to),
+    ))
 }
 
 // The size of an object.
