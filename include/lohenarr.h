@@ -131,6 +131,13 @@ typedef struct {
     uint32_t count;
 } lohenarr_tally_answer;
 
+/* How a run of additions ended: with 0 all were done, else the addition of this
+ * page was refused, and those before it stand. */
+typedef struct {
+    uint32_t refusal;
+    uint32_t page;
+} lohenarr_run_answer;
+
 /* The size of a file and how many rows its table has. Beside ShortBuffer, need
  * is how many words it needs. */
 typedef struct {
@@ -206,6 +213,10 @@ uint32_t lohenarr_start(const uint8_t *dump, size_t len, uint32_t layout, uint32
 
 /* Adds a page to an index: the refusal's number, or 0. */
 uint32_t lohenarr_add(const uint8_t *dump, size_t len, uint32_t layout, uint32_t k, uint32_t *cells, size_t cells_len, uint32_t page);
+
+/* Adds the pages from one to before another to an index, one after the other,
+ * until one is refused. */
+lohenarr_run_answer lohenarr_add_run(const uint8_t *dump, size_t len, uint32_t layout, uint32_t k, uint32_t *cells, size_t cells_len, uint32_t from, uint32_t to);
 
 /* The lookups by an index answer as if pages that were not added were blank. */
 lohenarr_size_answer lohenarr_size(const uint8_t *dump, size_t len, uint32_t layout, uint32_t k, const uint32_t *cells, size_t cells_len, uint32_t object);

@@ -33,7 +33,7 @@ macro_rules! answers {
 
 answers! {
     LayoutAnswer PagesAnswer CountsAnswer KindAnswer HeaderAnswer PartAnswer SizeAnswer ChunkAnswer
-    ListAnswer TallyAnswer TableAnswer
+    ListAnswer TallyAnswer TableAnswer RunAnswer
 }
 
 /// A layout with its number in the table; beside a refusal the number is 13.
@@ -201,6 +201,15 @@ pub struct TallyAnswer {
     pub count: u32,
 }
 
+/// How a run of additions ended: with 0 all were done, else the addition of
+/// this page was refused, and those before it stand.
+#[repr(C)]
+#[derive(Clone, Copy, Debug, PartialEq, Eq)]
+pub struct RunAnswer {
+    pub refusal: u32,
+    pub page: u32,
+}
+
 /// The size of a file and how many rows its table has. Beside ShortBuffer
 /// `need` is how many words it needs.
 #[repr(C)]
@@ -235,6 +244,7 @@ extern "C" {
     fn lohenarr_cells(pages: u32) -> usize;
     fn lohenarr_start(dump: *const u8, len: usize, layout: u32, k: u32, cells: *mut u32, cells_len: usize) -> u32;
     fn lohenarr_add(dump: *const u8, len: usize, layout: u32, k: u32, cells: *mut u32, cells_len: usize, page: u32) -> u32;
+    fn lohenarr_add_run(dump: *const u8, len: usize, layout: u32, k: u32, cells: *mut u32, cells_len: usize, from: u32, to: u32) -> RunAnswer;
     fn lohenarr_size(dump: *const u8, len: usize, layout: u32, k: u32, cells: *const u32, cells_len: usize, object: u32) -> SizeAnswer;
     fn lohenarr_chunk(dump: *const u8, len: usize, layout: u32, k: u32, cells: *const u32, cells_len: usize, object: u32, n: u32) -> ChunkAnswer;
     fn lohenarr_read(dump: *const u8, len: usize, layout: u32, k: u32, cells: *const u32, cells_len: usize, object: u32, n: u32, buffer: *mut u8, buffer_len: usize) -> ChunkAnswer;
@@ -359,6 +369,13 @@ pub fn start(dump: &[u8], layout: u32, k: u32, cells: &mut [u32]) -> u32 {
 pub fn add(dump: &[u8], layout: u32, k: u32, cells: &mut [u32], page: u32) -> u32 {
     let (at, words) = (cells.as_mut_ptr(), cells.len());
     unsafe { lohenarr_add(dump.as_ptr(), dump.len(), layout, k, at, words, page) }
+}
+
+/// Adds the pages from one to before another to an index, until one is refused.
+#[rustfmt::skip]
+pub fn add_run(dump: &[u8], layout: u32, k: u32, cells: &mut [u32], from: u32, to: u32) -> RunAnswer {
+    let (at, words) = (cells.as_mut_ptr(), cells.len());
+    unsafe { lohenarr_add_run(dump.as_ptr(), dump.len(), layout, k, at, words, from, to) }
 }
 
 /// The size of an object, by the index.

@@ -1,5 +1,7 @@
 //! The objects of a dump and their chunks, by an index of all its pages.
 
+use std::ops::Range;
+
 use crate::ffi::{self, Answer, ChunkAnswer, KindAnswer, SizeAnswer, TallyAnswer};
 use crate::refusal::SHORT_BUFFER;
 use crate::table::Table;
@@ -23,8 +25,8 @@ impl<'d> Objects<'d> {
         let pages = ffi::pages(dump, layout, k).given()?.pages;
         let mut cells = vec![0; ffi::cells(pages)];
         done(ffi::start(dump, layout, k, &mut cells))?;
-        for page in by_sequence(dump, layout, k, pages) {
-            done(ffi::add(dump, layout, k, &mut cells, page))?;
+        for block in by_sequence(dump, layout, k, pages) {
+            ffi::add_run(dump, layout, k, &mut cells, block.start, block.end).given()?;
         }
         Ok(Objects {
             dump,
@@ -103,18 +105,16 @@ fn done(refusal: u32) -> Result<(), u32> {
     }
 }
 
-/// The pages block by block, the blocks in the order of the sequences of their
+/// The pages of each block, the blocks in the order of the sequences of their
 /// first records. Any order is right; in this one an addition hardly walks.
-fn by_sequence(dump: &[u8], layout: u32, k: u32, pages: u32) -> impl Iterator<Item = u32> {
+fn by_sequence(dump: &[u8], layout: u32, k: u32, pages: u32) -> impl Iterator<Item = Range<u32>> {
     let block = move |number: u32| number * k..(number + 1) * k;
     let kinds = |number| block(number).map(|page| ffi::kind(dump, layout, k, page));
     let record = |kind: &KindAnswer| matches!(kind.kind, KindAnswer::HEADER | KindAnswer::DATA);
     let sequence = |number| kinds(number).find(record).map(|kind| kind.sequence);
     let mut blocks: Vec<_> = (0..pages / k).map(|n| (sequence(n), n)).collect();
     blocks.sort_unstable();
-    blocks
-        .into_iter()
-        .flat_map(move |(_, number)| block(number))
+    blocks.into_iter().map(move |(_, number)| block(number))
 }
 
 #[cfg(test)]

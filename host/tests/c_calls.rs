@@ -47,6 +47,7 @@ fn places() -> String {
         ("tally_answer.count", offset_of!(TallyAnswer, count)),
         ("table_answer.size", offset_of!(TableAnswer, size)),
         ("table_answer.rows", offset_of!(TableAnswer, rows)),
+        ("run_answer.page", offset_of!(RunAnswer, page)),
     ];
     let lines = fields.map(|(field, offset)| format!("lohenarr_{field} {offset}\n"));
     let sizes = [
@@ -62,6 +63,7 @@ fn places() -> String {
         size_of::<ListAnswer>(),
         size_of::<TallyAnswer>(),
         size_of::<TableAnswer>(),
+        size_of::<RunAnswer>(),
     ];
     let sizes = sizes.map(|size| format!(" {size}"));
     format!("{}sizes{}\n", lines.concat(), sizes.concat())
@@ -80,11 +82,8 @@ live 0: 1, 257 7
 cells 48
 start 0
 add 0
-add 0
-add 0
-add 0
-add 0
-add 0
+run 0: 0
+run 15: 6
 add 0
 read 0: copy 1 page 1 valid 300 shown 512, visits 5
 read 11: need 512

@@ -29,9 +29,12 @@ int main(void) {
     printf("live %u: %u, %u %u\n", live.refusal, live.count, ids[0], ids[1]);
     printf("cells %zu\n", lohenarr_cells(8));
     printf("start %u\n", lohenarr_start(dump, len, found.number, 4, cells, 48));
-    for (uint32_t page = 0; page < 8; page++)
-        if (page != 5)
-            printf("add %u\n", lohenarr_add(dump, len, found.number, 4, cells, 48, page));
+    printf("add %u\n", lohenarr_add(dump, len, found.number, 4, cells, 48, 6));
+    lohenarr_run_answer run = lohenarr_add_run(dump, len, found.number, 4, cells, 48, 0, 5);
+    printf("run %u: %u\n", run.refusal, run.page);
+    run = lohenarr_add_run(dump, len, found.number, 4, cells, 48, 6, 8);
+    printf("run %u: %u\n", run.refusal, run.page);
+    printf("add %u\n", lohenarr_add(dump, len, found.number, 4, cells, 48, 7));
     lohenarr_chunk_answer chunk = lohenarr_read(dump, len, found.number, 4, cells, 48, 257, 1, buffer, sizeof buffer);
     printf("read %u: copy %u page %u valid %u shown %u, visits %u\n", chunk.refusal, chunk.copy, chunk.page, chunk.valid,
            chunk.shown, chunk.visits);
@@ -62,10 +65,11 @@ int main(void) {
     FIELD(lohenarr_tally_answer, count);
     FIELD(lohenarr_table_answer, size);
     FIELD(lohenarr_table_answer, rows);
-    printf("sizes %zu %zu %zu %zu %zu %zu %zu %zu %zu %zu %zu %zu\n", sizeof(lohenarr_layout_answer), sizeof(lohenarr_pages_answer),
+    FIELD(lohenarr_run_answer, page);
+    printf("sizes %zu %zu %zu %zu %zu %zu %zu %zu %zu %zu %zu %zu %zu\n", sizeof(lohenarr_layout_answer), sizeof(lohenarr_pages_answer),
            sizeof(lohenarr_counts_answer), sizeof(lohenarr_kind_answer), sizeof(lohenarr_header_answer),
            sizeof(lohenarr_part_answer), sizeof(lohenarr_size_answer), sizeof(lohenarr_chunk_answer),
            sizeof(lohenarr_place_answer), sizeof(lohenarr_list_answer), sizeof(lohenarr_tally_answer),
-           sizeof(lohenarr_table_answer));
+           sizeof(lohenarr_table_answer), sizeof(lohenarr_run_answer));
     return 0;
 }
