@@ -10,6 +10,7 @@ use file::table::table;
 use index::additions::Added;
 use index::additions::add;
 use index::additions::start;
+use index::cells::link_at;
 use index::list::list;
 use index::lookups::chunk;
 use index::lookups::size;
@@ -47,6 +48,7 @@ fn short_line(r: Refusal, need: u32) {
     line(b" need=", need as u64);
 }
 
+// A size with the records visited.
 fn size_line(s: Sized) {
     match s {
         Sized::Refused(r, visits) => refused_line(r, visits),
@@ -64,6 +66,7 @@ fn lengths_line(valid: u32, shown: u32, visits: u32) {
     line(b" visits=", visits as u64);
 }
 
+// A chunk's place with its lengths and the records visited.
 fn chunk_line(a: Looked) {
     match a {
         Looked::Refused(r, visits, _) => refused_line(r, visits),
@@ -119,7 +122,7 @@ fn row_lines(words: &[u32], count: u32) {
     }
 }
 
-// The lines of a file's table.
+// The lines of a file's table, or of its refusal where the table has more than 32 rows.
 fn table_lines(dump: &[u8], l: Layout, k: u32, cells: &[u32], o: ObjectId) {
     let mut words = [0u32; 64];
     let tabled = table(dump, l, k, cells, o, &mut words);
@@ -146,7 +149,7 @@ fn listed_lines(dump: &[u8], l: Layout, k: u32, cells: &[u32], ids: &[u32], coun
     }
 }
 
-// The lines of the live objects.
+// The lines of the live objects: no more than the 124 smallest pages that the input has room for.
 fn live_lines(dump: &[u8], l: Layout, k: u32, cells: &[u32]) {
     let mut ids = [0u32; 128];
     let listed = list(dump, l, k, cells, &mut ids);
@@ -165,7 +168,24 @@ fn add_pages(dump: &[u8], l: Layout, k: u32, pages: u32, cells: &mut [u32]) {
     }
 }
 
-// The lines of a dump whose layout was found: its report, and then its objects by an index on the words lent, whatever they hold.
+// The line of what an index holds for a page and for the slot of the same number.
+fn cell_line(cells: &[u32], p: u32) {
+    let i = link_at(PageNumber(p));
+    put(b"link=", word_at(cells, i) as u64);
+    put(b" key=", word_at(cells, i + 1) as u64);
+    line(b" first=", word_at(cells, i + 2) as u64);
+}
+
+// The lines of an index of so many pages.
+fn cell_lines(cells: &[u32], pages: u32) {
+    let mut p: u32 = 0;
+    while p < pages {
+        cell_line(cells, p);
+        p += 1;
+    }
+}
+
+// The lines of a dump whose layout was found: its report, then an index on the words lent, whatever they held, and the objects by it.
 fn dump_lines(dump: &[u8], l: Layout, k: u32, cells: &mut [u32]) {
     report(dump, l, k);
     let opened = l.opened(dump.len(), k);
@@ -174,6 +194,7 @@ fn dump_lines(dump: &[u8], l: Layout, k: u32, cells: &mut [u32]) {
     };
     added_line(start(dump, l, k, cells));
     add_pages(dump, l, k, pages, cells);
+    cell_lines(cells, pages);
     live_lines(dump, l, k, cells);
     object_lines(dump, l, k, cells, ObjectId(ALWAYS));
 }
@@ -232,6 +253,7 @@ fn main() {
         refuse(Refusal::BadLength);
         return;
     }
+    // the index of 124 pages
     let mut cells = [0u32; 512];
     all_lines(&buffer[..n], &mut cells);
 }

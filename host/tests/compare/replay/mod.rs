@@ -6,6 +6,7 @@ mod vectors;
 
 use std::{env, fs};
 
+use crate::second::cells::{first_of, key_of, link_of};
 use crate::second::index::{Lent, Over, Reader};
 use crate::second::layout::Layout;
 use crate::second::page::LAST_CHUNK;
@@ -42,7 +43,10 @@ fn stored(name: &str, bytes: &[u8]) {
     if env::var_os("LOHENARR_BLESS").is_some() {
         fs::write(&path, bytes).unwrap();
     }
-    assert!(fs::read(&path).unwrap() == bytes, "{name} is another");
+    assert!(
+        fs::read(&path).unwrap() == bytes,
+        "crates/replay/{name} differs"
+    );
 }
 
 /// A vector as the program reads it: K, three bytes of length, the dump.
@@ -63,9 +67,11 @@ fn lines(vector: &Vector) -> String {
     let lent = Lent { layout, k, words };
     let over = Over::Index(lent);
     reader.start(lent).unwrap();
-    for page in (0..vector.dump.len() / found.page()).rev() {
+    let pages = vector.dump.len() / found.page();
+    for page in (0..pages).rev() {
         reader.add(lent, page as u64).unwrap();
     }
+    lines.extend((0..pages).map(|page| cell(&reader.words, page)));
     let live = reader.list(over, &mut [0; IDS]).unwrap();
     for id in live.into_iter().chain([ALWAYS]) {
         let object = id.into();
@@ -77,6 +83,12 @@ fn lines(vector: &Vector) -> String {
         lines += &table(&reader, found, over, object);
     }
     lines
+}
+
+/// The line of what an index holds for a page and the slot of its number.
+fn cell(words: &[u32], page: usize) -> String {
+    let [link, key, first] = [link_of(page), key_of(page), first_of(page)].map(|at| words[at]);
+    format!("link={link} key={key} first={first}\n")
 }
 
 /// The lines of a file's table: a row for each chunk, by its lookup.
