@@ -5,6 +5,7 @@
 //! - `generator`: dumps and requests from a seed.
 //! - `library`: the library's answers to the same requests.
 //! - `corpus`: dumps that the YAFFS2 driver wrote.
+//! - `replay`: the vectors that the program of that name is held to.
 //!
 //! `LOHENARR_SEEDS=N` compares N dumps instead of the usual number.
 
@@ -13,6 +14,8 @@ mod corpus;
 mod digest;
 mod generator;
 mod library;
+#[cfg(test)]
+mod replay;
 mod second;
 
 use std::env;

@@ -24,6 +24,15 @@ pub fn shelf() -> Builder {
     w
 }
 
+/// W with these pages blank.
+pub fn without(pages: &[usize]) -> Builder {
+    let mut w = shelf();
+    for &page in pages {
+        w.tags(page, [u32::MAX; 4]);
+    }
+    w
+}
+
 /// A header page of W: a file under the root.
 pub fn header(w: &mut Builder, page: usize, sequence: u32, size: u32, shrink: u32) {
     w.tags(page, [sequence, 0x1000_0101, 0x8000_0001, 0]);

@@ -6,7 +6,7 @@ use super::refusal::Refusal;
 use super::wrong::Wrong;
 
 /// The longest input of the report program, in bytes, and its K.
-const LONGEST_INPUT: usize = 65_536;
+pub const LONGEST_INPUT: usize = 65_536;
 const BLOCK: u64 = 4;
 
 /// What the report program prints for its standard input.

@@ -1,7 +1,7 @@
 //! The twelve marked cases on the shelf dump W, and its report.
 
 use crate::generator::build::Builder;
-use crate::generator::shelf::{data, shelf, BLOCK, LAYOUT, OBJECT};
+use crate::generator::shelf::{data, shelf, without, BLOCK, LAYOUT, OBJECT};
 use crate::second::index::{Lent, Over, Reader};
 use crate::second::layout::Named;
 use crate::second::report::{report, report_of_input};
@@ -39,15 +39,6 @@ fn size(w: &Builder, object: u64) -> String {
 fn kind(w: &Builder, page: u64) -> String {
     let (layout, k) = (named(), BLOCK);
     line(w, Request::Kind { layout, k, page })
-}
-
-/// W with these pages blank.
-fn without(pages: &[usize]) -> Builder {
-    let mut w = shelf();
-    for &page in pages {
-        w.tags(page, [u32::MAX; 4]);
-    }
-    w
 }
 
 #[test]

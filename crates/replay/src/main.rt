@@ -1,0 +1,259 @@
+// The replay: reads test vectors of at most 65,536 bytes together from standard input, and prints what the proved calls answer on each. A vector
+// is a byte for the pages of a block, three for a length, little-endian, and a dump of that length; a last one that is not whole is passed over.
+ghost use Prim.Native.Nat.{_≤_, _<_, _^_};
+ghost use lib.ListN.{length};
+use chunk::answer::Listed;
+use chunk::answer::Looked;
+use chunk::answer::Sized;
+use file::table::Tabled;
+use file::table::table;
+use index::additions::Added;
+use index::additions::add;
+use index::additions::start;
+use index::cells::link_at;
+use index::list::list;
+use index::lookups::chunk;
+use index::lookups::size;
+use lines::line;
+use lines::put;
+use lines::refuse;
+use lines::report;
+use page::find::find;
+use page::layout::Layout;
+use page::layout::Named;
+use page::layout::Opened;
+use page::number::ChunkNumber;
+use page::number::ObjectId;
+use page::number::PageNumber;
+use page::refusal::Refusal;
+
+// The most bytes of vectors that are read, and one more, by which a longer input is told.
+const MOST: usize = 65536;
+// The bytes of a vector before its dump.
+const AHEAD: usize = 4;
+// The last chunk that each object is asked for.
+const CHUNKS: u32 = 6;
+// An object that every dump is asked for, live or not.
+const ALWAYS: u32 = 300;
+
+// A refusal with the records visited.
+fn refused_line(r: Refusal, visits: u32) {
+    put(b"refusal=", r.number() as u64);
+    line(b" visits=", visits as u64);
+}
+
+// A refusal with the words that a short buffer needs.
+fn short_line(r: Refusal, need: u32) {
+    put(b"refusal=", r.number() as u64);
+    line(b" need=", need as u64);
+}
+
+// A size with the records visited.
+fn size_line(s: Sized) {
+    match s {
+        Sized::Refused(r, visits) => refused_line(r, visits),
+        Sized::Size(n, visits) => {
+            put(b"size=", n);
+            line(b" visits=", visits as u64);
+        }
+    }
+}
+
+// What a chunk's line says behind its place.
+fn lengths_line(valid: u32, shown: u32, visits: u32) {
+    put(b" valid=", valid as u64);
+    put(b" shown=", shown as u64);
+    line(b" visits=", visits as u64);
+}
+
+// A chunk's place with its lengths and the records visited.
+fn chunk_line(a: Looked) {
+    match a {
+        Looked::Refused(r, visits, _) => refused_line(r, visits),
+        Looked::Hole(shown, visits) => {
+            io::write_all(1, b"hole");
+            lengths_line(0, shown, visits);
+        }
+        Looked::Copy(p, valid, shown, visits) => {
+            put(b"page=", p.0 as u64);
+            lengths_line(valid, shown, visits);
+        }
+    }
+}
+
+// A start or an addition says nothing, unless it is refused.
+fn added_line(a: Added) {
+    match a {
+        Added::Refused(r) => refuse(r),
+        Added::Done => {}
+    }
+}
+
+// The lines of chunks 1 to 6 of an object.
+fn chunk_lines(dump: &[u8], l: Layout, k: u32, cells: &[u32], o: ObjectId) {
+    let mut c: u32 = 1;
+    while c <= CHUNKS {
+        chunk_line(chunk(dump, l, k, cells, o, ChunkNumber(c)));
+        c += 1;
+    }
+}
+
+// The word with this place; 0 past the end.
+fn word_at(words: &[u32], i: usize) -> u32 {
+    if words.len() <= i {
+        return 0;
+    }
+    words[i]
+}
+
+// The line of a row of a table.
+fn row_line(words: &[u32], r: u32) {
+    let i = 2 * (r as usize);
+    put(b"row=", word_at(words, i) as u64);
+    line(b"/", word_at(words, i + 1) as u64);
+}
+
+// The lines of so many rows of a table.
+fn row_lines(words: &[u32], count: u32) {
+    let mut r: u32 = 0;
+    while r < count {
+        row_line(words, r);
+        r += 1;
+    }
+}
+
+// The lines of a file's table, or of its refusal where the table has more than 32 rows.
+fn table_lines(dump: &[u8], l: Layout, k: u32, cells: &[u32], o: ObjectId) {
+    let mut words = [0u32; 64];
+    let tabled = table(dump, l, k, cells, o, &mut words);
+    match tabled {
+        Tabled::Refused(r, need) => short_line(r, need),
+        Tabled::Rows(_, count) => row_lines(&words, count),
+    }
+}
+
+// The lines of an object.
+fn object_lines(dump: &[u8], l: Layout, k: u32, cells: &[u32], o: ObjectId) {
+    line(b"object=", o.0 as u64);
+    size_line(size(dump, l, k, cells, o));
+    chunk_lines(dump, l, k, cells, o);
+    table_lines(dump, l, k, cells, o);
+}
+
+// The lines of so many listed objects.
+fn listed_lines(dump: &[u8], l: Layout, k: u32, cells: &[u32], ids: &[u32], count: u32) {
+    let mut i: u32 = 0;
+    while i < count {
+        object_lines(dump, l, k, cells, ObjectId(word_at(ids, i as usize)));
+        i += 1;
+    }
+}
+
+// The lines of the live objects: no more than the 124 smallest pages that the input has room for.
+fn live_lines(dump: &[u8], l: Layout, k: u32, cells: &[u32]) {
+    let mut ids = [0u32; 128];
+    let listed = list(dump, l, k, cells, &mut ids);
+    match listed {
+        Listed::Refused(r, need) => short_line(r, need),
+        Listed::Ids(count) => listed_lines(dump, l, k, cells, &ids, count),
+    }
+}
+
+// Adds all pages, the last first, so that additions walk down the chains.
+fn add_pages(dump: &[u8], l: Layout, k: u32, pages: u32, cells: &mut [u32]) {
+    let mut p = pages;
+    while 0 < p {
+        p -= 1;
+        added_line(add(dump, l, k, cells, PageNumber(p)));
+    }
+}
+
+// The line of what an index holds for a page and for the slot of the same number.
+fn cell_line(cells: &[u32], p: u32) {
+    let i = link_at(PageNumber(p));
+    put(b"link=", word_at(cells, i) as u64);
+    put(b" key=", word_at(cells, i + 1) as u64);
+    line(b" first=", word_at(cells, i + 2) as u64);
+}
+
+// The lines of an index of so many pages.
+fn cell_lines(cells: &[u32], pages: u32) {
+    let mut p: u32 = 0;
+    while p < pages {
+        cell_line(cells, p);
+        p += 1;
+    }
+}
+
+// The lines of a dump whose layout was found: its report, then an index on the words lent, whatever they held, and the objects by it.
+fn dump_lines(dump: &[u8], l: Layout, k: u32, cells: &mut [u32]) {
+    report(dump, l, k);
+    let opened = l.opened(dump.len(), k);
+    let Opened::Pages(pages) = opened else {
+        return;
+    };
+    added_line(start(dump, l, k, cells));
+    add_pages(dump, l, k, pages, cells);
+    cell_lines(cells, pages);
+    live_lines(dump, l, k, cells);
+    object_lines(dump, l, k, cells, ObjectId(ALWAYS));
+}
+
+// The lines of a dump in blocks of so many pages, or of the refusal to find its layout.
+fn found_lines(dump: &[u8], block: u8, cells: &mut [u32]) {
+    let k = block as u32;
+    let found = find(dump, k);
+    match found {
+        Named::Refused(r) => refuse(r),
+        Named::Layout(l) => dump_lines(dump, l, k, cells),
+    }
+}
+
+// The length that three bytes name.
+fn length_of(a: u8, b: u8, c: u8) -> usize
+    ensures { λ r. ⌜ r < 2 ^ 24 ⌝ }
+{
+    (a as usize) + (b as usize) * 256 + (c as usize) * 65536
+}
+
+// The lines of the first vector, and how many bytes it has: 0 where none is whole.
+fn vector_lines(input: &[u8], number: u64, cells: &mut [u32]) -> usize
+    ensures { λ r. ⌜ r ≤ length (now (input .entry)) ⌝ }
+{
+    if input.len() < AHEAD {
+        return 0;
+    }
+    let end = AHEAD + length_of(input[1], input[2], input[3]);
+    if input.len() < end {
+        return 0;
+    }
+    line(b"vector=", number);
+    found_lines(&input[AHEAD..end], input[0], cells);
+    end
+}
+
+// The lines of all vectors.
+fn all_lines(input: &[u8], cells: &mut [u32]) {
+    let mut at: usize = 0;
+    let mut number: u64 = 0;
+    while at < input.len() {
+        let passed = vector_lines(&input[at..], number, cells);
+        if passed == 0 {
+            return;
+        }
+        at += passed;
+        number += 1;
+    }
+}
+
+fn main() {
+    let mut buffer = [0u8; 65537];
+    let n = io::read_full(0, &mut buffer);
+    if MOST < n {
+        refuse(Refusal::BadLength);
+        return;
+    }
+    // the index of 124 pages
+    let mut cells = [0u32; 512];
+    all_lines(&buffer[..n], &mut cells);
+}
