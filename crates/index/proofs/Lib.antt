@@ -5,7 +5,6 @@ pub mod Counts
 pub mod Probing
 pub mod Holding
 pub mod Answers
-pub mod Running
 pub mod Keeping
 pub mod Lending
 pub mod Ordering
@@ -20,6 +19,7 @@ pub mod Turning
 pub mod Ahead
 pub mod Listing
 pub mod Demanding
+pub mod Running
 pub mod Kept
 pub mod Demanded
 pub mod Looking

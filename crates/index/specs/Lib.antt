@@ -3,10 +3,10 @@ pub mod Slots
 pub mod Chains
 pub mod Places
 pub mod Additions
-pub mod Runs
 pub mod Held
 pub mod Walks
 pub mod Ahead
 pub mod Listing
 pub mod Requests
+pub mod Runs
 pub mod Demand

@@ -1,7 +1,7 @@
 -- Adding a run of pages: one addition after the other, until one is refused. It is a list of additions in one call; those before the refused one
 -- stand, and the refused one changes nothing.
 use Prim.Native.Nat.{ℕ, zero, suc, _+_, _-_}
-use mathlib.Core.List.{List}
+use mathlib.Core.List.{List, [], _∷_}
 use lib.ListN.{length}
 use Rattle.page.specs.Lengths.{openedOf}
 use Rattle.page.specs.Kinds.{kindAt}
@@ -11,7 +11,8 @@ use Rattle.page.specs.declared.layout.Opened.{Opened}
 use Rattle.page.specs.declared.layout.Opened.the-variants as opened
 use Rattle.chunk.specs.Records.{ageOf}
 use Rattle.index.specs.Chains.{objects}
-use Rattle.index.specs.Additions.{Outcome, addTo}
+use Rattle.index.specs.Additions.{addTo}
+use Rattle.index.specs.Requests.{Request, add}
 use Rattle.index.specs.declared.additions.Added.{Added}
 use Rattle.index.specs.declared.additions.Added.the-variants as added
 use Rattle.index.specs.declared.runs.Run.{Run}
@@ -42,3 +43,8 @@ runIn (opened.Pages n) says from to c = runBy n (objects says) (ageOf says) (to 
 -- the pages of a dump from one to before another
 unfoldable pub runOf : Layout → ℕ → List ℕ → List ℕ → ℕ → ℕ → Ran
 runOf l k dump c from to = runIn (openedOf l k (length dump)) (kindAt l dump) from to c
+
+-- the additions of a run as a list of requests: so many pages from page p on, each lent w words
+unfoldable pub adds : ℕ → ℕ → ℕ → ℕ → List Request
+adds k w zero p = []
+adds k w (suc m) p = add k w p ∷ adds k w m (p + 1)
