@@ -90,3 +90,52 @@ impl Progress {
         }
     }
 }
+
+#[cfg(test)]
+mod tests {
+    use super::*;
+
+    /// A writer that takes at most so many bytes at once, and is interrupted
+    /// before each time.
+    struct Slow {
+        taken: Vec<u8>,
+        most: usize,
+        interrupted: bool,
+    }
+
+    impl Write for Slow {
+        fn write(&mut self, bytes: &[u8]) -> io::Result<usize> {
+            self.interrupted = !self.interrupted;
+            if self.interrupted {
+                return Err(ErrorKind::Interrupted.into());
+            }
+            let count = bytes.len().min(self.most);
+            self.taken.extend_from_slice(&bytes[..count]);
+            Ok(count)
+        }
+
+        fn flush(&mut self) -> io::Result<()> {
+            Ok(())
+        }
+    }
+
+    #[test]
+    fn pieces_are_written_whole() {
+        let bytes: Vec<u8> = (0..=255).cycle().take(5 * AT_ONCE + 7).collect();
+        for most in [1, 3, 1000] {
+            let (taken, interrupted) = (Vec::new(), false);
+            let mut slow = Slow {
+                taken,
+                most,
+                interrupted,
+            };
+            let mut shown = 0;
+            write_all(bytes.chunks(4), &mut slow, |count| shown = count).unwrap();
+            assert!(slow.taken == bytes);
+            assert_eq!(shown, bytes.len() as u64);
+        }
+        let mut full: &mut [u8] = &mut [0; 9];
+        let error = write_all(bytes.chunks(4), &mut full, |_| ()).unwrap_err();
+        assert_eq!(error.kind(), ErrorKind::WriteZero);
+    }
+}
