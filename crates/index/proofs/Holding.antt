@@ -163,7 +163,7 @@ module _
       unfolding chain
       link-own =
           ap (trace n obj age C o top) (first-own n C o s (link-slot o ∙ at) (link-key s ∙ own))
-          ∙ insert-trace n obj age inj c (g .room) p pn l lc apart L top (firstAt s) from out (old p pn) (λ x _ e. absurd (omega arith)) refl
+          ∙ insert-trace n obj age inj c (g .room) p pn pos l lc apart L top (firstAt s) from out (old p pn) (λ x _ e. absurd (omega arith)) refl
           ∙ ap fromList
           (sym (recs-add (seen obj added) (seen obj (with p added)) age o p unseen (simp (with-itself added p))
           (λ x ne. simp (with-other added p x ne)) n (λ x xn ne e. ne (inj x p xn pn e)) n (le-refl n) pn))

@@ -126,6 +126,7 @@ module _
     (room : cellsFor n ≤ length c)
     (p : ℕ)
     (pn : p < n)
+    (po : 0 < obj p)
     (at : ℕ)
     (ac : at < length c)
     (apart : at ≢ linkAt p)
@@ -146,7 +147,7 @@ module _
     -- from its place on the new chain is p and what its link leads to
     chain-new : (b : ℕ) → age p < b → trace n obj age C o b (word C at) ≡ rec p (trace n obj age C o (age p) (marked (word c at)))
     chain-new b pb =
-        trace-record n obj age o C b _ p (record { to = word-at c p at ac pc apart; inside = pn; own = refl; older = pb })
+        trace-record n obj age o C b _ p (record { to = word-at c p at ac pc apart; inside = pn; some = po; own = refl; older = pb })
         ∙ ap (λ (w : ℕ). rec p (trace n obj age C o (age p) w)) (word-own c p at ac pc apart)
 
     -- and below p it is the old one
@@ -195,7 +196,7 @@ module _
             ∙ ap (rec p)
             (simp (le-ltb (word c at) 2 big)
             (chain-below b pb (rw s at away) (word c at)
-            ∙ trace-record n obj age o c (age p) (word c at) q (record { to = rw s at (l .to); inside = l .inside; own = l .own; older = omega arith })
+            ∙ trace-record n obj age o c (age p) (word c at) q (record { to = rw s at (l .to); inside = l .inside; some = l .some; own = l .own; older = omega arith })
             ∙ ap (rec q) rest)))
         go l rest ih false f s =
             let newer : age p < age q = leb-false _ _ f in

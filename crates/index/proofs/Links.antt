@@ -2,18 +2,20 @@
 -- that as many steps as the bound says are always enough, and nothing but this equation looks at their number. A chain reads only the links
 -- of its own object's pages below its bound (`frame`), and ages fall along it.
 use Prim.Native.Nat.{ℕ, zero, suc, _-_, _≤_, _<_}
-use mathlib.Core.Bool.{Bool, true, false}
+use mathlib.Core.Bool.{Bool, true, false, not, _&&_}
 use mathlib.Core.List.{List}
 use mathlib.Core.Path.{_≡_, refl, ap, _∙_}
 use native.Mathlib.Nat.{le-refl, le-of-suc-le-suc, not-suc-le-zero, le-trans}
 use native.Mathlib.Omega.{arith}
 use lib.Dec.{ltb, eqb}
-use borrow.Author.Tests.{ltb-true, ltb-false, lt-ltb, le-ltb, eqb-true, eq-eqb, ne-eqb}
+use borrow.Author.Tests.{ltb-true, ltb-false, lt-ltb, le-ltb, eqb-true, eqb-false, eq-eqb, ne-eqb, not-true}
 use Rattle.page.specs.Choice.{pick}
 use Rattle.page.specs.declared.kind.Kind.{Kind}
-use Rattle.chunk.specs.Records.{ageOf}
+use Rattle.page.proofs.Layouts.{and-left, and-right}
+use Rattle.page.proofs.Searching.{by-test}
+use Rattle.chunk.specs.Records.{objectOf, sequenceOf, ageOf}
 use Rattle.index.specs.Cells.{word, linkAt, linkTo}
-use Rattle.index.specs.Chains.{objects, Lead, End, Damaged, Record, stepOf, Trace, clean, broken, rec, by, leadOf, traceBy, trace}
+use Rattle.index.specs.Chains.{objects, isOf, Lead, End, Damaged, Record, stepOf, stepAt, Trace, clean, broken, rec, by, leadOf, traceBy, trace}
 use Rattle.index.specs.declared.chains.Step.{Step}
 use Rattle.index.specs.declared.chains.Step.the-variants as step
 
@@ -21,6 +23,7 @@ use Rattle.index.specs.declared.chains.Step.the-variants as step
 pub record Leads (n : ℕ) (obj age : ℕ → ℕ) (o b w q : ℕ) : Type 0 where
   pub to : w ≡ linkTo q
   pub inside : q < n
+  pub some : 0 < obj q
   pub own : obj q ≡ o
   pub older : age q < b
 
@@ -33,13 +36,13 @@ module _ (n : ℕ) (obj age : ℕ → ℕ) (o b w : ℕ) where
 
   pub known : Known (leadOf n obj age o b w)
   unfolding leadOf
-  known = go (ltb w 2) (ltb (w - 2) n) (eqb (obj (w - 2)) o) (ltb (age (w - 2)) b) refl refl refl refl
+  known = go (ltb w 2) (ltb (w - 2) n) (isOf o (obj (w - 2))) (ltb (age (w - 2)) b) refl refl refl refl
     where
       go :
           (t₁ t₂ t₃ t₄ : Bool) →
           ltb w 2 ≡ t₁ →
           ltb (w - 2) n ≡ t₂ →
-          eqb (obj (w - 2)) o ≡ t₃ →
+          isOf o (obj (w - 2)) ≡ t₃ →
           ltb (age (w - 2)) b ≡ t₄ →
           Known (pick t₁ End (pick t₂ (pick t₃ (pick t₄ (Record (record { 0 = w - 2 }) (age (w - 2))) Damaged) Damaged) Damaged))
       go true t₂ t₃ t₄ e₁ e₂ e₃ e₄ = ltb-true _ _ e₁
@@ -48,7 +51,9 @@ module _ (n : ℕ) (obj age : ℕ → ℕ) (o b w : ℕ) where
       go false true true false e₁ e₂ e₃ e₄ = tt
       go false true true true e₁ e₂ e₃ e₄ =
           let big : 2 ≤ w = ltb-false w 2 e₁ in
-          (record { to = omega arith; inside = ltb-true _ _ e₂; own = eqb-true _ _ e₃; older = ltb-true _ _ e₄ }, refl)
+          let z : obj (w - 2) ≡ 0 → ⊥ = eqb-false _ _ (not-true _ (and-left (not (eqb (obj (w - 2)) 0)) _ e₃)) in
+          let same : obj (w - 2) ≡ o = eqb-true _ _ (and-right (not (eqb (obj (w - 2)) 0)) _ e₃) in
+          (record { to = omega arith; inside = ltb-true _ _ e₂; some = omega arith; own = same; older = ltb-true _ _ e₄ }, refl)
 
   pub lead-end : w < 2 → leadOf n obj age o b w ≡ End
   unfolding leadOf
@@ -60,23 +65,30 @@ module _ (n : ℕ) (obj age : ℕ → ℕ) (o b w : ℕ) where
     lead-outside h = simp (le-ltb w 2 big, le-ltb (w - 2) n h)
 
     module _ (inside : w - 2 < n) where
-      pub lead-other : (obj (w - 2) ≡ o → ⊥) → leadOf n obj age o b w ≡ Damaged
+      pub lead-none : obj (w - 2) ≡ 0 → leadOf n obj age o b w ≡ Damaged
       unfolding leadOf
-      lead-other h = simp (le-ltb w 2 big, lt-ltb (w - 2) n inside, ne-eqb (obj (w - 2)) o h)
+      lead-none h = simp (le-ltb w 2 big, lt-ltb (w - 2) n inside, eq-eqb (obj (w - 2)) 0 h)
 
-      module _ (own : obj (w - 2) ≡ o) where
+      pub lead-other : 0 < obj (w - 2) → (obj (w - 2) ≡ o → ⊥) → leadOf n obj age o b w ≡ Damaged
+      unfolding leadOf
+      lead-other s h = simp (le-ltb w 2 big, lt-ltb (w - 2) n inside, ne-eqb (obj (w - 2)) 0 (λ e. absurd (omega arith)), ne-eqb (obj (w - 2)) o h)
+
+      module _ (some : 0 < obj (w - 2)) (own : obj (w - 2) ≡ o) where
+        record-of : isOf o (obj (w - 2)) ≡ true
+        record-of = rw (ne-eqb (obj (w - 2)) 0 (λ e. absurd (omega arith))) (eq-eqb (obj (w - 2)) o own)
+
         pub lead-newer : b ≤ age (w - 2) → leadOf n obj age o b w ≡ Damaged
         unfolding leadOf
-        lead-newer h = simp (le-ltb w 2 big, lt-ltb (w - 2) n inside, eq-eqb (obj (w - 2)) o own, le-ltb (age (w - 2)) b h)
+        lead-newer h = rw (le-ltb w 2 big, lt-ltb (w - 2) n inside, record-of, le-ltb (age (w - 2)) b h)
 
         pub lead-older : age (w - 2) < b → leadOf n obj age o b w ≡ Record (record { 0 = w - 2 }) (age (w - 2))
         unfolding leadOf
-        lead-older h = simp (le-ltb w 2 big, lt-ltb (w - 2) n inside, eq-eqb (obj (w - 2)) o own, lt-ltb (age (w - 2)) b h)
+        lead-older h = rw (le-ltb w 2 big, lt-ltb (w - 2) n inside, record-of, lt-ltb (age (w - 2)) b h)
 
   pub lead-record : (q : ℕ) → Leads n obj age o b w q → leadOf n obj age o b w ≡ Record (record { 0 = q }) (age q)
   lead-record q l =
       let e : w - 2 ≡ q = omega arith in
-      rw e at (lead-older (omega arith) (rw e (l .inside)) (rw e (l .own)) (rw e (l .older)))
+      rw e at (lead-older (omega arith) (rw e (l .inside)) (rw e (l .some)) (rw e (l .own)) (rw e (l .older)))
 
 -- two chains whose rests are the same wherever a link may lead are the same
 by-same :
@@ -177,6 +189,21 @@ module _ (says : ℕ → Kind) (n o : ℕ) (c : List ℕ) (b w : ℕ) where
       go End k = k
       go Damaged k = k
       go (Record q a) k = (k, refl)
+
+-- a step to a page of the dump that is a record goes by its object and its sequence
+pub step-to :
+    (says : ℕ → Kind) (n o b w : ℕ) →
+    2 ≤ w →
+    w - 2 < n →
+    0 < objectOf (says (w - 2)) →
+    stepOf says (leadOf n (objects says) (ageOf says) o b w)
+    ≡ stepAt (says (w - 2)) (w - 2) (objectOf (says (w - 2))) (sequenceOf (says (w - 2))) o b
+unfolding stepOf leadOf
+step-to says n o b w big inside some =
+    rw (le-ltb w 2 big, lt-ltb (w - 2) n inside, ne-eqb (objectOf (says (w - 2))) 0 (λ e. absurd (omega arith)))
+    (by-test (eqb (objectOf (says (w - 2))) o) _
+    (λ t. rw t (by-test (ltb (ageOf says (w - 2)) b) _ (λ u. rw u) (λ u. rw u)))
+    (λ t. rw t))
 
 -- a chain reads only the links of its object's pages below its bound
 module _ (n : ℕ) (obj age : ℕ → ℕ) (o : ℕ) (c c′ : List ℕ) where

@@ -1,11 +1,12 @@
 -- The chain of an object, on any cells: what the links say (document 01, "Index").
 -- There are n pages; `obj` gives the object of a page, 0 for one that is no record, and `age` its place in the order of records.
 use Prim.Native.Nat.{ℕ, zero, suc, _-_}
+use mathlib.Core.Bool.{Bool, not, _&&_}
 use mathlib.Core.List.{List}
 use lib.Dec.{eqb, ltb}
 use Rattle.page.specs.Choice.{pick}
 use Rattle.page.specs.declared.kind.Kind.{Kind}
-use Rattle.chunk.specs.Records.{objectOf}
+use Rattle.chunk.specs.Records.{objectOf, orderOf}
 use Rattle.index.specs.Cells.{word, linkAt}
 use Rattle.index.specs.Slots.{first}
 use Rattle.page.specs.declared.number.PageNumber.{PageNumber}
@@ -32,6 +33,13 @@ stepOf says End = step.End
 stepOf says Damaged = step.Damaged
 stepOf says (Record q a) = step.Record q a (says (q .0))
 
+-- the step to page q, a record that says k, of this object and sequence, in the chain of object o below an age
+abbrev pub stepAt : Kind → ℕ → ℕ → ℕ → ℕ → ℕ → Step
+stepAt k q object sequence o b =
+    pick (eqb object o)
+    (pick (ltb (orderOf sequence q) b) (step.Record (record { 0 = q }) (orderOf sequence q) k)
+    step.Damaged) step.Damaged
+
 -- the records that the links lead to, from the newest on: an end, a link that is damaged, or a record and the rest
 pub data Trace : Type 0 where
   clean : Trace
@@ -44,6 +52,10 @@ by End rest = clean
 by Damaged rest = broken
 by (Record q a) rest = rec (q .0) (rest (q .0) a)
 
+-- whether a page that has the object x is a record of object o
+abbrev pub isOf : ℕ → ℕ → Bool
+isOf o x = not (eqb x 0) && eqb x o
+
 module _ (n : ℕ) (obj age : ℕ → ℕ) where
   -- where the link w leads in the chain of object o below the age b. It is damaged if it leads outside the dump, to a page that is not a
   -- record of that object, or to one that is not older
@@ -51,7 +63,7 @@ module _ (n : ℕ) (obj age : ℕ → ℕ) where
   leadOf o b w =
       pick (ltb w 2) End
       (pick (ltb (w - 2) n)
-      (pick (eqb (obj (w - 2)) o)
+      (pick (isOf o (obj (w - 2)))
       (pick (ltb (age (w - 2)) b) (Record (record { 0 = w - 2 }) (age (w - 2)))
       Damaged) Damaged) Damaged)
 

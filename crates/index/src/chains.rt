@@ -2,11 +2,9 @@
 ghost use mathlib.Core.Path.{_≡_};
 ghost use Rattle.page.specs.Kinds.{kindAt};
 ghost use Rattle.chunk.specs.Records.{ageOf};
-ghost use Rattle.index.specs.Chains.{objects, leadOf, stepOf};
+ghost use Rattle.index.specs.Chains.{objects, leadOf, stepOf, stepAt};
 use crate::cells::LINKS;
-use chunk::record::object_of;
 use chunk::record::order_of;
-use chunk::record::sequence_of;
 use page::kind::Kind;
 use page::kind::kind_at;
 use page::layout::Layout;
@@ -23,6 +21,20 @@ pub enum Step {
     Record(PageNumber, u64, Kind),
 }
 
+// The step to page q, a record that says k, of this object and sequence, in the chain of object o below an age.
+fn step_to(k: Kind, q: PageNumber, object: ObjectId, sequence: u32, o: ObjectId, bound: u64) -> Step
+    ensures { λ r. ⌜ r ≡ stepAt k (q .0) (object .0) sequence (o .0) bound ⌝ }
+{
+    if object.0 != o.0 {
+        return Step::Damaged;
+    }
+    let age = order_of(sequence, q);
+    if bound <= age {
+        return Step::Damaged;
+    }
+    Step::Record(q, age, k)
+}
+
 // Where a link leads in the chain of object o below an age, in a dump of so many pages. A link may not lead outside the dump, to a page that
 // is not a record of that object, or to one that is not older.
 pub fn follow(dump: &[u8], l: Layout, pages: u32, o: ObjectId, bound: u64, link: u32) -> Step
@@ -36,12 +48,25 @@ pub fn follow(dump: &[u8], l: Layout, pages: u32, o: ObjectId, bound: u64, link:
         return Step::Damaged;
     }
     let k = kind_at(dump, l, q);
-    if object_of(k) != o.0 {
-        return Step::Damaged;
-    }
-    let age = order_of(sequence_of(k), q);
-    if bound <= age {
-        return Step::Damaged;
-    }
-    Step::Record(q, age, k)
+    let Kind::Data {
+        sequence,
+        object,
+        chunk: _,
+        count: _,
+    } = k
+    else {
+        let Kind::Header {
+            sequence,
+            object,
+            page_type: _,
+            parent: _,
+            size: _,
+            shrink: _,
+        } = k
+        else {
+            return Step::Damaged;
+        };
+        return step_to(k, q, object, sequence, o, bound);
+    };
+    step_to(k, q, object, sequence, o, bound)
 }

@@ -1,11 +1,15 @@
--- The tests come in the definition's order.
-use Prim.Native.Nat.{_-_}
-use mathlib.Core.Path.{_≡_, sym, ap, _∙_}
+-- The tests come in the definition's order. A page that is neither a header nor data is no record; the others have an object.
+use Prim.Native.Nat.{_-_, _<_}
+use mathlib.Core.Path.{_≡_, sym, _∙_}
+use native.Mathlib.Omega.{arith}
 use borrow.Author.Needs.{needs}
 use Rattle.page.specs.Kinds.{kindAt}
-use Rattle.chunk.specs.Records.{objectOf, ageOf}
-use Rattle.index.specs.Chains.{objects, stepOf}
-use Rattle.index.proofs.Links.{lead-end, lead-outside, lead-other, lead-newer, lead-older}
+use Rattle.page.proofs.Sound.{else-header, else-data}
+use Rattle.page.proofs.Within.{header-within, data-within}
+use Rattle.chunk.specs.Records.{objectOf}
+use Rattle.index.specs.Chains.{stepOf}
+use Rattle.index.proofs.Links.{lead-end, lead-outside, lead-none, step-to}
+use Rattle.index.proofs.Walking.{other-none}
 use Rattle.index.proofs.chains.follow.Statement.{statement}
 use Rattle.index.proofs.chains.follow.Tie as tie
 
@@ -17,50 +21,38 @@ returns-2 : tie.Need-returns-2
 unfolding stepOf
 returns-2 c = rw (lead-outside _ _ _ _ _ _ (c .before .before .if1 .left) (c .if2 .taken))
 
--- the object of the page that the link leads to
-abbrev Object : tie.After-object-of → Type 0
-Object g =
-    let a = g .before .before .before .before .before .before .args in
-    g .object-of .result ≡ objects (kindAt (a .l) (a .dump .now)) (a .link - 2)
-
-object : (g : tie.After-object-of) → Object g
-object g = g .object-of .ensures ∙ ap objectOf (g .before .kind-at .ensures)
-
 returns-3 : tie.Need-returns-3
 unfolding stepOf
 returns-3 c =
-    let g = c .before .before in
-    let t = g .before .before in
-    rw (lead-other _ _ _ _ _ _ (t .before .before .if1 .left) (t .if2 .left) (λ q. c .if3 .taken (object g ∙ q)))
-
--- its age
-abbrev Age : tie.After-order-of → Type 0
-Age f =
-    let a = f .before .before .before .before .before .before .before .before .before .before .args in
-    f .order-of .result ≡ ageOf (kindAt (a .l) (a .dump .now)) (a .link - 2)
-
-age : (f : tie.After-order-of) → Age f
-age f = rw (f .order-of .ensures, f .before .sequence-of .ensures, f .before .before .before .before .before .kind-at .ensures)
+    let h = c .before in
+    let k = h .before in
+    let t = k .before in
+    let none = other-none (k .kind-at .result) (else-header (k .kind-at .result) (c .match2 .keys2)) (else-data (k .kind-at .result) (h .match .keys2)) in
+    rw (lead-none _ _ _ _ _ _ (t .before .before .if1 .left) (t .if2 .left) (rw (k .kind-at .ensures) at none))
 
 returns-4 : tie.Need-returns-4
-unfolding stepOf
 returns-4 c =
-    let f = c .before in
-    let e = f .before .before in
-    let g = e .before .before in
-    let t = g .before .before in
-    rw (lead-newer _ _ _ _ _ _ (t .before .before .if1 .left) (t .if2 .left) (sym (object g) ∙ e .if3 .left) (rw (age f) at (c .if4 .taken)))
+    let g = c .before .before in
+    let k = g .before .before .before in
+    let t = k .before in
+    let e = sym (k .kind-at .ensures) ∙ g .k2 .given .1 in
+    let a = t .before .before .before .before .args in
+    let some : 0 < objectOf (kindAt (a .l) (a .dump .now) (a .link - 2)) = rw e (header-within _ _ _ _ _ _ _ _ _ e .object .least) in
+    rw (step-to (kindAt (a .l) (a .dump .now)) _ _ _ (a .link) (t .before .before .if1 .left) (t .if2 .left) some, e)
+    (c .step-to .ensures)
 
 returns-5 : tie.Need-returns-5
-unfolding stepOf
 returns-5 c =
-    let f = c .before in
-    let e = f .before .before in
-    let g = e .before .before in
-    let t = g .before .before in
-    rw (lead-older _ _ _ _ _ _ (t .before .before .if1 .left) (t .if2 .left) (sym (object g) ∙ e .if3 .left) (rw (age f) at (c .if4 .left)))
-    (rw (age f, g .before .kind-at .ensures))
+    let g = c .before .before in
+    let k = g .before .before in
+    let t = k .before in
+    let e = sym (k .kind-at .ensures) ∙ g .k .given .1 in
+    let a = t .before .before .before .before .args in
+    let some : 0 < objectOf (kindAt (a .l) (a .dump .now) (a .link - 2)) = rw e (data-within _ _ _ _ _ _ _ e .object .least) in
+    rw (step-to (kindAt (a .l) (a .dump .now)) _ _ _ (a .link) (t .before .before .if1 .left) (t .if2 .left) some, e)
+    (c .step-to2 .ensures)
 
 pub follow-spec : {M : Type 1} → statement M
 follow-spec =
-    tie.close (tie.spec returns returns-2 (search needs) (search needs) returns-3 (search needs) (search needs) returns-4 returns-5)
+    tie.close
+    (tie.spec returns returns-2 (search needs) (search needs) (search needs) returns-3 (search needs) returns-4 (search needs) returns-5)
