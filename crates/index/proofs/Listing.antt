@@ -33,7 +33,9 @@ use Rattle.chunk.specs.declared.answer.Listed.the-variants as listed
 use Rattle.chunk.specs.declared.answer.Tallied.the-variants as tallied
 use Rattle.chunk.proofs.Ascending.{Ascends, same-members}
 use Rattle.chunk.proofs.Ascending as ascending
-use Rattle.chunk.proofs.Living.{Bears, Live, newest-found, ids-in, ids-of, ids-length, ids-ascend, count-below, live-ids-ascend, live-in, live-of, objectIds, objects-ascend, objects-length, objects-in, objects-of}
+use Rattle.chunk.proofs.Cases.{listed-count}
+use Rattle.chunk.proofs.Meaning.{newest-found}
+use Rattle.chunk.proofs.Living.{Bears, Live, ids-in, ids-of, ids-length, ids-ascend, count-below, live-ids-ascend, live-in, live-of, objectIds, objects-ascend, objects-length, objects-in, objects-of}
 use Rattle.index.specs.Cells.{cellsFor, keys}
 use Rattle.index.specs.Slots.{slot}
 use Rattle.index.specs.Chains.{objects, top, clean, trace, chain}
@@ -194,9 +196,9 @@ module _ (says : ℕ → Kind) (P : ℕ) (c : List ℕ) (n : ℕ) where
         (λ t q. let z : _≡_ {A = ℕ} 0 1 = cc in absurd (omega arith)))
 
     pub list-counted : (room m : ℕ) → tallyIn ask.Live says P c n ≡ tallied.Count m → Counted room m
-    unfolding tallyIn listIn listedBy slotIds
+    unfolding tallyIn listIn slotIds
     list-counted room m e =
-        rw (le-ltb (length c) (cellsFor n) enough, ids-length (askedSlot ask.Live says P c n) (keys c) n)
+        rw (le-ltb (length c) (cellsFor n) enough, listed-count room _ _ (ids-length (askedSlot ask.Live says P c n) (keys c) n))
         (pick-cases (ltb 0 (count (damagedSlot ask.Live says P c n) n)) _ _ _ _ e
         (λ t q. let z : _≡_ {A = ℕ} 0 1 = cc in absurd (omega arith))
         (λ t q. let same : m ≡ count (askedSlot ask.Live says P c n) n = cc in (same, rw (t, same))))
@@ -322,9 +324,9 @@ module _
     live-found : (o : ℕ) → Live S n o → Found ask.Live says P c n o
     live-found o w =
         let h = w .header in
-        let f = newest-found S (headerOf o) h n (w .newest-header) in
-        let r = header-pos o h (f .1) in
-        (r .0, key-found o h (r .0) (added-record o h (r .0) (f .0) (r .1)), rw (live-held o (r .0)) (live-stands o w))
+        let f = newest-found S (headerOf o) n h (w .newest-header) in
+        let r = header-pos o h (f .passes) in
+        (r .0, key-found o h (r .0) (added-record o h (r .0) (f .below) (r .1)), rw (live-held o (r .0)) (live-stands o w))
 
     pub ids-same : slotIds ask.Live says P c n ≡ liveIds S n
     ids-same =
