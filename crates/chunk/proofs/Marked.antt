@@ -1,12 +1,10 @@
 -- The twelve marked cases, computed from the definitions. W's kinds are known page by page from the crate of pages, so that no byte is looked at here.
-use mathlib.Core.List.{List, map}
-use mathlib.Core.Path.{_≡_, refl, ap, _∙_, fun-ext}
+use mathlib.Core.Path.{_≡_, fun-ext}
 use lib.ListN.{length, getD}
 use Rattle.page.specs.Numbers.{badObject, badChunk}
 use Rattle.page.specs.Kinds.{kindAt}
 use Rattle.page.specs.Lengths.{openedOf}
-use Rattle.page.specs.Shelf.{shelfLayout, shelf, shelfKinds, pageCases, kindIn}
-use Rattle.page.specs.declared.kind.Kind.{Kind}
+use Rattle.page.specs.Shelf.{shelfLayout, shelf, shelfKinds}
 use Rattle.page.specs.declared.kind.Kind.the-variants.{Blank}
 use Rattle.page.specs.declared.layout.Opened.the-variants.{Pages}
 use Rattle.page.proofs.Marked as pages
