@@ -24,6 +24,7 @@ use Rattle.page.specs.Counts.{isHeader}
 use Rattle.page.specs.declared.kind.Kind.{Kind}
 use Rattle.page.specs.declared.kind.Kind.the-variants.{Header}
 use Rattle.page.specs.declared.number.ObjectId.{ObjectId}
+use Rattle.page.proofs.Layouts.{and-left, and-right}
 use Rattle.page.proofs.Searching.{by-test, count-none, count-step}
 use Rattle.chunk.specs.Gather.{gather}
 use Rattle.chunk.specs.Records.{isOf, headerOf, isGone}
@@ -33,11 +34,6 @@ use Rattle.chunk.specs.Lists.{inFront, inserted}
 use Rattle.chunk.proofs.Gathering.{gather-step, since-none, since-skip, since-one}
 use Rattle.chunk.proofs.Meaning.{newest-found}
 use Rattle.chunk.proofs.Ascending.{In, Ascends, ascend-new, ascend-kept, ascend-back, ascend-ascends, ascend-length, insert-front}
-
--- both tests of two hold
-both : (a b : Bool) → a && b ≡ true → (a ≡ true) × (b ≡ true)
-both true b e = (refl, e)
-both false b e = let z : _≡_ {A = ℕ} 0 1 = cc in absurd (omega arith)
 
 -- one that does not pass, and one that does
 pub count-skip : (test : ℕ → Bool) (n : ℕ) → test n ≡ false → count test (n + 1) ≡ count test n
@@ -171,18 +167,17 @@ module _ (says : ℕ → Kind) where
     -- a live page is the newest header of its object, and that is live
     live-page : (p : ℕ) → livePage says n p ≡ true → (newestHeader says (objectAt says p) n ≡ some p) × (isGone (says p) ≡ false)
     live-page p e =
-        let r = both (isHeader (says p)) _ e .1 in
-        let s = both (not (isGone (says p))) _ r in
-        (at-some p _ (s .1), not-true (isGone (says p)) (s .0))
+        let r = and-right (isHeader (says p)) _ e in
+        (at-some p _ (and-right (not (isGone (says p))) _ r), not-true (isGone (says p)) (and-left (not (isGone (says p))) _ r))
 
     -- the newest header of a live object is a live page
     page-live : (o : ℕ) → Live o → Bears (livePage says n) (objectAt says) n o
     page-live o w =
         let p = w .header in
         let f = newest-found says (headerOf o) n p (w .newest-header) in
-        let r = both (isOf o (says p)) (isHeader (says p)) (f .passes) in
-        let e : objectAt says p ≡ o = eqb-true _ _ (r .0) in
-        record { page = p; inside = f .below; passes = rw (r .1, w .kept, e, w .newest-header) (eq-eqb p p refl); bears = e }
+        let r = and-right (isOf o (says p)) (isHeader (says p)) (f .passes) in
+        let e : objectAt says p ≡ o = eqb-true _ _ (and-left (isOf o (says p)) _ (f .passes)) in
+        record { page = p; inside = f .below; passes = rw (r, w .kept, e, w .newest-header) (eq-eqb p p refl); bears = e }
 
     -- an object has one newest header
     live-apart : (p q : ℕ) → livePage says n p ≡ true → livePage says n q ≡ true → objectAt says p ≡ objectAt says q → p ≡ q
@@ -246,8 +241,8 @@ module _ (says : ℕ → Kind) where
   -- behind which none is first
   object-page : (p : ℕ) → objectPage says p ≡ true → (objectAt says p ≡ 0 → ⊥) × (records says (objectAt says p) p ≡ 0)
   object-page p t =
-      let r = both (not (eqb (objectAt says p) 0)) _ t in
-      (eqb-false _ _ (not-true _ (r .0)), eqb-true _ _ (r .1))
+      let z = not (eqb (objectAt says p) 0) in
+      (eqb-false _ _ (not-true _ (and-left z _ t)), eqb-true _ _ (and-right z _ t))
 
   none-behind : (p q : ℕ) → p < q → objectAt says p ≡ objectAt says q → objectPage says q ≡ true → ⊥
   none-behind p q h e t = record-some (objectAt says q) p q h (eq-eqb _ _ e) (object-page q t .1)

@@ -23,13 +23,14 @@ use Rattle.chunk.specs.Sizes.{sizeOf}
 use Rattle.chunk.specs.Lookups.{fileAt, fileOf, sizedBy, copyBy, lookedBy, shownOf}
 use Rattle.chunk.specs.declared.answer.File.the-variants as file
 use Rattle.chunk.proofs.Cases.{file-cases, file-headless, file-headed, size-larger, sized-refused, sized-file, copy-missing, copy-hidden, copy-shown, looked-refused, looked-past, looked-inside}
+use Rattle.chunk.proofs.Ascending.{In}
 use Rattle.index.specs.Chains.{objects, top}
 use Rattle.index.specs.Held.{seen, recs, fromList}
 use Rattle.index.specs.Walks.{seenSays, recordsIn, sizeVisits, chunkVisits, sizeFile, sizeAt, sizeReached, cutBy, metWith, reach, copyFrom, chunkFile, chunkReached, chunkWalk, sizeWalk}
 use Rattle.index.specs.declared.walks.Met.{Met}
 use Rattle.index.specs.declared.walks.Met.the-variants.{Nothing}
 use Rattle.index.specs.declared.walks.Reached.the-variants as reached
-use Rattle.index.proofs.Records.{In, recs-of, recs-same}
+use Rattle.index.proofs.Records.{recs-of, recs-same}
 use Rattle.index.proofs.Through.{through, through-at, through-idle, through-same}
 use Rattle.index.proofs.Parting.{Fails, Parted, all, at, parted, fails-at, in-at, in-above, falls-same, recs-falls}
 use Rattle.index.proofs.Walking.{headed, copied, endBy, behind-at, reach-none, reach-at, met-none, met-at, seek-none, seek-at}

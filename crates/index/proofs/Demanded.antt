@@ -20,6 +20,7 @@ use Rattle.page.proofs.Searching.{by-test}
 use Rattle.page.proofs.Lengths.{opened-facts, opened-some}
 use Rattle.chunk.specs.Records.{ageOf}
 use Rattle.chunk.specs.Newest.{records}
+use Rattle.chunk.proofs.Ascending.{In}
 use Rattle.index.specs.Additions.{startIn, startOf}
 use Rattle.index.specs.Cells.{cellsFor}
 use Rattle.index.specs.Chains.{objects, Trace, chain, top}
@@ -28,7 +29,6 @@ use Rattle.index.specs.Walks.{seenSays, sizeVisits, chunkVisits}
 use Rattle.index.specs.Requests.{Request, sizeSeen, chunkSeen, answersOn, answersBy, addedOf, wordsOf}
 use Rattle.index.specs.Demand.{OnChain, Falling, isAdded, addedRecords, Demand3, Demand}
 use Rattle.index.specs.declared.additions.Added.the-variants.{Done, Refused}
-use Rattle.index.proofs.Records.{In}
 use Rattle.index.proofs.Inserting.{Falls}
 use Rattle.index.proofs.Kept.{held-falls, held-in, held-of, held-apart, start-kept}
 use Rattle.index.proofs.Lending.{held-lent}

@@ -21,10 +21,11 @@ use Rattle.chunk.specs.Cuts.{nowhere, cutOf, lowestCut}
 use Rattle.chunk.specs.Sizes.{endOf, dataEnd}
 use Rattle.chunk.proofs.Gathering.{and-true, newest-suc, since-none, since-suc, end-none, end-suc, cut-none, cut-suc}
 use Rattle.chunk.proofs.Gathering as gathering
+use Rattle.chunk.proofs.Ascending.{In}
 use Rattle.index.specs.Chains.{objects}
 use Rattle.index.specs.Held.{recs}
 use Rattle.index.specs.Walks.{cutBy}
-use Rattle.index.proofs.Records.{In, recs-of}
+use Rattle.index.proofs.Records.{recs-of}
 use Rattle.index.proofs.Inserting.{Falls, falls-in}
 use Rattle.index.proofs.Through.{through, through-at, through-idle, through-same, through-count, gather-recs}
 use Rattle.index.proofs.Parting.{Fails, in-above, in-at, falls-above, falls-below}

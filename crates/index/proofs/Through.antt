@@ -10,8 +10,9 @@ use native.Mathlib.Omega.{arith}
 use lib.Dec.{eqb, leb}
 use lib.ListN.{length}
 use Rattle.page.proofs.Searching.{by-test}
+use Rattle.chunk.proofs.Ascending.{In}
 use Rattle.index.specs.Held.{insert, recs}
-use Rattle.index.proofs.Records.{In, recs-of}
+use Rattle.index.proofs.Records.{recs-of}
 
 module _ {A : Type 0} (f : ℕ → A → A) where
   -- what the records of a list make of a, the first one first
