@@ -69,14 +69,14 @@ module _ (says : ℕ → Kind) (o n : ℕ) where
     unfolding sizedBy
     sized-file h v = refl
 
-    -- a bad id is refused first
+    -- a bad id is refused first, and then it goes by the file
     pub size-bad : badObject o ≡ true → sizedOf says o n P ≡ sized.Refused BadObject 0
     unfolding sizedOf
     size-bad e = rw e
 
-    pub size-good : badObject o ≡ false → sizedOf says o n P ≡ sizedBy says o n P (fileOf says o n)
+    pub size-by-file : badObject o ≡ false → sizedOf says o n P ≡ sizedBy says o n P (fileOf says o n)
     unfolding sizedOf
-    size-good e = rw e
+    size-by-file e = rw e
 
     -- ---- its chunks
 
@@ -115,7 +115,7 @@ module _ (says : ℕ → Kind) (o n : ℕ) where
         unfolding lookedBy chunkBy
         looked-inside i = rw (lt-leb _ _ i)
 
-      -- a bad id is refused first, and then a bad chunk number
+      -- a bad id is refused first, then a bad chunk number, and then it goes by the file
       pub chunk-bad-object : badObject o ≡ true → lookedOf says o n P c ≡ looked.Refused BadObject 0 0
       unfolding lookedOf
       chunk-bad-object e = rw e
@@ -124,9 +124,9 @@ module _ (says : ℕ → Kind) (o n : ℕ) where
       unfolding lookedOf
       chunk-bad-number e d = rw (e, d)
 
-      pub chunk-good : badObject o ≡ false → badChunk c ≡ false → lookedOf says o n P c ≡ lookedBy says o n P c (fileOf says o n)
+      pub chunk-by-file : badObject o ≡ false → badChunk c ≡ false → lookedOf says o n P c ≡ lookedBy says o n P c (fileOf says o n)
       unfolding lookedOf
-      chunk-good e d = rw (e, d)
+      chunk-by-file e d = rw (e, d)
 
 -- where a header cuts does not go by its sequence and its object, which may as well be 0
 pub cut-any : (b : Bool) (s : ℕ) (o : ObjectId) (t : ℕ) (p : ObjectId) (z : ℕ) (m : Bool) → cutOf b (Header s o t p z m) ≡ cutOf b (headerIn 0 (record { 0 = 0 }) t p z m)
@@ -165,7 +165,7 @@ pub listed-count : (room m : ℕ) (ids : List ℕ) → length ids ≡ m → list
 unfolding listedBy
 listed-count room m ids e = rw e
 
--- a refused one leaves the words as they were
+-- a refused one leaves the words as they were, and another has the ids in front
 module _ (ids words : List ℕ) where
   pub words-kept : (r : Refusal) (need : ℕ) → wordsBy ids words (listed.Refused r need) ≡ words
   unfolding wordsBy

@@ -19,7 +19,7 @@ use Rattle.chunk.specs.Lookups.{fileOf, copyBy, lookedOf, shownOf, valid
 use Rattle.chunk.specs.declared.answer.File.the-variants as file
 use Rattle.chunk.specs.declared.answer.Looked.{Looked}
 use Rattle.chunk.specs.declared.answer.Looked.the-variants as looked
-use Rattle.chunk.proofs.Cases.{copy-missing, copy-hidden, copy-shown, looked-inside, chunk-good}
+use Rattle.chunk.proofs.Cases.{copy-missing, copy-hidden, copy-shown, looked-inside, chunk-by-file}
 use Rattle.chunk.proofs.Meaning.{Hides, lowest-cut-hides, hides-lowest-cut}
 
 module _
@@ -34,7 +34,7 @@ module _
 
   -- the lookup answers by the newest copy
   by-copy : answer ≡ copyBy says o n P c (h .0) shown (newestCopy says o c n)
-  by-copy = chunk-good says o n P c object number ∙ rw live (looked-inside says o n P c h v inside)
+  by-copy = chunk-by-file says o n P c object number ∙ rw live (looked-inside says o n P c h v inside)
 
   -- no copy: a hole
   pub hole-without-copy : newestCopy says o c n ≡ none → answer ≡ looked.Hole shown (records says o n)

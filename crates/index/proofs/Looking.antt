@@ -18,7 +18,7 @@ use Rattle.page.proofs.Within.{object-within, chunk-within}
 use Rattle.chunk.specs.Records.{ageOf}
 use Rattle.chunk.specs.Newest.{records}
 use Rattle.chunk.specs.Lookups.{sizedOf, lookedOf}
-use Rattle.chunk.proofs.Cases.{size-bad, size-good, chunk-bad-object, chunk-bad-number, chunk-good}
+use Rattle.chunk.proofs.Cases.{size-bad, size-by-file, chunk-bad-object, chunk-bad-number, chunk-by-file}
 use Rattle.index.specs.Chains.{objects, top}
 use Rattle.index.specs.Held.{Held}
 use Rattle.index.specs.Walks.{seenSays, sizeVisits, chunkVisits, sizeIn, chunkIn, sizeFrom, chunkFrom}
@@ -40,7 +40,7 @@ module _
         (λ t. rw (size-bad S o n P t) zero-le)
         (λ t.
         let pos : 0 < o = object-within o t .least in
-        rw (size-good S o n P t, ← size-seen says n few old added o pos P) (size-visits-seen says n few old added o pos P))
+        rw (size-by-file S o n P t, ← size-seen says n few old added o pos P) (size-visits-seen says n few old added o pos P))
 
     pub chunk-visited : P ≤ mostBytes → (c : ℕ) → chunkVisits (lookedOf S o n P c) ≤ records S o n
     chunk-visited h c =
@@ -51,7 +51,7 @@ module _
         (λ u. rw (chunk-bad-number S o n P c t u) zero-le)
         (λ u.
         let pos : 0 < o = object-within o t .least in
-        rw (chunk-good S o n P c t u, ← chunk-seen says n few old added o pos P c (chunk-within c u .least) (chunk-near P c h u))
+        rw (chunk-by-file S o n P c t u, ← chunk-seen says n few old added o pos P c (chunk-within c u .least) (chunk-near P c h u))
         (chunk-visits-seen says n few old added o pos P c)))
 
     -- by the index
@@ -64,7 +64,7 @@ module _
           (λ t. rw t (sym (size-bad S o n P t)))
           (λ t.
           let pos : 0 < o = object-within o t .least in
-          rw (t, held .chains o pos) (size-seen says n few old added o pos P ∙ sym (size-good S o n P t))))
+          rw (t, held .chains o pos) (size-seen says n few old added o pos P ∙ sym (size-by-file S o n P t))))
 
       pub chunk-held : P ≤ mostBytes → (c : ℕ) → chunkIn says P cells o n c ≡ lookedOf S o n P c
       unfolding chunkIn
@@ -79,7 +79,7 @@ module _
           (λ u.
           let pos : 0 < o = object-within o t .least in
           rw (u, held .chains o pos)
-          (chunk-seen says n few old added o pos P c (chunk-within c u .least) (chunk-near P c h u) ∙ sym (chunk-good S o n P c t u))))))
+          (chunk-seen says n few old added o pos P c (chunk-within c u .least) (chunk-near P c h u) ∙ sym (chunk-by-file S o n P c t u))))))
 
 -- an accepted dump of n pages
 module _
