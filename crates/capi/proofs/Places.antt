@@ -2,7 +2,7 @@
 use Prim.Native.Nat.{ℕ, _+_, _*_, _≤_}
 use mathlib.Core.Bool.{_&&_}
 use mathlib.Core.List.{List}
-use mathlib.Core.Path.{_≡_, refl, sym}
+use mathlib.Core.Path.{_≡_, refl, sym, _∙_}
 use native.Mathlib.Omega.{arith}
 use lib.ListN.{length, take, drop}
 use lib.Dec.{leb}
@@ -22,6 +22,7 @@ use Rattle.page.proofs.Texts.{headed-text, refused-text}
 use Rattle.chunk.specs.Answers.{validPart, partBy}
 use Rattle.chunk.specs.declared.answer.Looked.{Looked}
 use Rattle.chunk.specs.declared.answer.Looked.the-variants as looked
+use Rattle.chunk.proofs.Cases.{valid-there, valid-none, part-copy, part-hole, part-refused}
 use Rattle.capi.specs.Headers.{partAnswer, textAnswer}
 use Rattle.capi.specs.Lookups.{placeOf, placeAnswer}
 
@@ -39,17 +40,16 @@ module _ (f : Text) (l : Layout) (k : ℕ) (dump : List ℕ) (i : ℕ) where
 
 module _ (l : Layout) (dump : List ℕ) where
   pub valid-here : (p valid : ℕ) → let r = placeOf l (length dump) p valid in take (r .length) (drop (r .offset) dump) ≡ validPart l dump p valid
-  unfolding validPart
   valid-here p valid =
       by-test (pageIn l (length dump) p && leb valid (l .«data»)) _
       (λ t.
       let h : valid ≤ l .«data» = leb-true _ _ (and-right (pageIn l (length dump) p) _ t) in
-      rw t (sym (page-front l dump p valid (omega arith))))
-      (λ t. rw t)
+      rw (t, valid-there l dump p valid t) (sym (page-front l dump p valid (omega arith))))
+      (λ t. rw (t, valid-none l dump p valid t))
 
   -- the valid bytes of a chunk
   pub chunk-here : (a : Looked) → take (placeAnswer l (length dump) a .length) (drop (placeAnswer l (length dump) a .offset) dump) ≡ partBy l dump a
-  unfolding placeAnswer partBy
-  chunk-here (looked.Refused r v n) = refl
-  chunk-here (looked.Hole s v) = refl
-  chunk-here (looked.Copy p a s v) = valid-here (p .0) a
+  unfolding placeAnswer
+  chunk-here (looked.Refused r v n) = sym (part-refused l dump r v n)
+  chunk-here (looked.Hole s v) = sym (part-hole l dump s v)
+  chunk-here (looked.Copy p a s v) = valid-here (p .0) a ∙ sym (part-copy l dump p a s v)

@@ -1,5 +1,5 @@
--- What one page more makes of each gathering: all that a scan's loop needs to know of its definition.
-use Prim.Native.Nat.{ℕ, zero, suc, _+_, _<_, _≤_, max, min}
+-- What one page more makes of each gathering: all that a scan's loop, and a walk along sorted records, need to know of its definition.
+use Prim.Native.Nat.{ℕ, suc, _+_, _<_, _≤_, max, min}
 use mathlib.Core.Bool.{Bool, true, false, _&&_}
 use mathlib.Core.Option.{Option, none, some}
 use mathlib.Core.Path.{_≡_, refl, ap, _∙_}
@@ -13,10 +13,10 @@ use Rattle.page.proofs.Searching.{by-test}
 use Rattle.page.specs.declared.kind.Kind.{Kind}
 use Rattle.page.specs.declared.number.PageNumber.{PageNumber}
 use Rattle.chunk.specs.Gather.{gather}
-use Rattle.chunk.specs.Records.{ageOf, isOf}
+use Rattle.chunk.specs.Records.{ageOf, isOf, headerOf, dataOf}
 use Rattle.chunk.specs.Newest.{later, newest, since}
-use Rattle.chunk.specs.Cuts.{nowhere, lowestCut}
-use Rattle.chunk.specs.Sizes.{dataEnd}
+use Rattle.chunk.specs.Cuts.{nowhere, cutOf, lowestCut}
+use Rattle.chunk.specs.Sizes.{endOf, dataEnd}
 use Rattle.chunk.specs.declared.scan.Newest.the-variants.{At, Nothing}
 use Rattle.chunk.specs.Scans.{laterIn, newestIn, endWith, cutWith}
 
@@ -25,11 +25,7 @@ pub and-true : (b : Bool) → b && true ≡ b
 and-true true = refl
 and-true false = refl
 
--- no page, and one page more
-pub gather-none : {A : Type 0} (f : ℕ → A → A) (a : A) → gather f a 0 ≡ a
-unfolding gather
-gather-none f a = refl
-
+-- one page more, as a loop counts
 pub gather-step : {A : Type 0} (f : ℕ → A → A) (a : A) (n : ℕ) → gather f a (n + 1) ≡ f n (gather f a n)
 unfolding gather
 gather-step f a n = rw add-one
@@ -43,9 +39,12 @@ module _ (says : ℕ → Kind) where
   unfolding newest gather
   newest-none test = refl
 
-  pub newest-step : (test : Kind → Bool) (n : ℕ) → newest says test (n + 1) ≡ pick (test (says n)) (later says n (newest says test n)) (newest says test n)
-  unfolding newest
-  newest-step test n = gather-step _ _ n
+  pub newest-suc : (test : Kind → Bool) (n : ℕ) → newest says test (suc n) ≡ pick (test (says n)) (later says n (newest says test n)) (newest says test n)
+  unfolding newest gather
+  newest-suc test n = refl
+
+  newest-step : (test : Kind → Bool) (n : ℕ) → newest says test (n + 1) ≡ pick (test (says n)) (later says n (newest says test n)) (newest says test n)
+  newest-step test n = rw add-one (newest-suc test n)
 
   -- a page that does not pass is passed over
   pub newest-skip : (test : Kind → Bool) (n : ℕ) → test (says n) ≡ false → newest says test (n + 1) ≡ newest says test n
@@ -72,9 +71,12 @@ module _ (says : ℕ → Kind) where
   unfolding since gather
   since-none o x = refl
 
-  pub since-step : (o x n : ℕ) → since says o x (n + 1) ≡ pick (isOf o (says n) && leb x (ageOf says n)) (suc (since says o x n)) (since says o x n)
-  unfolding since
-  since-step o x n = gather-step _ _ n
+  pub since-suc : (o x n : ℕ) → since says o x (suc n) ≡ pick (isOf o (says n) && leb x (ageOf says n)) (suc (since says o x n)) (since says o x n)
+  unfolding since gather
+  since-suc o x n = refl
+
+  since-step : (o x n : ℕ) → since says o x (n + 1) ≡ pick (isOf o (says n) && leb x (ageOf says n)) (suc (since says o x n)) (since says o x n)
+  since-step o x n = rw add-one (since-suc o x n)
 
   pub since-skip : (o x n : ℕ) → isOf o (says n) ≡ false → since says o x (n + 1) ≡ since says o x n
   since-skip o x n t = since-step o x n ∙ rw t
@@ -89,9 +91,14 @@ module _ (says : ℕ → Kind) where
   unfolding dataEnd gather
   end-none P o x = refl
 
+  pub end-suc :
+      (P o x n : ℕ) → dataEnd says P o x (suc n) ≡ pick (dataOf o (says n) && ltb x (ageOf says n)) (max (endOf P (says n)) (dataEnd says P o x n)) (dataEnd says P o x n)
+  unfolding dataEnd gather
+  end-suc P o x n = refl
+
   pub end-step : (P o x n : ℕ) → dataEnd says P o x (n + 1) ≡ endWith (dataEnd says P o x n) P o x n (says n)
-  unfolding dataEnd endWith
-  end-step P o x n = gather-step _ _ n
+  unfolding endWith
+  end-step P o x n = rw add-one (end-suc P o x n)
 
   pub end-skip : (P o x n : ℕ) → isData (says n) ≡ false → dataEnd says P o x (n + 1) ≡ dataEnd says P o x n
   unfolding endWith
@@ -101,9 +108,15 @@ module _ (says : ℕ → Kind) where
   unfolding lowestCut gather
   cut-none o h x = refl
 
+  pub cut-suc :
+      (o h x n : ℕ) →
+      lowestCut says o h x (suc n) ≡ pick (headerOf o (says n) && ltb x (ageOf says n)) (min (cutOf (eqb n h) (says n)) (lowestCut says o h x n)) (lowestCut says o h x n)
+  unfolding lowestCut gather
+  cut-suc o h x n = refl
+
   pub cut-step : (o h x n : ℕ) → lowestCut says o h x (n + 1) ≡ cutWith (lowestCut says o h x n) o h x n (says n)
-  unfolding lowestCut cutWith
-  cut-step o h x n = gather-step _ _ n
+  unfolding cutWith
+  cut-step o h x n = rw add-one (cut-suc o h x n)
 
   pub cut-skip : (o h x n : ℕ) → isHeader (says n) ≡ false → lowestCut says o h x (n + 1) ≡ lowestCut says o h x n
   unfolding cutWith

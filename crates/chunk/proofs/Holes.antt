@@ -1,13 +1,12 @@
 -- Demand 2's sentence on holes: inside the size of a live file, where nothing is refused, a hole is answered exactly when no copy exists or a
 -- later cut hides the newest one; otherwise the newest copy is answered, with at least one valid byte.
-use Prim.Native.Nat.{ℕ, suc, _+_, _-_, _≤_, _<_, min}
-use mathlib.Core.Bool.{Bool, true, false, _&&_}
-use mathlib.Core.Option.{Option, none, some}
-use mathlib.Core.Path.{_≡_, refl, sym, ap, _∙_}
+use Prim.Native.Nat.{ℕ, _-_, _<_, min}
+use mathlib.Core.Bool.{false}
+use mathlib.Core.Option.{none, some}
+use mathlib.Core.Path.{_≡_, _∙_}
 use native.Mathlib.Omega.{arith}
-use lib.Dec.{eqb, leb}
-use borrow.Author.Tests.{leb-true, leb-false, le-leb, lt-leb}
-use Rattle.page.specs.Choice.{pick}
+use lib.Dec.{leb}
+use borrow.Author.Tests.{leb-true, leb-false}
 use Rattle.page.specs.Numbers.{badObject, badChunk}
 use Rattle.page.specs.declared.kind.Kind.{Kind}
 use Rattle.page.specs.declared.number.PageNumber.{PageNumber}
@@ -16,10 +15,11 @@ use Rattle.chunk.specs.Records.{ageOf, countOf, baseOf}
 use Rattle.chunk.specs.Newest.{newestCopy, since, records}
 use Rattle.chunk.specs.Cuts.{nowhere, lowestCut}
 use Rattle.chunk.specs.Sizes.{sizeOf}
-use Rattle.chunk.specs.Lookups.{fileOf, copyAt, copyBy, chunkBy, lookedBy, lookedOf, shownOf, validOf}
+use Rattle.chunk.specs.Lookups.{fileOf, copyBy, lookedOf, shownOf, validOf}
 use Rattle.chunk.specs.declared.answer.File.the-variants as file
 use Rattle.chunk.specs.declared.answer.Looked.{Looked}
 use Rattle.chunk.specs.declared.answer.Looked.the-variants as looked
+use Rattle.chunk.proofs.Cases.{copy-missing, copy-hidden, copy-shown, looked-inside, chunk-by-file}
 use Rattle.chunk.proofs.Meaning.{Hides, lowest-cut-hides, hides-lowest-cut}
 
 module _
@@ -34,35 +34,31 @@ module _
 
   -- the lookup answers by the newest copy
   by-copy : answer ≡ copyBy says o n P c (h .0) shown (newestCopy says o c n)
-  unfolding lookedOf lookedBy chunkBy
-  by-copy = rw (object, number, live, lt-leb (sizeOf says P o (h .0) n) (baseOf P c) inside)
+  by-copy = chunk-by-file says o n P c object number ∙ rw live (looked-inside says o n P c h v inside)
 
   -- no copy: a hole
   pub hole-without-copy : newestCopy says o c n ≡ none → answer ≡ looked.Hole shown (records says o n)
-  unfolding copyBy
-  hole-without-copy e = by-copy ∙ rw e
+  hole-without-copy e = by-copy ∙ rw e (copy-missing says o n P c (h .0) shown)
 
   -- the newest copy hidden by a later cut: a hole
   pub hole-behind-cut : (q p : ℕ) → newestCopy says o c n ≡ some q → Hides says o (h .0) (ageOf says q) n (baseOf P c) p → answer ≡ looked.Hole shown (records says o n)
-  unfolding copyBy copyAt
-  hole-behind-cut q p e g =
-      by-copy ∙ rw (e, le-leb (lowestCut says o (h .0) (ageOf says q) n) (baseOf P c) (hides-lowest-cut says o (h .0) (ageOf says q) (baseOf P c) n p g))
+  hole-behind-cut q p e g = by-copy ∙ rw e (copy-hidden says o n P c (h .0) shown q (hides-lowest-cut says o (h .0) (ageOf says q) (baseOf P c) n p g))
+
+  -- a copy that no later header hides begins before the lowest later cut
+  in-sight : (q : ℕ) → ((p : ℕ) → Hides says o (h .0) (ageOf says q) n (baseOf P c) p → ⊥) → baseOf P c < lowestCut says o (h .0) (ageOf says q) n
+  in-sight q g =
+      by-test (leb (lowestCut says o (h .0) (ageOf says q) n) (baseOf P c)) _
+      (λ t. absurd (lowest-cut-hides says o (h .0) (ageOf says q) (baseOf P c) n ⊥ small (leb-true _ _ t) g))
+      (λ t. leb-false _ _ t)
 
   -- otherwise the newest copy
   pub copy-in-sight :
       (q : ℕ) → newestCopy says o c n ≡ some q → ((p : ℕ) → Hides says o (h .0) (ageOf says q) n (baseOf P c) p → ⊥) →
       answer ≡ looked.Copy (record { 0 = q }) (validOf P c (says q) shown (lowestCut says o (h .0) (ageOf says q) n)) shown (since says o (min (ageOf says q) (ageOf says (h .0))) n)
-  unfolding copyBy copyAt
-  copy-in-sight q e g =
-      by-test (leb (lowestCut says o (h .0) (ageOf says q) n) (baseOf P c)) _
-      (λ t. absurd (lowest-cut-hides says o (h .0) (ageOf says q) (baseOf P c) n ⊥ small (leb-true _ _ t) g))
-      (λ t. by-copy ∙ rw (e, t))
+  copy-in-sight q e g = by-copy ∙ rw e (copy-shown says o n P c (h .0) shown q (in-sight q g))
 
   -- and it has valid bytes, since its byte count is at least 1 and a page has data
   pub valid-some :
       (q : ℕ) → 0 < P → 0 < countOf (says q) → ((p : ℕ) → Hides says o (h .0) (ageOf says q) n (baseOf P c) p → ⊥) →
       0 < validOf P c (says q) shown (lowestCut says o (h .0) (ageOf says q) n)
-  valid-some q p k g =
-      by-test (leb (lowestCut says o (h .0) (ageOf says q) n) (baseOf P c)) _
-      (λ t. absurd (lowest-cut-hides says o (h .0) (ageOf says q) (baseOf P c) n ⊥ small (leb-true _ _ t) g))
-      (λ t. omega (arith, leb-false (lowestCut says o (h .0) (ageOf says q) n) (baseOf P c) t))
+  valid-some q p k g = omega (arith, in-sight q g)

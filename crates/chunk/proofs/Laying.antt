@@ -1,11 +1,11 @@
 -- Laws of bytes laid over a buffer: a buffer with the first i elements of a list in front, and its own behind them.
 use Prim.Native.Nat.{ℕ, zero, suc, _+_, _-_, _≤_, _<_, min}
-use mathlib.Core.List.{List, [], _∷_, _++_, append-assoc, append-nil}
+use mathlib.Core.List.{List, _∷_, _++_, append-nil}
 use mathlib.Core.Path.{_≡_, refl, sym, ap, _∙_}
 use native.Mathlib.Nat.{not-suc-le-zero, le-of-suc-le-suc}
 use native.Mathlib.Numerals.{add-one}
 use native.Mathlib.Omega.{arith}
-use lib.ListN.{length, take, drop, getD, set, replicate, length-append, length-take, length-drop, length-replicate, getD-replicate, List·getD-append, take-append-drop}
+use lib.ListN.{length, take, drop, getD, set, replicate, length-append, length-drop, getD-replicate, take-append-drop}
 use lib.Seq.{take-suc, drop-cons, append-snoc, set-at, length-take-le, take-at, take-all, take-append-le, take-append-add, drop-append-add, getD-append-add, drop-drop}
 use lib.Dec.{leb}
 use borrow.Author.Tests.{leb-true, leb-false}

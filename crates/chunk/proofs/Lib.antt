@@ -1,4 +1,5 @@
 pub mod Gathering
+pub mod Cases
 pub mod Looking
 pub mod Laying
 pub mod Marked

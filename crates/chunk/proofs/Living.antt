@@ -9,14 +9,14 @@
 use Prim.Native.Nat.{ℕ, zero, suc, _+_, _≤_, _<_, zero-le}
 use mathlib.Core.Bool.{Bool, true, false, not, _&&_, _||_}
 use mathlib.Core.List.{List, []}
-use mathlib.Core.Logic.{_⊎_, inl, inr, ⊎-elim}
+use mathlib.Core.Logic.{_⊎_, ⊎-elim}
 use mathlib.Core.Option.{Option, none, some}
 use mathlib.Core.Path.{_≡_, refl, sym, ap, _∙_}
 use native.Mathlib.Nat.{not-suc-le-zero, le-of-suc-le-suc, eq-or-lt-of-le, le-refl, le-trans}
 use native.Mathlib.Numerals.{add-one}
 use native.Mathlib.Omega.{arith}
 use borrow.Author.Tests.{not-true, eqb-true, eqb-false, eq-eqb, ne-eqb, ltb-true, ltb-false}
-use lib.Dec.{eqb, leb, ltb}
+use lib.Dec.{eqb, ltb}
 use lib.ListN.{length}
 use Rattle.page.specs.Choice.{pick}
 use Rattle.page.specs.Search.{count, more}
@@ -24,19 +24,16 @@ use Rattle.page.specs.Counts.{isHeader}
 use Rattle.page.specs.declared.kind.Kind.{Kind}
 use Rattle.page.specs.declared.kind.Kind.the-variants.{Header}
 use Rattle.page.specs.declared.number.ObjectId.{ObjectId}
-use Rattle.page.proofs.Searching.{by-test, pick-cases, count-none, count-step}
+use Rattle.page.proofs.Layouts.{and-left, and-right}
+use Rattle.page.proofs.Searching.{by-test, count-none, count-step}
 use Rattle.chunk.specs.Gather.{gather}
-use Rattle.chunk.specs.Records.{ageOf, isOf, headerOf, isGone}
-use Rattle.chunk.specs.Newest.{later, newest, newestHeader, records}
+use Rattle.chunk.specs.Records.{isOf, headerOf, isGone}
+use Rattle.chunk.specs.Newest.{newestHeader, records}
 use Rattle.chunk.specs.Live.{ascend, idsOf, isAt, objectAt, livePage, liveIds, liveCount, objectPage, objectCount}
 use Rattle.chunk.specs.Lists.{inFront, inserted}
-use Rattle.chunk.proofs.Gathering.{gather-step, newest-none, newest-step, since-none, since-skip, since-one}
+use Rattle.chunk.proofs.Gathering.{gather-step, since-none, since-skip, since-one}
+use Rattle.chunk.proofs.Meaning.{newest-found}
 use Rattle.chunk.proofs.Ascending.{In, Ascends, ascend-new, ascend-kept, ascend-back, ascend-ascends, ascend-length, insert-front}
-
--- both tests of two hold
-both : (a b : Bool) → a && b ≡ true → (a ≡ true) × (b ≡ true)
-both true b e = (refl, e)
-both false b e = let z : _≡_ {A = ℕ} 0 1 = cc in absurd (omega arith)
 
 -- one that does not pass, and one that does
 pub count-skip : (test : ℕ → Bool) (n : ℕ) → test n ≡ false → count test (n + 1) ≡ count test n
@@ -150,22 +147,6 @@ at-some p none e = let z : _≡_ {A = ℕ} 0 1 = cc in absurd (omega arith)
 at-some p (some q) e = ap some (eqb-true q p e)
 
 module _ (says : ℕ → Kind) where
-  -- the newer of two pages is one of them
-  later-one : (p q : ℕ) (r : Option ℕ) → later says q r ≡ some p → (p ≡ q) ⊎ (r ≡ some p)
-  later-one p q none e = inl (cc)
-  later-one p q (some x) e = pick-cases (leb (ageOf says x) (ageOf says q)) (some q) (some x) (some p) _ e (λ _ k. inl (cc)) (λ _ k. inr k)
-
-  -- the newest page that passes a test passes it, and is one of those looked at
-  pub newest-found : (test : Kind → Bool) (p n : ℕ) → newest says test n ≡ some p → (p < n) × (test (says p) ≡ true)
-  newest-found test p zero e = let f : none ≡ some p = sym (newest-none says test) ∙ e in let z : _≡_ {A = ℕ} 0 1 = cc in absurd (omega arith)
-  newest-found test p (suc n) e =
-      let before : newest says test n ≡ some p → (p < suc n) × (test (says p) ≡ true) =
-      λ f. let r = newest-found test p n f in (omega (arith, r .0), r .1)
-      in
-      pick-cases (test (says n)) _ _ _ _ (sym (newest-step says test n) ∙ rw add-one e)
-      (λ t k. ⊎-elim (λ (f : p ≡ n). (omega arith, rw f t)) before (later-one p n (newest says test n) k))
-      (λ t k. before k)
-
   module _ (n : ℕ) where
     -- object o is live: it has a newest header, whose parent is neither 3 nor 4
     pub record Live (o : ℕ) : Type 0 where
@@ -186,18 +167,17 @@ module _ (says : ℕ → Kind) where
     -- a live page is the newest header of its object, and that is live
     live-page : (p : ℕ) → livePage says n p ≡ true → (newestHeader says (objectAt says p) n ≡ some p) × (isGone (says p) ≡ false)
     live-page p e =
-        let r = both (isHeader (says p)) _ e .1 in
-        let s = both (not (isGone (says p))) _ r in
-        (at-some p _ (s .1), not-true (isGone (says p)) (s .0))
+        let r = and-right (isHeader (says p)) _ e in
+        (at-some p _ (and-right (not (isGone (says p))) _ r), not-true (isGone (says p)) (and-left (not (isGone (says p))) _ r))
 
     -- the newest header of a live object is a live page
     page-live : (o : ℕ) → Live o → Bears (livePage says n) (objectAt says) n o
     page-live o w =
         let p = w .header in
-        let f = newest-found (headerOf o) p n (w .newest-header) in
-        let r = both (isOf o (says p)) (isHeader (says p)) (f .1) in
-        let e : objectAt says p ≡ o = eqb-true _ _ (r .0) in
-        record { page = p; inside = f .0; passes = rw (r .1, w .kept, e, w .newest-header) (eq-eqb p p refl); bears = e }
+        let f = newest-found says (headerOf o) n p (w .newest-header) in
+        let r = and-right (isOf o (says p)) (isHeader (says p)) (f .passes) in
+        let e : objectAt says p ≡ o = eqb-true _ _ (and-left (isOf o (says p)) _ (f .passes)) in
+        record { page = p; inside = f .below; passes = rw (r, w .kept, e, w .newest-header) (eq-eqb p p refl); bears = e }
 
     -- an object has one newest header
     live-apart : (p q : ℕ) → livePage says n p ≡ true → livePage says n q ≡ true → objectAt says p ≡ objectAt says q → p ≡ q
@@ -261,8 +241,8 @@ module _ (says : ℕ → Kind) where
   -- behind which none is first
   object-page : (p : ℕ) → objectPage says p ≡ true → (objectAt says p ≡ 0 → ⊥) × (records says (objectAt says p) p ≡ 0)
   object-page p t =
-      let r = both (not (eqb (objectAt says p) 0)) _ t in
-      (eqb-false _ _ (not-true _ (r .0)), eqb-true _ _ (r .1))
+      let z = not (eqb (objectAt says p) 0) in
+      (eqb-false _ _ (not-true _ (and-left z _ t)), eqb-true _ _ (and-right z _ t))
 
   none-behind : (p q : ℕ) → p < q → objectAt says p ≡ objectAt says q → objectPage says q ≡ true → ⊥
   none-behind p q h e t = record-some (objectAt says q) p q h (eq-eqb _ _ e) (object-page q t .1)

@@ -1,6 +1,6 @@
 -- Laws of the answers of lookups, for their code.
 use Prim.Native.Nat.{ℕ}
-use mathlib.Core.Bool.{Bool, true, false}
+use mathlib.Core.Bool.{false}
 use mathlib.Core.Path.{_≡_, refl}
 use native.Mathlib.Omega.{arith}
 use Rattle.page.specs.Counts.{isHeader}

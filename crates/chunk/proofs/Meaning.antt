@@ -1,26 +1,22 @@
 -- What the definitions mean, in the paper's own terms: the newest is the one that none is newer than; a header cuts, or hides a copy, exactly
 -- when the paper says so; a copy that is found has valid bytes.
-use Prim.Native.Nat.{ℕ, zero, suc, _+_, _-_, _*_, _≤_, _<_, min, max}
-use mathlib.Core.Bool.{Bool, true, false, not, _&&_, _||_}
+use Prim.Native.Nat.{ℕ, zero, suc, _-_, _≤_, _<_, min}
+use mathlib.Core.Bool.{Bool, true, false, _&&_}
 use mathlib.Core.Option.{Option, none, some}
-use mathlib.Core.Path.{_≡_, refl, sym, ap, _∙_}
-use mathlib.Core.Logic.{_⊎_, inl, inr, ⊎-elim}
+use mathlib.Core.Path.{_≡_, refl, sym, _∙_}
+use mathlib.Core.Logic.{_⊎_, ⊎-elim}
 use native.Mathlib.Nat.{not-suc-le-zero, le-of-suc-le-suc, eq-or-lt-of-le, le-refl, le-max-left, le-trans}
 use native.Mathlib.Omega.{arith}
 use lib.Dec.{eqb, ltb, leb}
-use borrow.Author.Tests.{leb-true, leb-false, ltb-true, ltb-false, lt-ltb, le-leb, lt-leb}
-use Rattle.page.specs.Choice.{pick}
-use Rattle.page.specs.Counts.{isHeader}
+use borrow.Author.Tests.{leb-true, leb-false, ltb-true, lt-ltb}
 use Rattle.page.specs.declared.kind.Kind.{Kind}
-use Rattle.page.specs.declared.kind.Kind.the-variants.{Header}
-use Rattle.page.specs.declared.number.ObjectId.{ObjectId}
 use Rattle.page.proofs.Searching.{by-test, pick-cases}
 use Rattle.page.proofs.Layouts.{and-left, and-right}
-use Rattle.chunk.specs.Gather.{gather}
 use Rattle.chunk.specs.Records.{orderOf, ageOf, headerOf, fileSize, isGone, isFile}
 use Rattle.chunk.specs.Newest.{later, newest}
 use Rattle.chunk.specs.Cuts.{nowhere, isShrink, cutOf, lowestCut}
 use Rattle.chunk.specs.Sizes.{sizeOf, dataEnd}
+use Rattle.chunk.proofs.Gathering.{newest-none, newest-suc, cut-none, cut-suc}
 
 -- a record of a lower sequence is older, on whatever page it stands; of one sequence the lower page is older
 pub order-by-sequence : (s t p q : ℕ) → s < t → p < 4294967296 → orderOf s p < orderOf t q
@@ -36,15 +32,11 @@ pub record IsNewest (says : ℕ → Kind) (test : Kind → Bool) (n p : ℕ) : T
   pub newest : (q : ℕ) → q < n → test (says q) ≡ true → ageOf says q ≤ ageOf says p
 
 module _ (says : ℕ → Kind) (test : Kind → Bool) where
-  newest-suc : (n : ℕ) → newest says test (suc n) ≡ pick (test (says n)) (later says n (newest says test n)) (newest says test n)
-  unfolding newest gather
-  newest-suc n = refl
-
   -- a search that finds nothing: no page passes
   pub newest-missing : (n : ℕ) → newest says test n ≡ none → (q : ℕ) → q < n → test (says q) ≡ false
   newest-missing zero e q h = absurd (not-suc-le-zero h)
   newest-missing (suc n) e q h =
-      pick-cases (test (says n)) _ _ none _ (sym (newest-suc n) ∙ e)
+      pick-cases (test (says n)) _ _ none _ (sym (newest-suc says test n) ∙ e)
       (λ t k. absurd (no-later (newest says test n) k))
       (λ t k.
       ⊎-elim
@@ -56,18 +48,14 @@ module _ (says : ℕ → Kind) (test : Kind → Bool) where
       no-later none k = let z : _≡_ {A = ℕ} 0 1 = cc in omega arith
       no-later (some x) k = pick-cases (leb (ageOf says x) (ageOf says n)) _ _ none _ k (λ _ j. let z : _≡_ {A = ℕ} 0 1 = cc in omega arith) (λ _ j. let z : _≡_ {A = ℕ} 0 1 = cc in omega arith)
 
-  newest-zero : newest says test 0 ≡ none
-  unfolding newest gather
-  newest-zero = refl
-
   -- a search that finds a page: the newest that passes
   pub newest-found : (n p : ℕ) → newest says test n ≡ some p → IsNewest says test n p
-  newest-found zero p e = absurd (never (sym newest-zero ∙ e))
+  newest-found zero p e = absurd (never (sym (newest-none says test) ∙ e))
     where
       never : none ≡ some p → ⊥
       never k = let z : _≡_ {A = ℕ} 0 1 = cc in omega arith
   newest-found (suc n) p e =
-      pick-cases (test (says n)) _ _ (some p) _ (sym (newest-suc n) ∙ e)
+      pick-cases (test (says n)) _ _ (some p) _ (sym (newest-suc says test n) ∙ e)
       (λ t k. taken t (newest says test n) refl k (λ x i. newest-found n x i))
       (λ t k.
       let f = newest-found n p k in
@@ -133,23 +121,15 @@ module _ (says : ℕ → Kind) (o h x base : ℕ) where
   abbrev later-header : ℕ → Bool
   later-header p = headerOf o (says p) && ltb x (ageOf says p)
 
-  cut-suc : (n : ℕ) → lowestCut says o h x (suc n) ≡ pick (later-header n) (min (cutOf (eqb n h) (says n)) (lowestCut says o h x n)) (lowestCut says o h x n)
-  unfolding lowestCut gather
-  cut-suc n = refl
-
   cut-taken : (n : ℕ) → later-header n ≡ true → lowestCut says o h x (suc n) ≡ min (cutOf (eqb n h) (says n)) (lowestCut says o h x n)
-  cut-taken n t = cut-suc n ∙ rw t
+  cut-taken n t = cut-suc says o h x n ∙ rw t
 
   cut-passed : (n : ℕ) → later-header n ≡ false → lowestCut says o h x (suc n) ≡ lowestCut says o h x n
-  cut-passed n t = cut-suc n ∙ rw t
-
-  cut-zero : lowestCut says o h x 0 ≡ nowhere
-  unfolding lowestCut gather
-  cut-zero = refl
+  cut-passed n t = cut-suc says o h x n ∙ rw t
 
   -- the lowest later cut is at or below base exactly when a header hides what begins there
   pub lowest-cut-hides : (n : ℕ) (P : Type 0) → base < nowhere → lowestCut says o h x n ≤ base → ((p : ℕ) → Hides says o h x n base p → P) → P
-  lowest-cut-hides zero P b c f = absurd (omega (arith, cut-zero))
+  lowest-cut-hides zero P b c f = absurd (omega (arith, cut-none says o h x))
   lowest-cut-hides (suc n) P b c f =
       by-test (later-header n) P
       (λ t.

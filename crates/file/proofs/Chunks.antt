@@ -1,20 +1,19 @@
 -- The chunks of a file are those that it does not end before; and a row has the words of its chunk's lookup.
 use Prim.Native.Nat.{ℕ, _+_, _-_, _*_, _/_, _≤_, _<_, min}
 use mathlib.Core.Bool.{Bool, false}
-use mathlib.Core.List.{List, _++_}
+use mathlib.Core.List.{List, [], _++_}
 use mathlib.Core.Logic.{_↔_}
 use mathlib.Core.Path.{_≡_, refl, sym, ap, _∙_}
 use native.Mathlib.Nat.{mul-le-mul-right, div-mul-le-self, le-div-iff-mul-le}
 use native.Mathlib.Omega.{arith}
 use lib.ListN.{length, drop}
 use lib.Dec.{eqb}
-use borrow.Author.Tests.{eqb-true, eqb-false, ne-eqb, lt-ltb, le-ltb}
+use borrow.Author.Tests.{eqb-false, ne-eqb, lt-ltb, le-ltb}
 use Rattle.page.specs.Numbers.{mostChunk, badChunk}
 use Rattle.page.specs.Kinds.{kindAt}
 use Rattle.page.specs.Lengths.{openedOf}
 use Rattle.page.specs.declared.layout.Layout.{Layout}
 use Rattle.page.specs.declared.layout.Opened.the-variants as opened
-use Rattle.page.specs.declared.refusal.Refusal.{Refusal}
 use Rattle.page.specs.declared.refusal.Refusal.the-variants.{ShortBuffer}
 use Rattle.page.proofs.Layouts.{roomy-facts}
 use Rattle.page.proofs.Lengths.{opened-facts}
@@ -22,10 +21,11 @@ use Rattle.page.proofs.Searching.{by-test}
 use Rattle.page.proofs.Within.{chunk-good}
 use Rattle.chunk.specs.Records.{ageOf, baseOf}
 use Rattle.chunk.specs.Lookups.{lookedOf}
-use Rattle.chunk.specs.Answers.{partBy}
+use Rattle.chunk.specs.Answers.{validPart, partBy}
 use Rattle.chunk.specs.declared.answer.Looked.{Looked}
 use Rattle.chunk.specs.declared.answer.Looked.the-variants as looked
 use Rattle.chunk.specs.declared.answer.Sized.the-variants as sized
+use Rattle.chunk.proofs.Cases.{part-copy, part-hole, part-refused}
 use Rattle.index.specs.Cells.{linkTo}
 use Rattle.index.specs.Slots.{firstLink}
 use Rattle.index.specs.Chains.{objects}
@@ -64,14 +64,23 @@ same-words (looked.Copy p a s v) = (refl, refl)
 same-words (looked.Hole s v) = (refl, refl)
 same-words (looked.Refused r v n) = (refl, refl)
 
+-- a row whose first word is below 2 names no bytes, and another the first bytes of a page
+module _ (l : Layout) (dump : List ℕ) (place valid : ℕ) where
+  pub row-none : place < 2 → rowPart l dump place valid ≡ []
+  unfolding rowPart
+  row-none h = rw (lt-ltb place 2 h)
+
+  pub row-page : 2 ≤ place → rowPart l dump place valid ≡ validPart l dump (place - 2) valid
+  unfolding rowPart
+  row-page h = rw (le-ltb place 2 h)
+
 -- the part that a row names is the one that the lookup lends
 pub row-part : (l : Layout) (dump : List ℕ) (a : Looked) → rowPart l dump (whereWord a) (validWord a) ≡ partBy l dump a
-unfolding rowPart partBy
 row-part l dump (looked.Copy p a s v) =
     let e : linkTo (p .0) - 2 ≡ p .0 = omega arith in
-    rw (le-ltb (linkTo (p .0)) 2 (omega arith), e)
-row-part l dump (looked.Hole s v) = refl
-row-part l dump (looked.Refused r v n) = refl
+    row-page l dump (linkTo (p .0)) a (omega arith) ∙ rw e (sym (part-copy l dump p a s v))
+row-part l dump (looked.Hole s v) = row-none l dump 0 0 (omega arith) ∙ sym (part-hole l dump s v)
+row-part l dump (looked.Refused r v n) = row-none l dump 1 0 (omega arith) ∙ sym (part-refused l dump r v n)
 
 -- an accepted dump has data in its pages
 pub data-some : (l : Layout) (k n m : ℕ) → openedOf l k n ≡ opened.Pages m → 0 < l .«data»

@@ -1,16 +1,14 @@
 -- Rows of a table. On a walk, the row of each chunk is free, and then the answer still lies ahead, or it is done, and then it has the answer.
 -- Noting a record keeps that: it writes to the row of its own chunk alone, if that is free and the record is the answer.
-use Prim.Native.Nat.{ℕ, zero, suc, _+_, _-_, _*_, _≤_, _<_, min}
-use mathlib.Core.Bool.{Bool, true, false, not, _&&_, _||_}
+use Prim.Native.Nat.{ℕ, zero, suc, _+_, _-_, _≤_, _<_, min}
+use mathlib.Core.Bool.{Bool, true, false}
 use mathlib.Core.List.{List, [], _∷_, _++_, append-assoc}
-use mathlib.Core.Logic.{_⊎_, inl, inr}
 use mathlib.Core.Path.{_≡_, refl, sym, ap, _∙_}
 use native.Mathlib.Omega.{arith}
 use lib.ListN.{length, take, drop, set, getD, replicate, length-set, length-append, length-drop, length-replicate, getD-replicate, List·getD-append, take-append-drop}
 use lib.Seq.{take-suc, getD-set-same, getD-set-other, getD-drop, drop-set-lt, drop-at, drop-drop}
 use lib.Dec.{eqb, ltb, leb}
-use borrow.Author.Tests.{eqb-true, eqb-false, eq-eqb, ne-eqb, ltb-true, ltb-false, lt-ltb, le-ltb, leb-true, leb-false, lt-leb, le-leb}
-use Rattle.page.specs.Choice.{pick}
+use borrow.Author.Tests.{eqb-true, eqb-false, eq-eqb, ne-eqb, ltb-true, ltb-false, lt-ltb, le-ltb, leb-false, lt-leb}
 use Rattle.page.specs.declared.kind.Kind.{Kind}
 use Rattle.page.specs.declared.refusal.Refusal.the-variants.{IndexDamaged}
 use Rattle.page.proofs.Layouts.{and-left, and-right}
@@ -20,10 +18,10 @@ use Rattle.chunk.specs.declared.answer.Looked.{Looked}
 use Rattle.chunk.specs.declared.answer.Looked.the-variants as looked
 use Rattle.chunk.specs.Lookups.{shownOf, validOf}
 use Rattle.index.specs.Cells.{word, linkTo}
-use Rattle.index.specs.Chains.{Trace, clean, broken, rec}
+use Rattle.index.specs.Chains.{Trace, rec}
 use Rattle.index.specs.Walks.{isShown, found, cutBy}
 use Rattle.index.specs.Ahead.{stillNewest, ahead}
-use Rattle.index.proofs.Ahead.{ahead-end, ahead-broken, ahead-here, ahead-on}
+use Rattle.index.proofs.Ahead.{ahead-here, ahead-on}
 use Rattle.file.specs.Table.{whereWord, validWord, wordsOf, rowAt, rows, noted, closedWord, Closed}
 
 -- a test comes out one way only

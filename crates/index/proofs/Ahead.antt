@@ -1,14 +1,13 @@
 -- A walk down the whole chain finds for each chunk what the lookup of that chunk finds. Above the newest header nothing cuts, so that the
 -- first copy there is found by both; below it both go by the lowest cut so far.
-use Prim.Native.Nat.{ℕ, _+_, _≤_, _<_, max}
-use mathlib.Core.Bool.{Bool, true, false, not, _&&_}
+use Prim.Native.Nat.{ℕ, _+_, _≤_, _<_}
+use mathlib.Core.Bool.{Bool, true, false}
 use mathlib.Core.List.{List}
-use mathlib.Core.Path.{_≡_, refl, sym, ap, _∙_}
+use mathlib.Core.Path.{_≡_, refl, _∙_}
 use native.Mathlib.Omega.{arith}
 use lib.ListN.{length}
-use lib.Dec.{eqb, ltb, leb}
+use lib.Dec.{eqb, ltb}
 use borrow.Author.Tests.{lt-ltb, le-ltb, lt-leb, ne-eqb, ltb-false}
-use Rattle.page.specs.Choice.{pick}
 use Rattle.page.specs.Counts.{isHeader}
 use Rattle.page.specs.Kinds.{kindAt}
 use Rattle.page.specs.Lengths.{openedOf}
@@ -16,7 +15,6 @@ use Rattle.page.specs.Numbers.{badObject, badChunk}
 use Rattle.page.specs.declared.kind.Kind.{Kind}
 use Rattle.page.specs.declared.kind.Kind.the-variants.{Blank, Foreign, Damaged, Header, Data}
 use Rattle.page.specs.declared.layout.Layout.{Layout}
-use Rattle.page.specs.declared.layout.Opened.{Opened}
 use Rattle.page.specs.declared.layout.Opened.the-variants as opened
 use Rattle.page.specs.declared.refusal.Refusal.{Refusal}
 use Rattle.page.specs.declared.refusal.Refusal.the-variants.{IndexDamaged}
@@ -34,7 +32,7 @@ use Rattle.chunk.specs.declared.answer.Sized.the-variants as sized
 use Rattle.index.specs.Cells.{cellsFor}
 use Rattle.index.specs.Slots.{firstLink}
 use Rattle.index.specs.Chains.{top, Trace, clean, broken, rec, chain}
-use Rattle.index.specs.Walks.{headless, behind, metWith, reach, cutBy, isShown, found, seek, sizeAt, sizeFile, copyFrom, sizeReached, chunkReached, sizeWalk, chunkWalk, under, chainOf, sizeIn, chunkIn, sizeFrom, chunkFrom}
+use Rattle.index.specs.Walks.{behind, reach, cutBy, isShown, found, seek, sizeAt, sizeFile, copyFrom, sizeReached, chunkReached, sizeWalk, chunkWalk, under, chainOf, sizeIn, chunkIn, sizeFrom, chunkFrom}
 use Rattle.index.specs.Ahead.{unvisited, stillNewest, ahead}
 use Rattle.index.specs.declared.walks.Met.{Met}
 use Rattle.index.specs.declared.walks.Met.the-variants.{Copy, Nothing}

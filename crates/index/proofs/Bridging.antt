@@ -4,32 +4,33 @@
 use Prim.Native.Nat.{ℕ, _+_, _-_, _≤_, _<_, min}
 use mathlib.Core.Bool.{Bool, true, false}
 use mathlib.Core.List.{List, _∷_, _++_, append-assoc}
-use mathlib.Core.Option.{none}
 use mathlib.Core.Path.{_≡_, refl, sym, ap, _∙_}
 use native.Mathlib.Nat.{le-refl}
 use native.Mathlib.Omega.{arith}
 use lib.ListN.{length, length-append}
-use lib.Dec.{eqb}
-use borrow.Author.Tests.{lt-leb, ne-eqb, eq-eqb}
+use lib.Dec.{eqb, leb}
+use borrow.Author.Tests.{leb-true, leb-false, ne-eqb, eq-eqb}
 use Rattle.page.specs.Choice.{pick}
 use Rattle.page.specs.Counts.{isHeader}
 use Rattle.page.proofs.Searching.{by-test}
 use Rattle.page.specs.declared.kind.Kind.{Kind}
 use Rattle.page.specs.declared.kind.Kind.the-variants.{Blank, Foreign, Damaged, Header, Data}
 use Rattle.page.specs.declared.refusal.Refusal.the-variants.{NoObject, NoHeader}
-use Rattle.chunk.specs.Records.{ageOf, isGone, isFile, chunkOf, baseOf}
+use Rattle.chunk.specs.Records.{ageOf, chunkOf, baseOf}
 use Rattle.chunk.specs.Newest.{newestCopy, since, records}
 use Rattle.chunk.specs.Cuts.{nowhere, lowestCut}
 use Rattle.chunk.specs.Sizes.{sizeOf}
-use Rattle.chunk.specs.Lookups.{fileAt, fileBy, fileOf, sizedBy, copyAt, copyBy, chunkBy, lookedBy, shownOf}
+use Rattle.chunk.specs.Lookups.{fileAt, fileOf, sizedBy, copyBy, lookedBy, shownOf}
 use Rattle.chunk.specs.declared.answer.File.the-variants as file
+use Rattle.chunk.proofs.Cases.{file-cases, file-headless, file-headed, size-larger, sized-refused, sized-file, copy-missing, copy-hidden, copy-shown, looked-refused, looked-past, looked-inside}
+use Rattle.chunk.proofs.Ascending.{In}
 use Rattle.index.specs.Chains.{objects, top}
 use Rattle.index.specs.Held.{seen, recs, fromList}
 use Rattle.index.specs.Walks.{seenSays, recordsIn, sizeVisits, chunkVisits, sizeFile, sizeAt, sizeReached, cutBy, metWith, reach, copyFrom, chunkFile, chunkReached, chunkWalk, sizeWalk}
 use Rattle.index.specs.declared.walks.Met.{Met}
 use Rattle.index.specs.declared.walks.Met.the-variants.{Nothing}
 use Rattle.index.specs.declared.walks.Reached.the-variants as reached
-use Rattle.index.proofs.Records.{In, recs-of, recs-same}
+use Rattle.index.proofs.Records.{recs-of, recs-same}
 use Rattle.index.proofs.Through.{through, through-at, through-idle, through-same}
 use Rattle.index.proofs.Parting.{Fails, Parted, all, at, parted, fails-at, in-at, in-above, falls-same, recs-falls}
 use Rattle.index.proofs.Walking.{headed, copied, endBy, behind-at, reach-none, reach-at, met-none, met-at, seek-none, seek-at}
@@ -39,8 +40,7 @@ use Rattle.index.proofs.Ruling.{Listed, listed, newest-none, newest-at,
 module _ (says S : ℕ → Kind) (o n b P : ℕ) (pos : 0 < o) where
   -- no header in the list
   file-none : (L : List ℕ) → Listed says S o n b L → Fails (headed says) L → fileOf S o n ≡ pick (eqb (length L) 0) (file.Refused NoObject 0) (file.Refused NoHeader (length L))
-  unfolding fileOf fileBy
-  file-none L l f = rw (newest-none says S o n b L l isHeader f, all-counted says S o n b L l)
+  file-none L l f = rw (file-headless S o n (newest-none says S o n b L l isHeader f), all-counted says S o n b L l)
 
   -- the newest header is h
   module _ (A : List ℕ) (h : ℕ) (B : List ℕ) (l : Listed says S o n b (A ++ (h ∷ B))) (f : Fails (headed says) A) (e : headed says h ≡ true) where
@@ -48,23 +48,21 @@ module _ (says S : ℕ → Kind) (o n b P : ℕ) (pos : 0 < o) where
     some-records = all-counted says S o n b (A ++ (h ∷ B)) l ∙ length-append A (h ∷ B) ∙ omega arith
 
     file-at : fileOf S o n ≡ fileAt (says h) h (length A + 1)
-    unfolding fileOf fileBy
     file-at =
         rw (
-          ne-eqb (records S o n) 0 (λ z. absurd (omega (arith, some-records))),
-          newest-at says S o n b A h B l isHeader f e,
+          file-headed S o n h (λ z. absurd (omega (arith, some-records))) (newest-at says S o n b A h B l isHeader f e),
           since-at says S o n b A h B l,
           l .same h (in-at A h B),
         )
 
     size-at : sizeOf S P o h n ≡ sizeAt says h (through (endBy says P) 0 A)
-    unfolding sizeOf
-    size-at = rw (end-at says S o n b A h B l P pos f, l .same h (in-at A h B))
+    size-at = rw (size-larger S o n P h, end-at says S o n b A h B l P pos f, l .same h (in-at A h B))
 
     sized-at : (k : Kind) (v : ℕ) → sizeFile (sizeOf S P o h n) (fileAt k h v) ≡ sizedBy S o n P (fileAt k h v)
-    unfolding sizedBy fileAt
     sized-at k v =
-        by-test (isGone k) _ (λ t. rw t) (λ t. rw t (by-test (isFile k) _ (λ u. rw u) (λ u. rw u)))
+        file-cases k h v (λ f. sizeFile (sizeOf S P o h n) f ≡ sizedBy S o n P f)
+        (λ r. sym (sized-refused S o n P r v))
+        (sym (sized-file S o n P (record { 0 = h }) v))
 
     reached-at :
         (c : ℕ) →
@@ -81,9 +79,13 @@ module _ (says S : ℕ → Kind) (o n b P : ℕ) (pos : 0 < o) where
         (c : ℕ) (m : Met) (k : Kind) (v : ℕ) →
         copyFrom says P c h (shownOf P c (sizeOf S P o h n)) v (fromList B) m ≡ copyBy S o n P c h (shownOf P c (sizeOf S P o h n)) (newestCopy S o c n) →
         chunkFile says P c (sizeOf S P o h n) m (fromList B) (fileAt k h v) ≡ lookedBy S o n P c (fileAt k h v)
-    unfolding chunkFile lookedBy chunkBy fileAt
+    unfolding chunkFile
     chunk-at c m k v g =
-        by-test (isGone k) _ (λ t. rw t) (λ t. rw t (by-test (isFile k) _ (λ u. rw (u, g)) (λ u. rw u)))
+        file-cases k h v (λ f. chunkFile says P c (sizeOf S P o h n) m (fromList B) f ≡ lookedBy S o n P c f)
+        (λ r. sym (looked-refused S o n P c r v))
+        (by-test (leb (sizeOf S P o h n) (baseOf P c)) _
+        (λ t. rw t (sym (looked-past S o n P c (record { 0 = h }) v (leb-true _ _ t))))
+        (λ t. rw t (g ∙ sym (looked-inside S o n P c (record { 0 = h }) v (leb-false _ _ t)))))
 
     chunk-walk-at :
         (c : ℕ) →
@@ -95,11 +97,11 @@ module _ (says S : ℕ → Kind) (o n b P : ℕ) (pos : 0 < o) where
         rw (reached-at c, behind-at says A h B f e, file-at, ← size-at) (chunk-at c (through (metWith says P c) Nothing A) (says h) (length A + 1) g)
 
   pub size-parted : (L : List ℕ) → Parted (headed says) L → Listed says S o n b L → sizeWalk says P (fromList L) ≡ sizedBy S o n P (fileOf S o n)
-  unfolding sizeWalk sizeReached sizedBy
+  unfolding sizeWalk sizeReached
   size-parted L (all f) l =
       let z : 0 + length L ≡ length L = omega arith in
       rw (reach-none says P 0 L 0 Nothing 0 f, file-none L l f, z)
-      (by-test (eqb (length L) 0) _ (λ t. rw t) (λ t. rw t))
+      (by-test (eqb (length L) 0) _ (λ t. rw (t, sized-refused)) (λ t. rw (t, sized-refused)))
   size-parted L (at A h B f e) l = size-walk-at A h B l f e
 
   module _ (c : ℕ) (numbered : 0 < c) (near : baseOf P c < nowhere) (shown : ℕ) where
@@ -134,11 +136,12 @@ module _ (says S : ℕ → Kind) (o n b P : ℕ) (pos : 0 < o) where
         Fails (copied says P c) A →
         Fails (copied says P c) B →
         Same A h B
-    unfolding copyFrom copyBy copyAt
+    unfolding copyFrom
     copy-none A h B l f e fa fb =
         rw (
           met-none says P c A fa,
           newest-none says S o n b (A ++ (h ∷ B)) l isCopy (fails-at (copied says P c) A h B fa (no-copy (says h) e) fb),
+          copy-missing S o n P c h shown,
           some-records A h B l f e,
         )
         (seek-none says P c shown B (cutBy says true h nowhere) (length A + 1) fb)
@@ -151,17 +154,18 @@ module _ (says S : ℕ → Kind) (o n b P : ℕ) (pos : 0 < o) where
         Fails (copied says P c) A →
         copied says P c q ≡ true →
         Same (A ++ (q ∷ A′)) h B
-    unfolding copyFrom copyBy copyAt
+    unfolding copyFrom
     copy-above A q A′ h B l f fa e =
         let l′ : Listed says S o n b (A ++ (q ∷ (A′ ++ (h ∷ B)))) = rw append-assoc at l in
         let d : ageOf S h < ageOf S q = above says S o n b (A ++ (q ∷ A′)) h B l q (in-at A q A′) in
         let m : min (ageOf S q) (ageOf S h) ≡ ageOf S h = omega arith in
+        let cut : lowestCut S o h (ageOf S q) n ≡ nowhere =
+        cut-at says S o n b A q (A′ ++ (h ∷ B)) l′ h ∙ no-cut h A (λ x i. f x (in-above A q A′ x i)) in
         rw (
           met-at says P c A q A′ fa e,
           newest-at says S o n b A q (A′ ++ (h ∷ B)) l′ isCopy fa e,
-          cut-at says S o n b A q (A′ ++ (h ∷ B)) l′ h,
-          no-cut h A (λ x i. f x (in-above A q A′ x i)),
-          lt-leb nowhere (baseOf P c) near,
+          copy-shown S o n P c h shown q (rw cut near),
+          cut,
           m,
           since-at says S o n b (A ++ (q ∷ A′)) h B l,
           l′ .same q (in-at A q (A′ ++ (h ∷ B))),
@@ -177,7 +181,7 @@ module _ (says S : ℕ → Kind) (o n b P : ℕ) (pos : 0 < o) where
         Fails (copied says P c) B →
         copied says P c q ≡ true →
         Same A h (B ++ (q ∷ B′))
-    unfolding copyFrom copyBy copyAt
+    unfolding copyFrom
     copy-below A h B q B′ l f e fa fb eq =
         let l′ : Listed says S o n b ((A ++ (h ∷ B)) ++ (q ∷ B′)) = rw append-assoc l in
         let d : ageOf S q < ageOf S h = above says S o n b (A ++ (h ∷ B)) q B′ l′ h (in-at A h B) in
@@ -197,13 +201,12 @@ module _ (says S : ℕ → Kind) (o n b P : ℕ) (pos : 0 < o) where
         rw (
           met-none says P c A fa,
           newest-at says S o n b (A ++ (h ∷ B)) q B′ l′ isCopy (fails-at (copied says P c) A h B fa (no-copy (says h) e) fb) eq,
-          cut,
-          r,
-          m,
-          s,
-          l′ .same q (in-at (A ++ (h ∷ B)) q B′),
+          seek-at says P c shown B q B′ (cutBy says true h nowhere) (length A + 1) fb eq,
+          ← cut,
         )
-        (seek-at says P c shown B q B′ (cutBy says true h nowhere) (length A + 1) fb eq)
+        (by-test (leb (lowestCut S o h (ageOf S q) n) (baseOf P c)) _
+        (λ t. rw (t, copy-hidden S o n P c h shown q (leb-true _ _ t), r))
+        (λ t. rw (t, copy-shown S o n P c h shown q (leb-false _ _ t), m, s, l′ .same q (in-at (A ++ (h ∷ B)) q B′))))
 
     copy-parted :
         (A : List ℕ) (h : ℕ) (B : List ℕ) →
@@ -220,11 +223,11 @@ module _ (says S : ℕ → Kind) (o n b P : ℕ) (pos : 0 < o) where
   module _ (c : ℕ) (numbered : 0 < c) (near : baseOf P c < nowhere) where
     chunk-parted :
         (L : List ℕ) → Parted (headed says) L → Listed says S o n b L → chunkWalk says P c (fromList L) ≡ lookedBy S o n P c (fileOf S o n)
-    unfolding chunkWalk chunkReached lookedBy
+    unfolding chunkWalk chunkReached
     chunk-parted L (all f) l =
         let z : 0 + length L ≡ length L = omega arith in
         rw (reach-none says P c L 0 Nothing 0 f, file-none L l f, z)
-        (by-test (eqb (length L) 0) _ (λ t. rw t) (λ t. rw t))
+        (by-test (eqb (length L) 0) _ (λ t. rw (t, looked-refused)) (λ t. rw (t, looked-refused)))
     chunk-parted L (at A h B f e) l =
         chunk-walk-at A h B l f e c
         (copy-parted c numbered near (shownOf P c (sizeOf S P o h n)) A h B l f e (parted (copied says P c) A) (parted (copied says P c) B))

@@ -1,7 +1,7 @@
 -- Demand 3, proved: a start makes the cells hold no page, every request keeps what they hold and is answered by it, and held cells have the chains
 -- that the demand asks for.
-use Prim.Native.Nat.{ℕ, _+_, _-_, _*_, _<_, _≤_, zero-le}
-use mathlib.Core.Bool.{Bool, true, false}
+use Prim.Native.Nat.{ℕ, _+_, _-_, _<_, _≤_}
+use mathlib.Core.Bool.{Bool}
 use mathlib.Core.List.{List, [], _∷_, _++_}
 use mathlib.Core.Logic.{_⊎_, inl, inr, ⊎-elim}
 use mathlib.Core.Path.{_≡_, refl, sym, ap, _∙_, subst}
@@ -10,8 +10,6 @@ use lib.Dec.{ltb}
 use lib.ListN.{length, take, drop, length-append, List·getD-append}
 use borrow.Author.Tests.{ltb-false}
 use Rattle.page.specs.Kinds.{kindAt}
-use Rattle.page.specs.Numbers.{badObject, badChunk}
-use Rattle.page.specs.declared.kind.Kind.{Kind}
 use Rattle.page.specs.Lengths.{openedOf, pageCount}
 use Rattle.page.specs.declared.layout.Layout.{Layout}
 use Rattle.page.specs.declared.layout.Opened.{Opened}
@@ -20,27 +18,23 @@ use Rattle.page.specs.declared.refusal.Refusal.{Refusal}
 use Rattle.page.specs.declared.refusal.Refusal.the-variants.{ShortIndex}
 use Rattle.page.proofs.Searching.{by-test}
 use Rattle.page.proofs.Lengths.{opened-facts, opened-some}
-use Rattle.page.proofs.Layouts.{product-le, listed-most}
-use Rattle.page.proofs.Within.{object-within, chunk-within}
-use Rattle.chunk.specs.Records.{ageOf, baseOf}
+use Rattle.chunk.specs.Records.{ageOf}
 use Rattle.chunk.specs.Newest.{records}
-use Rattle.chunk.specs.Cuts.{nowhere}
-use Rattle.chunk.specs.Lookups.{sizedOf, lookedOf}
+use Rattle.chunk.proofs.Ascending.{In}
 use Rattle.index.specs.Additions.{startIn, startOf}
 use Rattle.index.specs.Cells.{cellsFor}
-use Rattle.index.specs.Chains.{objects, Trace, clean, broken, rec, chain, top}
+use Rattle.index.specs.Chains.{objects, Trace, chain, top}
 use Rattle.index.specs.Held.{noneAdded, seen, recs, fromList, Held}
 use Rattle.index.specs.Walks.{seenSays, sizeVisits, chunkVisits}
 use Rattle.index.specs.Requests.{Request, sizeSeen, chunkSeen, answersOn, answersBy, addedOf, wordsOf}
 use Rattle.index.specs.Demand.{OnChain, Falling, isAdded, addedRecords, Demand3, Demand}
 use Rattle.index.specs.declared.additions.Added.the-variants.{Done, Refused}
-use Rattle.index.proofs.Records.{In}
 use Rattle.index.proofs.Inserting.{Falls}
 use Rattle.index.proofs.Kept.{held-falls, held-in, held-of, held-apart, start-kept}
 use Rattle.index.proofs.Lending.{held-lent}
-use Rattle.index.proofs.Ordering.{pages-most, ages-below}
-use Rattle.index.proofs.Bridging.{size-seen, chunk-seen, size-visits-seen, chunk-visits-seen}
-use Rattle.index.proofs.Demanding.{SizeRule, ChunkRule, steps}
+use Rattle.index.proofs.Ordering.{data-most, pages-most, ages-below}
+use Rattle.index.proofs.Looking.{size-visited, chunk-visited}
+use Rattle.index.proofs.Demanding.{steps}
 
 -- a chain made of a list has its records, in its order
 on-list : (p : ℕ) (L : List ℕ) → In p L → OnChain p (fromList L)
@@ -113,48 +107,16 @@ module _ (l : Layout) (dump : List ℕ) (k w : ℕ) (c : List ℕ) where
           (λ t. never ShortIndex (rw t at d))
           (λ t. enough m e (sym (opened-facts l k (length dump) m e .pages)) (ltb-false _ _ t) f)
 
--- what the walks answer on an object's added records, for a dump that is accepted
-module _ (l : Layout) (dump : List ℕ) (k n : ℕ) (e : openedOf l k (length dump) ≡ opened.Pages n) where
-  abbrev says : ℕ → Kind
-  says = kindAt l dump
-
+-- no lookup of the paper's visits more records than the object has, for a dump that is accepted
+module _ (l : Layout) (dump : List ℕ) (k n : ℕ) (e : openedOf l k (length dump) ≡ opened.Pages n) (m : ℕ) (done : ℕ → Bool) (o : ℕ) where
   few : n ≤ 4294967296
   few = omega (arith, pages-most l dump k n e)
 
-  sizes : SizeRule l dump n
-  sizes done o p = size-seen says n few (ages-below l dump k n e) done o p (l .«data»)
+  size-visits : sizeVisits (sizeSeen l dump m done o n) ≤ records (seenSays (kindAt l dump) done) o n
+  size-visits = size-visited (kindAt l dump) n few (ages-below l dump k n e) done o (l .«data»)
 
-  -- a chunk begins before the place that stands for no cut
-  near : (c : ℕ) → badChunk c ≡ false → baseOf (l .«data») c < nowhere
-  near c b =
-      let h : (c - 1) * l .«data» ≤ 1048575 * 16384 =
-      product-le {m = 1048575} {n = 16384} (omega (arith, chunk-within c b .most)) (listed-most l (opened-facts l k (length dump) n e .listed))
-      in
-      omega arith
-
-  chunks : ChunkRule l dump n
-  chunks done o c p b = chunk-seen says n few (ages-below l dump k n e) done o p (l .«data») c (chunk-within c b .least) (near c b)
-
-  -- no lookup of the paper's visits more records than the object has
-  module _ (m : ℕ) (done : ℕ → Bool) (o : ℕ) where
-    size-visits : sizeVisits (sizeSeen l dump m done o n) ≤ records (seenSays says done) o n
-    unfolding sizedOf
-    size-visits =
-        by-test (badObject o) _
-        (λ t. rw t zero-le)
-        (λ t. let p = object-within o t .least in rw (t, ← sizes done o p) (size-visits-seen says n few (ages-below l dump k n e) done o p (l .«data»)))
-
-    chunk-visits : (c : ℕ) → chunkVisits (chunkSeen l dump m done o c n) ≤ records (seenSays says done) o n
-    unfolding lookedOf
-    chunk-visits c =
-        by-test (badObject o) _
-        (λ t. rw t zero-le)
-        (λ t.
-        let p = object-within o t .least in
-        rw t
-        (by-test (badChunk c) _
-        (λ u. rw u zero-le)
-        (λ u. rw (u, ← chunks done o c p u) (chunk-visits-seen says n few (ages-below l dump k n e) done o p (l .«data») c))))
+  chunk-visits : (c : ℕ) → chunkVisits (chunkSeen l dump m done o c n) ≤ records (seenSays (kindAt l dump) done) o n
+  chunk-visits = chunk-visited (kindAt l dump) n few (ages-below l dump k n e) done o (l .«data») (data-most l dump k n e)
 
 -- demand 3
 pub demand-3 : Demand
@@ -170,5 +132,5 @@ demand-3 l dump k w c d rs =
     (simp length-append (omega (arith, s .room))) s
     in
     let m = length (q ++ drop w c) in
-    let r = steps l dump k n e m some (sizes l dump k n e) (chunks l dump k n e) rs (q ++ drop w c) noneAdded base refl in
+    let r = steps l dump k n e m some rs (q ++ drop w c) noneAdded base refl in
     held-demand l dump (q ++ drop w c) rs (r .1) (r .0) (size-visits l dump k n e m (isAdded l dump (q ++ drop w c) rs)) (chunk-visits l dump k n e m (isAdded l dump (q ++ drop w c) rs)))

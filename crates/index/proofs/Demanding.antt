@@ -1,52 +1,45 @@
 -- One request on cells that hold exactly the added pages is answered as the paper says, and leaves cells that hold exactly the pages added
 -- after it. So a list of requests is too: by induction, with nothing in it.
-use Prim.Native.Nat.{ℕ, zero, suc, _+_, _-_, _≤_, _<_, min}
+use Prim.Native.Nat.{ℕ, _+_, _-_, _≤_, _<_, min}
 use mathlib.Core.Bool.{Bool, true, false}
 use mathlib.Core.List.{List, [], _∷_, _++_}
-use mathlib.Core.Path.{_≡_, refl, sym, ap, ap₂, _∙_, subst}
-use native.Mathlib.Nat.{le-trans}
+use mathlib.Core.Path.{_≡_, refl, sym, ap, ap₂, _∙_}
 use native.Mathlib.Omega.{arith}
-use lib.ListN.{length, take, drop, set, length-set, length-take, length-drop, length-append, length-replicate, take-append-drop, List·getD-append}
+use lib.ListN.{length, take, drop, length-set, length-take, length-drop, length-append, length-replicate, take-append-drop, List·getD-append}
 use lib.Seq.{getD-take}
 use lib.Dec.{ltb, leb, eqb}
 use borrow.Author.Tests.{ltb-true, ltb-false, leb-true, leb-false}
 use Rattle.page.specs.Choice.{pick}
 use Rattle.page.specs.Lengths.{openedOf}
 use Rattle.page.specs.Kinds.{kindAt}
-use Rattle.page.specs.Numbers.{badObject, badChunk}
 use Rattle.page.specs.declared.kind.Kind.{Kind}
 use Rattle.page.specs.declared.layout.Layout.{Layout}
 use Rattle.page.specs.declared.layout.Opened.{Opened}
 use Rattle.page.specs.declared.layout.Opened.the-variants as opened
 use Rattle.page.specs.declared.refusal.Refusal.{Refusal}
-use Rattle.page.specs.declared.refusal.Refusal.the-variants.{ShortIndex, AlreadyAdded}
+use Rattle.page.specs.declared.refusal.Refusal.the-variants.{AlreadyAdded}
 use Rattle.page.proofs.Searching.{by-test}
 use Rattle.page.proofs.Lengths.{opened-facts}
-use Rattle.page.proofs.Within.{object-within}
-use Rattle.chunk.specs.Lookups.{fileOf, sizedBy, sizedOf, lookedBy, lookedOf}
-use Rattle.chunk.specs.Lists.{wordsBy}
 use Rattle.chunk.specs.Records.{ageOf}
-use Rattle.chunk.specs.declared.answer.Sized.{Sized}
 use Rattle.chunk.specs.declared.answer.Sized.the-variants as sized
-use Rattle.chunk.specs.declared.answer.Looked.{Looked}
 use Rattle.chunk.specs.declared.answer.Looked.the-variants as looked
-use Rattle.index.specs.Cells.{cellsFor, word, keys, linked, claimed, isMarked}
-use Rattle.index.specs.Chains.{objects, chain}
-use Rattle.index.specs.Places.{placeOf}
-use Rattle.index.specs.Additions.{Outcome, outcome, refused, emptied, startIn, startOf, addOther, addAt, addRecord, addTo, addIn, addOf}
-use Rattle.index.specs.Held.{noneAdded, with, seen, recs, fromList, Held}
-use Rattle.index.specs.Walks.{seenSays, sizeWalk, chunkWalk, sizeIn, chunkIn, sizeFrom, chunkFrom}
+use Rattle.chunk.proofs.Cases.{words-kept}
+use Rattle.index.specs.Cells.{cellsFor, keys, linked, claimed, isMarked}
+use Rattle.index.specs.Chains.{objects, top}
+use Rattle.index.specs.Additions.{emptied, startIn, startOf, addOther, addAt, addRecord, addTo, addIn, addOf}
+use Rattle.index.specs.Held.{noneAdded, with, Held}
+use Rattle.index.specs.Walks.{sizeIn, chunkIn, sizeFrom, chunkFrom}
 use Rattle.index.specs.Listing.{idsFrom, listFrom}
 use Rattle.index.specs.Requests.{Request, start, add, size, chunk, read, part, list, Answer, addition, aSize, aChunk, readAnswer, partAnswer, answerOn, wordsAfter, answersOn, wordsOf, unlessRefused, sizeSeen, chunkSeen, answerBy, addedAfter, answersBy, addedOf}
-use Rattle.index.specs.declared.additions.Added.{Added}
 use Rattle.index.specs.declared.additions.Added.the-variants.{Done, Refused}
 use Rattle.index.specs.declared.places.Place.{Place}
 use Rattle.index.specs.declared.places.Place.the-variants as place
-use Rattle.index.proofs.Answers.{start-short, start-done, add-short, add-far}
+use Rattle.index.proofs.Answers.{add-short, add-far}
 use Rattle.index.proofs.Keeping.{answerTo, add-keeps, start-holds}
 use Rattle.index.proofs.Lending.{held-lent}
 use Rattle.index.proofs.Listing.{ids-same, list-short, list-held}
-use Rattle.index.proofs.Ordering.{pages-most, ages-below, ages-differ, header-object}
+use Rattle.index.proofs.Looking.{size-held, chunk-held}
+use Rattle.index.proofs.Ordering.{data-most, pages-most, ages-below, ages-differ, header-object}
 
 -- a call changes words, not their number
 module _ (n : ℕ) (obj age : ℕ → ℕ) where
@@ -73,19 +66,6 @@ module _ (n : ℕ) (obj age : ℕ → ℕ) where
       (λ v. rw v (by-test (isMarked c p) _ (λ m. rw m) (λ m. rw m (simp length-set))))
       (λ v. rw v (at-length c p (obj p) _ _))))))
 
--- the walks on an object's sorted added records answer by the rules, with the pages not yet added read as blank
-abbrev pub SizeRule : Layout → List ℕ → ℕ → Type 0
-SizeRule l dump n =
-    (done : ℕ → Bool) (o : ℕ) → 0 < o →
-    sizeWalk (kindAt l dump) (l .«data») (fromList (recs (seen (objects (kindAt l dump)) done) (ageOf (kindAt l dump)) o n))
-    ≡ sizedBy (seenSays (kindAt l dump) done) o n (l .«data») (fileOf (seenSays (kindAt l dump) done) o n)
-
-abbrev pub ChunkRule : Layout → List ℕ → ℕ → Type 0
-ChunkRule l dump n =
-    (done : ℕ → Bool) (o c : ℕ) → 0 < o → badChunk c ≡ false →
-    chunkWalk (kindAt l dump) (l .«data») c (fromList (recs (seen (objects (kindAt l dump)) done) (ageOf (kindAt l dump)) o n))
-    ≡ lookedBy (seenSays (kindAt l dump) done) o n (l .«data») c (fileOf (seenSays (kindAt l dump) done) o n)
-
 module _ (l : Layout) (dump : List ℕ) (k₀ n : ℕ) (accepted : openedOf l k₀ (length dump) ≡ opened.Pages n) where
   abbrev says : ℕ → Kind
   says = kindAt l dump
@@ -95,6 +75,12 @@ module _ (l : Layout) (dump : List ℕ) (k₀ n : ℕ) (accepted : openedOf l k�
 
   abbrev age : ℕ → ℕ
   age = ageOf says
+
+  few : n ≤ 4294967296
+  few = omega (arith, pages-most l dump k₀ n accepted)
+
+  old : (x : ℕ) → x < n → age x < top
+  old = ages-below l dump k₀ n accepted
 
   -- the dump is refused for a K, or has the same pages for it
   by-block : (k : ℕ) (X : Type 0) → ((r : Refusal) → openedOf l k (length dump) ≡ opened.Refused r → X) → (openedOf l k (length dump) ≡ opened.Pages n → X) → X
@@ -171,22 +157,20 @@ module _ (l : Layout) (dump : List ℕ) (k₀ n : ℕ) (accepted : openedOf l k�
         (by-test (leb n p) _
         (λ u. rw (u, add-far n obj age (take w c) p h (leb-true _ _ u)) (refl, unchanged w))
         (λ u.
-        let q = add-keeps n obj age (ages-differ l dump k₀ n accepted) (ages-below l dump k₀ n accepted) done (take w c) (slice-held w (ltb-false _ _ t)) p (leb-false _ _ u) in
+        let q = add-keeps n obj age (ages-differ l dump k₀ n accepted) old done (take w c) (slice-held w (ltb-false _ _ t)) p (leb-false _ _ u) in
         rw u
         (ap addition (q .0 ∙ answer-to (done p)), back w _ (with p done) (add-length n obj age (take w c) p) (q .1)))))))
 
     list-same : (k w : ℕ) (buffer : List ℕ) → answerOn l dump c (list k w buffer) ≡ answerBy l dump m done (list k w buffer)
-    unfolding answerOn answerBy listFrom idsFrom wordsBy
+    unfolding answerOn answerBy listFrom idsFrom
     list-same k w buffer =
         by-block k _
-        (λ r e. rw e)
+        (λ r e. rw (e, words-kept))
         (λ e.
         rw e
         (by-test (ltb (min w m) (cellsFor n)) _
-        (λ t. rw (t, list-short says (l .«data») (take w c) n (length buffer) (rw (slice-length w) (ltb-true _ _ t))))
+        (λ t. rw (t, list-short says (l .«data») (take w c) n (length buffer) (rw (slice-length w) (ltb-true _ _ t)), words-kept))
         (λ t.
-        let few : n ≤ 4294967296 = omega (arith, pages-most l dump k₀ n accepted) in
-        let old = ages-below l dump k₀ n accepted in
         let h = slice-held w (ltb-false _ _ t) in
         rw (
           t,
@@ -194,64 +178,47 @@ module _ (l : Layout) (dump : List ℕ) (k₀ n : ℕ) (accepted : openedOf l k�
           ids-same says (l .«data») n few old (header-object l dump) done (take w c) h some,
         ))))
 
-    -- what the walks down a chain answer on an object's added records, by the rules
-    module _ (sizes : SizeRule l dump n) (chunks : ChunkRule l dump n) where
-      size-same : (k w o : ℕ) → sizeFrom l k dump (take w c) o ≡ unlessRefused l dump m (λ r. sized.Refused r 0) (sizeSeen l dump m done o) k w
-      unfolding sizeFrom sizeIn sizedOf
-      size-same k w o =
-          by-block k _
-          (λ r e. rw e)
-          (λ e.
-          rw (e, slice-length w)
-          (by-test (ltb (min w m) (cellsFor n)) _
-          (λ t. rw t)
-          (λ t.
-          rw t
-          (by-test (badObject o) _
-          (λ u. rw u)
-          (λ u.
-          let p : 0 < o = object-within o u .least in
-          rw u (ap (sizeWalk says (l .«data»)) (slice-held w (ltb-false _ _ t) .chains o p) ∙ sizes done o p))))))
+    size-same : (k w o : ℕ) → sizeFrom l k dump (take w c) o ≡ unlessRefused l dump m (λ r. sized.Refused r 0) (sizeSeen l dump m done o) k w
+    unfolding sizeFrom sizeIn
+    size-same k w o =
+        by-block k _
+        (λ r e. rw e)
+        (λ e.
+        rw e
+        (by-test (ltb (min w m) (cellsFor n)) _
+        (λ t. rw (slice-length w, t))
+        (λ t. rw t (size-held says n few old done o (l .«data») (take w c) (slice-held w (ltb-false _ _ t))))))
 
-      chunk-same : (k w o q : ℕ) → chunkFrom l k dump (take w c) o q ≡ unlessRefused l dump m (λ r. looked.Refused r 0 0) (chunkSeen l dump m done o q) k w
-      unfolding chunkFrom chunkIn lookedOf
-      chunk-same k w o q =
-          by-block k _
-          (λ r e. rw e)
-          (λ e.
-          rw (e, slice-length w)
-          (by-test (ltb (min w m) (cellsFor n)) _
-          (λ t. rw t)
-          (λ t.
-          rw t
-          (by-test (badObject o) _
-          (λ u. rw u)
-          (λ u.
-          let p : 0 < o = object-within o u .least in
-          rw u
-          (by-test (badChunk q) _
-          (λ v. rw v)
-          (λ v. rw v (ap (chunkWalk says (l .«data») q) (slice-held w (ltb-false _ _ t) .chains o p) ∙ chunks done o q p v))))))))
+    chunk-same : (k w o q : ℕ) → chunkFrom l k dump (take w c) o q ≡ unlessRefused l dump m (λ r. looked.Refused r 0 0) (chunkSeen l dump m done o q) k w
+    unfolding chunkFrom chunkIn
+    chunk-same k w o q =
+        by-block k _
+        (λ r e. rw e)
+        (λ e.
+        rw e
+        (by-test (ltb (min w m) (cellsFor n)) _
+        (λ t. rw (slice-length w, t))
+        (λ t. rw t (chunk-held says n few old done o (l .«data») (take w c) (slice-held w (ltb-false _ _ t)) (data-most l dump k₀ n accepted) q))))
 
-      -- one request
-      pub step : (r : Request) → Step m c done r
-      unfolding answerOn wordsAfter answerBy addedAfter
-      step (start k w) = step-start k w
-      step (add k w p) = step-add k w p
-      step (size k w o) = (ap aSize (size-same k w o), (g, size-m))
-      step (chunk k w o q) = (ap aChunk (chunk-same k w o q), (g, size-m))
-      step (read k w o q buffer) = (ap (readAnswer l dump buffer) (chunk-same k w o q), (g, size-m))
-      step (part k w o q) = (ap (partAnswer l dump) (chunk-same k w o q), (g, size-m))
-      step (list k w buffer) = (list-same k w buffer, (g, size-m))
+    -- one request
+    pub step : (r : Request) → Step m c done r
+    unfolding answerOn wordsAfter answerBy addedAfter
+    step (start k w) = step-start k w
+    step (add k w p) = step-add k w p
+    step (size k w o) = (ap aSize (size-same k w o), (g, size-m))
+    step (chunk k w o q) = (ap aChunk (chunk-same k w o q), (g, size-m))
+    step (read k w o q buffer) = (ap (readAnswer l dump buffer) (chunk-same k w o q), (g, size-m))
+    step (part k w o q) = (ap (partAnswer l dump) (chunk-same k w o q), (g, size-m))
+    step (list k w buffer) = (list-same k w buffer, (g, size-m))
 
   -- a list of requests
-  module _ (m : ℕ) (some : 0 < n) (sizes : SizeRule l dump n) (chunks : ChunkRule l dump n) where
+  module _ (m : ℕ) (some : 0 < n) where
     pub steps :
         (rs : List Request) (c : List ℕ) (done : ℕ → Bool) → Held n obj age done c → length c ≡ m →
         (answersOn l dump c rs ≡ answersBy l dump m done rs) × Held n obj age (addedOf l dump m done rs) (wordsOf l dump c rs)
     unfolding answersOn answersBy addedOf wordsOf
     steps [] c done g e = (refl, g)
     steps (r ∷ rs) c done g e =
-        let s = step m some c done g e sizes chunks r in
+        let s = step m some c done g e r in
         let t = steps rs (wordsAfter l dump c r) (addedAfter l dump m done r) (s .1 .0) (s .1 .1) in
         (ap₂ (λ (a : Answer) (rest : List Answer). a ∷ rest) (s .0) (t .0), t .1)

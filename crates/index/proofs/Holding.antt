@@ -16,12 +16,13 @@ use lib.Dec.{ltb, eqb}
 use borrow.Author.Tests.{ltb-false, eq-eqb, ne-eqb}
 use Rattle.page.specs.Choice.{pick}
 use Rattle.page.specs.Search.{count}
+use Rattle.chunk.proofs.Ascending.{In}
 use Rattle.index.specs.Cells.{cellsFor, word, linkAt, keyAt, firstAt, keys, isMarked, last, linkTo, marked, linked, claimed}
 use Rattle.index.specs.Slots.{serves, slot, firstIn, first, used}
 use Rattle.index.specs.Chains.{trace, chain, top}
 use Rattle.index.specs.Held.{seen, with, recs, fromList}
 use Rattle.index.proofs.Links.{trace-end, frame}
-use Rattle.index.proofs.Records.{In, recs-of, recs-same, recs-add}
+use Rattle.index.proofs.Records.{recs-of, recs-same, recs-add}
 use Rattle.index.proofs.Inserting.{spot, spot-form, word-at, word-own, word-other, insert-trace}
 use Rattle.index.proofs.Counts.{count-more}
 use Rattle.index.proofs.Probing.{slot-lt, slot-same, slot-fill, first-own, first-none}

@@ -14,13 +14,13 @@ use lib.Dec.{leb, eqb}
 use borrow.Author.Tests.{leb-true, leb-false, lt-ltb, le-ltb, le-leb, lt-leb, eq-eqb, ne-eqb}
 use Rattle.page.specs.Choice.{pick}
 use Rattle.page.specs.declared.refusal.Refusal.the-variants.{AlreadyAdded}
+use Rattle.chunk.proofs.Ascending.{In}
 use Rattle.index.specs.Cells.{cellsFor, word, linkAt, linkTo, marked, linked}
 use Rattle.index.specs.Chains.{rec, trace}
 use Rattle.index.specs.Places.{placeOf}
 use Rattle.index.specs.Held.{insert, fromList}
 use Rattle.index.specs.declared.places.Place.the-variants.{At, Refused}
 use Rattle.index.proofs.Links.{Leads, trace-record, trace-end, trace-inverse, trace-clean, frame}
-use Rattle.index.proofs.Records.{In}
 
 -- ages fall along a list, from below a bound
 abbrev pub Falls : (ℕ → ℕ) → ℕ → List ℕ → Type 0

@@ -18,6 +18,7 @@ use Rattle.page.specs.declared.layout.Opened.the-variants as opened
 use Rattle.page.specs.declared.refusal.Refusal.{Refusal}
 use Rattle.page.proofs.Lengths.{opened-facts, opened-some}
 use Rattle.chunk.specs.Records.{ageOf}
+use Rattle.chunk.proofs.Ascending.{In}
 use Rattle.index.specs.Cells.{cellsFor, firstAt, keys, isMarked}
 use Rattle.index.specs.Slots.{slot}
 use Rattle.index.specs.Chains.{objects, top, chain}
@@ -27,7 +28,7 @@ use Rattle.index.specs.Held.{seen, noneAdded, with, recs, Held}
 use Rattle.index.specs.declared.additions.Added.the-variants.{Done, Refused}
 use Rattle.index.specs.declared.places.Place.{Place}
 use Rattle.index.specs.declared.places.Place.the-variants as place
-use Rattle.index.proofs.Records.{In, recs-in, recs-of}
+use Rattle.index.proofs.Records.{recs-in, recs-of}
 use Rattle.index.proofs.Inserting.{Falls, falls-in, trace-falls}
 use Rattle.index.proofs.Holding.{seen-of}
 use Rattle.index.proofs.Answers.{start-done}

@@ -17,9 +17,9 @@ pub mod Bridging
 pub mod Placing
 pub mod Turning
 pub mod Ahead
+pub mod Looking
 pub mod Listing
 pub mod Demanding
 pub mod Running
 pub mod Kept
 pub mod Demanded
-pub mod Looking

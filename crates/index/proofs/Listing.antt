@@ -31,9 +31,10 @@ use Rattle.chunk.specs.Live.{liveIds, objectCount}
 use Rattle.chunk.specs.Lists.{listedBy}
 use Rattle.chunk.specs.declared.answer.Listed.the-variants as listed
 use Rattle.chunk.specs.declared.answer.Tallied.the-variants as tallied
-use Rattle.chunk.proofs.Ascending.{Ascends, same-members}
-use Rattle.chunk.proofs.Ascending as ascending
-use Rattle.chunk.proofs.Living.{Bears, Live, newest-found, ids-in, ids-of, ids-length, ids-ascend, count-below, live-ids-ascend, live-in, live-of, objectIds, objects-ascend, objects-length, objects-in, objects-of}
+use Rattle.chunk.proofs.Ascending.{In, Ascends, same-members}
+use Rattle.chunk.proofs.Cases.{listed-count}
+use Rattle.chunk.proofs.Meaning.{newest-found}
+use Rattle.chunk.proofs.Living.{Bears, Live, ids-in, ids-of, ids-length, ids-ascend, count-below, live-ids-ascend, live-in, live-of, objectIds, objects-ascend, objects-length, objects-in, objects-of}
 use Rattle.index.specs.Cells.{cellsFor, keys}
 use Rattle.index.specs.Slots.{slot}
 use Rattle.index.specs.Chains.{objects, top, clean, trace, chain}
@@ -46,7 +47,6 @@ use Rattle.index.specs.declared.list.Standing.{Standing}
 use Rattle.index.specs.declared.list.Standing.the-variants as standing
 use Rattle.index.specs.declared.walks.Met.the-variants.{Nothing}
 use Rattle.index.proofs.list.Standing.{the-type}
-use Rattle.index.proofs.Records.{In}
 use Rattle.index.proofs.Counts.{count-nothing}
 use Rattle.index.proofs.Ordering.{never}
 use Rattle.index.proofs.Links.{trace-end}
@@ -149,8 +149,8 @@ module _ (a : Ask) (says : ℕ → Kind) (P : ℕ) (c : List ℕ) (n : ℕ) wher
   -- the ids of the slots asked for are given ids that ascend, if those are the objects asked for
   slots-same :
       (ids : List ℕ) → 0 < n → Ascends 0 ids →
-      ((o : ℕ) → 0 < o → isAsked (standingOf a says P c n o) ≡ true → ascending.In o ids) →
-      ((o : ℕ) → ascending.In o ids → Found o) →
+      ((o : ℕ) → 0 < o → isAsked (standingOf a says P c n o) ≡ true → In o ids) →
+      ((o : ℕ) → In o ids → Found o) →
       slotIds a says P c n ≡ ids
   unfolding slotIds
   slots-same ids pages up there found =
@@ -194,9 +194,9 @@ module _ (says : ℕ → Kind) (P : ℕ) (c : List ℕ) (n : ℕ) where
         (λ t q. let z : _≡_ {A = ℕ} 0 1 = cc in absurd (omega arith)))
 
     pub list-counted : (room m : ℕ) → tallyIn ask.Live says P c n ≡ tallied.Count m → Counted room m
-    unfolding tallyIn listIn listedBy slotIds
+    unfolding tallyIn listIn slotIds
     list-counted room m e =
-        rw (le-ltb (length c) (cellsFor n) enough, ids-length (askedSlot ask.Live says P c n) (keys c) n)
+        rw (le-ltb (length c) (cellsFor n) enough, listed-count room _ _ (ids-length (askedSlot ask.Live says P c n) (keys c) n))
         (pick-cases (ltb 0 (count (damagedSlot ask.Live says P c n) n)) _ _ _ _ e
         (λ t q. let z : _≡_ {A = ℕ} 0 1 = cc in absurd (omega arith))
         (λ t q. let same : m ≡ count (askedSlot ask.Live says P c n) n = cc in (same, rw (t, same))))
@@ -322,9 +322,9 @@ module _
     live-found : (o : ℕ) → Live S n o → Found ask.Live says P c n o
     live-found o w =
         let h = w .header in
-        let f = newest-found S (headerOf o) h n (w .newest-header) in
-        let r = header-pos o h (f .1) in
-        (r .0, key-found o h (r .0) (added-record o h (r .0) (f .0) (r .1)), rw (live-held o (r .0)) (live-stands o w))
+        let f = newest-found S (headerOf o) n h (w .newest-header) in
+        let r = header-pos o h (f .passes) in
+        (r .0, key-found o h (r .0) (added-record o h (r .0) (f .below) (r .1)), rw (live-held o (r .0)) (live-stands o w))
 
     pub ids-same : slotIds ask.Live says P c n ≡ liveIds S n
     ids-same =
@@ -339,16 +339,16 @@ module _
         rw (le-ltb (length c) (cellsFor n) (g .room), count-nothing (damagedSlot ask.Live says P c n) n (λ s h. none-damaged ask.Live s), ids-same)
 
     -- an object with an added record is one of the dump so read, and is found in its slot
-    any-in : (o : ℕ) → 0 < o → isAsked (standingOf ask.Any says P c n o) ≡ true → ascending.In o (objectIds S n)
+    any-in : (o : ℕ) → 0 < o → isAsked (standingOf ask.Any says P c n o) ≡ true → In o (objectIds S n)
     any-in o pos t = go (R o) (λ x i. record-added o x pos i) (rw (held-stands ask.Any o pos) at t)
       where
-        go : (L : List ℕ) → ((x : ℕ) → In x L → (x < n) × (objects S x ≡ o)) → isAsked (listStands says P ask.Any L) ≡ true → ascending.In o (objectIds S n)
+        go : (L : List ℕ) → ((x : ℕ) → In x L → (x < n) × (objects S x ≡ o)) → isAsked (listStands says P ask.Any L) ≡ true → In o (objectIds S n)
         go [] f t = never (sym (any-none says P) ∙ t)
         go (x ∷ L) f t =
             let r = f x (inl refl) in
             rw (r .1) at (objects-in S n x (r .0) (λ z. absurd (omega (arith, r .1))))
 
-    any-found : (o : ℕ) → ascending.In o (objectIds S n) → Found ask.Any says P c n o
+    any-found : (o : ℕ) → In o (objectIds S n) → Found ask.Any says P c n o
     any-found o i =
         let r = objects-of S n o i in
         let z = r .0 in

@@ -1,9 +1,9 @@
 -- Lookups by an index that holds exactly the added pages answer what the rules answer where pages not added read as blank, refusals and
 -- visits included, and visit no more records than the object's added ones.
 use Prim.Native.Nat.{ℕ, _≤_, _<_, zero-le}
-use mathlib.Core.Bool.{Bool, false}
+use mathlib.Core.Bool.{Bool}
 use mathlib.Core.List.{List}
-use mathlib.Core.Path.{_≡_, refl}
+use mathlib.Core.Path.{_≡_, refl, sym, _∙_}
 use native.Mathlib.Omega.{arith}
 use lib.ListN.{length}
 use borrow.Author.Tests.{le-ltb}
@@ -18,6 +18,7 @@ use Rattle.page.proofs.Within.{object-within, chunk-within}
 use Rattle.chunk.specs.Records.{ageOf}
 use Rattle.chunk.specs.Newest.{records}
 use Rattle.chunk.specs.Lookups.{sizedOf, lookedOf}
+use Rattle.chunk.proofs.Cases.{size-bad, size-by-file, chunk-bad-object, chunk-bad-number, chunk-by-file}
 use Rattle.index.specs.Chains.{objects, top}
 use Rattle.index.specs.Held.{Held}
 use Rattle.index.specs.Walks.{seenSays, sizeVisits, chunkVisits, sizeIn, chunkIn, sizeFrom, chunkFrom}
@@ -27,40 +28,58 @@ use Rattle.index.proofs.Ordering.{data-most, chunk-near, pages-most, ag
 module _
     (says : ℕ → Kind) (n : ℕ) (few : n ≤ 4294967296)
     (old : (x : ℕ) → x < n → ageOf says x < top)
-    (added : ℕ → Bool) (cells : List ℕ)
-    (held : Held n (objects says) (ageOf says) added cells)
-    (o P : ℕ)
+    (added : ℕ → Bool) (o P : ℕ)
   where
     abbrev S : ℕ → Kind
     S = seenSays says added
 
-    pub size-held : (sizeIn says P cells o n ≡ sizedOf S o n P) × (sizeVisits (sizeIn says P cells o n) ≤ records S o n)
-    unfolding sizeIn sizedOf
-    size-held =
-        rw (le-ltb _ _ (held .room))
-        (by-test (badObject o) _
-        (λ t. rw t (refl, zero-le))
+    -- by the rules
+    pub size-visited : sizeVisits (sizedOf S o n P) ≤ records S o n
+    size-visited =
+        by-test (badObject o) _
+        (λ t. rw (size-bad S o n P t) zero-le)
         (λ t.
         let pos : 0 < o = object-within o t .least in
-        rw (t, held .chains o pos) (size-seen says n few old added o pos P, size-visits-seen says n few old added o pos P)))
+        rw (size-by-file S o n P t, ← size-seen says n few old added o pos P) (size-visits-seen says n few old added o pos P))
 
-    pub chunk-held :
-        P ≤ mostBytes →
-        (c : ℕ) →
-        (chunkIn says P cells o n c ≡ lookedOf S o n P c) × (chunkVisits (chunkIn says P cells o n c) ≤ records S o n)
-    unfolding chunkIn lookedOf
-    chunk-held h c =
-        rw (le-ltb _ _ (held .room))
-        (by-test (badObject o) _
-        (λ t. rw t (refl, zero-le))
+    pub chunk-visited : P ≤ mostBytes → (c : ℕ) → chunkVisits (lookedOf S o n P c) ≤ records S o n
+    chunk-visited h c =
+        by-test (badObject o) _
+        (λ t. rw (chunk-bad-object S o n P c t) zero-le)
         (λ t.
-        rw t
-        (by-test (badChunk c) _
-        (λ u. rw u (refl, zero-le))
+        by-test (badChunk c) _
+        (λ u. rw (chunk-bad-number S o n P c t u) zero-le)
         (λ u.
         let pos : 0 < o = object-within o t .least in
-        rw (u, held .chains o pos)
-        (chunk-seen says n few old added o pos P c (chunk-within c u .least) (chunk-near P c h u), chunk-visits-seen says n few old added o pos P c)))))
+        rw (chunk-by-file S o n P c t u, ← chunk-seen says n few old added o pos P c (chunk-within c u .least) (chunk-near P c h u))
+        (chunk-visits-seen says n few old added o pos P c)))
+
+    -- by the index
+    module _ (cells : List ℕ) (held : Held n (objects says) (ageOf says) added cells) where
+      pub size-held : sizeIn says P cells o n ≡ sizedOf S o n P
+      unfolding sizeIn
+      size-held =
+          rw (le-ltb _ _ (held .room))
+          (by-test (badObject o) _
+          (λ t. rw t (sym (size-bad S o n P t)))
+          (λ t.
+          let pos : 0 < o = object-within o t .least in
+          rw (t, held .chains o pos) (size-seen says n few old added o pos P ∙ sym (size-by-file S o n P t))))
+
+      pub chunk-held : P ≤ mostBytes → (c : ℕ) → chunkIn says P cells o n c ≡ lookedOf S o n P c
+      unfolding chunkIn
+      chunk-held h c =
+          rw (le-ltb _ _ (held .room))
+          (by-test (badObject o) _
+          (λ t. rw t (sym (chunk-bad-object S o n P c t)))
+          (λ t.
+          rw t
+          (by-test (badChunk c) _
+          (λ u. rw u (sym (chunk-bad-number S o n P c t u)))
+          (λ u.
+          let pos : 0 < o = object-within o t .least in
+          rw (u, held .chains o pos)
+          (chunk-seen says n few old added o pos P c (chunk-within c u .least) (chunk-near P c h u) ∙ sym (chunk-by-file S o n P c t u))))))
 
 -- an accepted dump of n pages
 module _
@@ -78,10 +97,14 @@ module _
     pub size-from-held :
         (sizeFrom l k dump cells o ≡ sizedOf D o n (l .«data»)) × (sizeVisits (sizeFrom l k dump cells o) ≤ records D o n)
     unfolding sizeFrom
-    size-from-held = rw e (size-held (kindAt l dump) n few-pages (ages-below l dump k n e) added cells held o (l .«data»))
+    size-from-held =
+        rw (e, size-held (kindAt l dump) n few-pages (ages-below l dump k n e) added o (l .«data») cells held)
+        (refl, size-visited (kindAt l dump) n few-pages (ages-below l dump k n e) added o (l .«data»))
 
     pub chunk-from-held :
         (c : ℕ) →
         (chunkFrom l k dump cells o c ≡ lookedOf D o n (l .«data») c) × (chunkVisits (chunkFrom l k dump cells o c) ≤ records D o n)
     unfolding chunkFrom
-    chunk-from-held c = rw e (chunk-held (kindAt l dump) n few-pages (ages-below l dump k n e) added cells held o (l .«data») (data-most l dump k n e) c)
+    chunk-from-held c =
+        rw (e, chunk-held (kindAt l dump) n few-pages (ages-below l dump k n e) added o (l .«data») cells held (data-most l dump k n e) c)
+        (refl, chunk-visited (kindAt l dump) n few-pages (ages-below l dump k n e) added o (l .«data») (data-most l dump k n e) c)

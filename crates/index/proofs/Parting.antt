@@ -8,8 +8,9 @@ use native.Mathlib.Omega.{arith}
 use lib.Dec.{eqb, leb}
 use borrow.Author.Tests.{leb-true, leb-false}
 use Rattle.page.specs.Choice.{pick}
+use Rattle.chunk.proofs.Ascending.{In}
 use Rattle.index.specs.Held.{insert, recs}
-use Rattle.index.proofs.Records.{In, recs-of}
+use Rattle.index.proofs.Records.{recs-of}
 use Rattle.index.proofs.Inserting.{Falls, falls-in}
 
 -- what is in a parted list

@@ -11,12 +11,8 @@ use native.Mathlib.Omega.{arith}
 use lib.Dec.{leb, eqb}
 use borrow.Author.Tests.{leb-true, leb-false, le-leb, lt-leb, eqb-true, eqb-false, eq-eqb, ne-eqb}
 use Rattle.page.specs.Choice.{pick}
+use Rattle.chunk.proofs.Ascending.{In}
 use Rattle.index.specs.Held.{insert, recs}
-
--- x is in a list
-abbrev pub In : ℕ → List ℕ → Type 0
-In x [] = ⊥
-In x (q ∷ qs) = (x ≡ q) ⊎ In x qs
 
 module _ (age : ℕ → ℕ) where
   insert-comm : (a b : ℕ) → age a ≢ age b → (L : List ℕ) → insert age a (insert age b L) ≡ insert age b (insert age a L)

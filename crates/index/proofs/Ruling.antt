@@ -15,16 +15,17 @@ use Rattle.page.specs.Choice.{pick}
 use Rattle.page.specs.Counts.{isData}
 use Rattle.page.proofs.Searching.{by-test}
 use Rattle.page.specs.declared.kind.Kind.{Kind}
-use Rattle.chunk.specs.Gather.{gather}
 use Rattle.chunk.specs.Records.{ageOf, isOf, headerOf, dataOf}
 use Rattle.chunk.specs.Newest.{later, newest, since}
 use Rattle.chunk.specs.Cuts.{nowhere, cutOf, lowestCut}
 use Rattle.chunk.specs.Sizes.{endOf, dataEnd}
-use Rattle.chunk.proofs.Gathering.{and-true}
+use Rattle.chunk.proofs.Gathering.{and-true, newest-suc, since-none, since-suc, end-none, end-suc, cut-none, cut-suc}
+use Rattle.chunk.proofs.Gathering as gathering
+use Rattle.chunk.proofs.Ascending.{In}
 use Rattle.index.specs.Chains.{objects}
 use Rattle.index.specs.Held.{recs}
 use Rattle.index.specs.Walks.{cutBy}
-use Rattle.index.proofs.Records.{In, recs-of}
+use Rattle.index.proofs.Records.{recs-of}
 use Rattle.index.proofs.Inserting.{Falls, falls-in}
 use Rattle.index.proofs.Through.{through, through-at, through-idle, through-same, through-count, gather-recs}
 use Rattle.index.proofs.Parting.{Fails, in-above, in-at, falls-above, falls-below}
@@ -101,28 +102,35 @@ module _ (says S : ℕ → Kind) (age : ℕ → ℕ) (o n b : ℕ) (few : n ≤ 
 
   -- a gathering by a step that some of the object's records take
   along :
-      {A : Type 0} (test : ℕ → Bool) (step : ℕ → A → A) (a : A) →
+      {A : Type 0} (test : ℕ → Bool) (step : ℕ → A → A) (a : A) (G : ℕ → A) →
+      G 0 ≡ a →
+      ((m : ℕ) → G (suc m) ≡ pick (test m) (step m (G m)) (G m)) →
       ((p : ℕ) → isOf o (S p) ≡ false → test p ≡ false) →
       ((p q : ℕ) → ageOf S q ≢ ageOf S p → (x : A) → step q (step p x) ≡ step p (step q x)) →
-      gather (λ p x. pick (test p) (step p x) x) a n ≡ through (λ p x. pick (test p) (step p x) x) a R
-  along test step a others swaps =
-      gather-recs (objects S) age o n (λ p x. pick (test p) (step p x) x)
+      G n ≡ through (λ p x. pick (test p) (step p x) x) a R
+  along test step a G first next others swaps =
+      rw (← first)
+      (gather-recs (objects S) age o n (λ p x. pick (test p) (step p x) x)
       (λ p e x. rw (others p e))
       (λ p q hp hq d x. pick-swap (test q) (test p) (step q) (step p) x (swaps p q (λ e. d (omega arith)) x))
-      a n (le-refl n)
+      G next n (le-refl n))
 
   pub listed : ((q : ℕ) → In q R → S q ≡ says q) → Falls (ageOf S) b R → Listed says S o n b R
-  unfolding since newest dataEnd lowestCut
   listed same falls = record {
     same = same;
     own = λ q i. eq-eqb _ _ (recs-of (objects S) age o n q i .1);
     falls = falls;
-    counts = λ x. along (λ p. isOf o (S p) && leb x (ageOf S p)) (λ p. suc) 0 (λ p e. rw e) (λ p q d a. refl);
-    newer = λ test. along (λ p. isOf o (S p) && test (S p)) (later S) none (λ p e. rw e) later-swap;
+    counts = λ x.
+        along (λ p. isOf o (S p) && leb x (ageOf S p)) (λ p. suc) 0 (since S o x) (since-none S o x) (since-suc S o x) (λ p e. rw e) (λ p q d a. refl);
+    newer = λ test.
+        along (λ p. isOf o (S p) && test (S p)) (later S) none (newest S (λ k. isOf o k && test k)) (gathering.newest-none S _) (newest-suc S _)
+        (λ p e. rw e) later-swap;
     ends = λ P x.
-        along (λ p. dataOf o (S p) && ltb x (ageOf S p)) (λ p. max (endOf P (S p))) 0 (λ p e. rw e) (λ p q d a. omega arith);
+        along (λ p. dataOf o (S p) && ltb x (ageOf S p)) (λ p. max (endOf P (S p))) 0 (dataEnd S P o x) (end-none S P o x) (end-suc S P o x)
+        (λ p e. rw e) (λ p q d a. omega arith);
     cuts = λ h x.
-        along (λ p. headerOf o (S p) && ltb x (ageOf S p)) (λ p. min (cutOf (eqb p h) (S p))) nowhere (λ p e. rw e) (λ p q d a. omega arith);
+        along (λ p. headerOf o (S p) && ltb x (ageOf S p)) (λ p. min (cutOf (eqb p h) (S p))) nowhere (lowestCut S o h x) (cut-none S o h x) (cut-suc S o h x)
+        (λ p e. rw e) (λ p q d a. omega arith);
   }
 
 module _ (says S : ℕ → Kind) (o n b : ℕ) where

@@ -10,9 +10,9 @@ use native.Mathlib.Omega.{arith}
 use lib.Dec.{eqb, leb}
 use lib.ListN.{length}
 use Rattle.page.proofs.Searching.{by-test}
-use Rattle.chunk.specs.Gather.{gather}
+use Rattle.chunk.proofs.Ascending.{In}
 use Rattle.index.specs.Held.{insert, recs}
-use Rattle.index.proofs.Records.{In, recs-of}
+use Rattle.index.proofs.Records.{recs-of}
 
 module _ {A : Type 0} (f : ℕ → A → A) where
   -- what the records of a list make of a, the first one first
@@ -67,14 +67,15 @@ module _
     (others : (p : ℕ) → eqb (obj p) o ≡ false → (a : A) → f p a ≡ a)
     (swaps : (p q : ℕ) → p < n → q < n → q ≢ p → (a : A) → f q (f p a) ≡ f p (f q a))
   where
-    pub gather-recs : (a : A) (m : ℕ) → m ≤ n → gather f a m ≡ through f a (recs obj age o m)
-    unfolding gather recs through
-    gather-recs a zero h = refl
-    gather-recs a (suc m) h =
+    -- whatever makes one step for each page
+    pub gather-recs : (G : ℕ → A) → ((m : ℕ) → G (suc m) ≡ f m (G m)) → (m : ℕ) → m ≤ n → G m ≡ through f (G 0) (recs obj age o m)
+    unfolding recs through
+    gather-recs G step zero h = refl
+    gather-recs G step (suc m) h =
         by-test (eqb (obj m) o) _
         (λ t.
-        rw (t, gather-recs a m (omega arith))
+        rw (t, step m, gather-recs G step m (omega arith))
         (sym (through-insert f m age (recs obj age o m)
         (λ q i x. let r = recs-of obj age o m q i in swaps m q (omega arith) (omega (arith, r .0)) (λ e. absurd (omega (arith, r .0))) x)
-        a)))
-        (λ t. rw (t, gather-recs a m (omega arith)) (others m t _))
+        (G 0))))
+        (λ t. rw (t, step m, gather-recs G step m (omega arith)) (others m t _))

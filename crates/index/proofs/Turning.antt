@@ -15,11 +15,12 @@ use Rattle.page.specs.Search.{count, more}
 use Rattle.page.proofs.Searching.{by-test, count-none, count-le}
 use Rattle.page.specs.declared.number.PageNumber.{PageNumber}
 use Rattle.page.specs.declared.kind.Kind.{Kind}
-use Rattle.page.specs.declared.refusal.Refusal.the-variants.{NoObject, NoHeader, Deleted, NotAFile, PastEnd, IndexDamaged}
-use Rattle.chunk.specs.Records.{ageOf, isGone, isFile, baseOf}
+use Rattle.page.specs.declared.refusal.Refusal.the-variants.{NoObject, NoHeader, PastEnd, IndexDamaged}
+use Rattle.chunk.specs.Records.{ageOf, baseOf}
 use Rattle.chunk.specs.Lookups.{fileAt, shownOf}
 use Rattle.chunk.specs.declared.answer.File.the-variants as file
 use Rattle.chunk.specs.declared.answer.Looked.the-variants as looked
+use Rattle.chunk.proofs.Cases.{file-cases}
 use Rattle.index.specs.Cells.{word, linkAt}
 use Rattle.index.specs.Chains.{objects, Lead, End, Damaged, Record, Trace, clean, broken, rec, by, leadOf, traceBy, trace}
 use Rattle.index.specs.Walks.{recordsIn, behind, cutBy, metWith, reach, found, isShown, seek, copyFrom, chunkFile, under, below}
@@ -174,14 +175,10 @@ pub chunk-live :
     fileAt k h v ≡ file.Header g u →
     chunkFile says P c size m t (fileAt k h v)
     ≡ pick (leb size (baseOf P c)) (looked.Refused PastEnd v 0) (copyFrom says P c h (shownOf P c size) v t m)
-unfolding fileAt chunkFile
-chunk-live says P c size m t k h v g u e = go (isGone k) (isFile k) e
-  where
-    go :
-        (a b : Bool) →
-        pick a (file.Refused Deleted v) (pick b (file.Header (record { 0 = h }) v) (file.Refused NotAFile v)) ≡ file.Header g u →
-        chunkFile says P c size m t (pick a (file.Refused Deleted v) (pick b (file.Header (record { 0 = h }) v) (file.Refused NotAFile v)))
-        ≡ pick (leb size (baseOf P c)) (looked.Refused PastEnd v 0) (copyFrom says P c h (shownOf P c size) v t m)
-    go true b e = let z : _≡_ {A = ℕ} 0 1 = cc in absurd (omega arith)
-    go false true e = refl
-    go false false e = let z : _≡_ {A = ℕ} 0 1 = cc in absurd (omega arith)
+unfolding chunkFile
+chunk-live says P c size m t k h v g u e =
+    file-cases k h v
+    (λ f. f ≡ file.Header g u → chunkFile says P c size m t f ≡ pick (leb size (baseOf P c)) (looked.Refused PastEnd v 0) (copyFrom says P c h (shownOf P c size) v t m))
+    (λ r d. let z : _≡_ {A = ℕ} 0 1 = cc in absurd (omega arith))
+    (λ d. refl)
+    e

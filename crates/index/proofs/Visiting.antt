@@ -10,12 +10,13 @@ use lib.Dec.{eqb, leb}
 use Rattle.page.specs.Counts.{isHeader}
 use Rattle.page.proofs.Searching.{by-test}
 use Rattle.page.specs.declared.kind.Kind.{Kind}
-use Rattle.chunk.specs.Records.{isGone, isFile, baseOf}
+use Rattle.chunk.specs.Records.{baseOf}
 use Rattle.chunk.specs.Cuts.{nowhere}
-use Rattle.chunk.specs.Lookups.{fileAt, shownOf}
+use Rattle.chunk.specs.Lookups.{shownOf}
+use Rattle.chunk.proofs.Cases.{file-cases}
 use Rattle.index.specs.Chains.{Trace, clean, broken, rec}
 use Rattle.index.specs.Held.{fromList}
-use Rattle.index.specs.Walks.{recordsIn, sizeVisits, chunkVisits, behind, sizeAt, sizeReached, cutBy, metWith, reach, isShown, seek, copyFrom, chunkFile, chunkReached, chunkWalk, sizeWalk}
+use Rattle.index.specs.Walks.{recordsIn, sizeVisits, chunkVisits, behind, sizeFile, sizeAt, sizeReached, cutBy, metWith, reach, isShown, seek, copyFrom, chunkFile, chunkReached, chunkWalk, sizeWalk}
 use Rattle.index.specs.declared.walks.Met.{Met}
 use Rattle.index.specs.declared.walks.Met.the-variants.{Copy, Nothing}
 use Rattle.index.specs.declared.walks.Reached.{Reached}
@@ -46,15 +47,14 @@ module _ (says : ℕ → Kind) (P : ℕ) where
       rw (s, ← e) (reach-visits c t (endBy says P q end) (metWith says P c q m) (v + 1)))
 
   pub size-visits : (t : Trace) → sizeVisits (sizeWalk says P t) ≤ recordsIn t
-  unfolding sizeWalk sizeReached fileAt
+  unfolding sizeWalk sizeReached
   size-visits t = go (reach says P 0 0 Nothing 0 t) (reach-visits 0 t 0 Nothing 0)
     where
       go : (r : Reached) → Visited (0 + recordsIn t) (recordsIn (behind says t)) r → sizeVisits (sizeReached says r) ≤ recordsIn t
       go (Refused r v) h = omega arith
       go (Header h e m v) i =
-          let k = says (h .0) in
           let le : v ≤ recordsIn t = omega arith in
-          by-test (isGone k) _ (λ s. rw s le) (λ s. rw s (by-test (isFile k) _ (λ u. rw u le) (λ u. rw u le)))
+          file-cases (says (h .0)) (h .0) v (λ f. sizeVisits (sizeFile (sizeAt says (h .0) e) f) ≤ recordsIn t) (λ r. le) le
 
   module _ (c : ℕ) where
     seek-visits : (t : Trace) (z cut v : ℕ) → chunkVisits (seek says P c z cut v t) ≤ v + recordsIn t
@@ -67,7 +67,7 @@ module _ (says : ℕ → Kind) (P : ℕ) where
         (λ s. let i = seek-visits t z (cutBy says false q cut) (v + 1) in rw s (omega arith))
 
     pub chunk-visits : (t : Trace) → chunkVisits (chunkWalk says P c t) ≤ recordsIn t
-    unfolding chunkWalk chunkReached chunkFile copyFrom fileAt
+    unfolding chunkWalk chunkReached chunkFile copyFrom
     chunk-visits t = go (reach says P c 0 Nothing 0 t) (reach-visits c t 0 Nothing 0)
       where
         copy : (z h v : ℕ) (m : Met) → v + recordsIn (behind says t) ≡ 0 + recordsIn t → chunkVisits (copyFrom says P c h z v (behind says t) m) ≤ recordsIn t
@@ -77,11 +77,8 @@ module _ (says : ℕ → Kind) (P : ℕ) where
         go : (r : Reached) → Visited (0 + recordsIn t) (recordsIn (behind says t)) r → chunkVisits (chunkReached says P c (behind says t) r) ≤ recordsIn t
         go (Refused r v) h = omega arith
         go (Header h e m v) i =
-            let k = says (h .0) in
             let z = sizeAt says (h .0) e in
             let le : v ≤ recordsIn t = omega arith in
-            by-test (isGone k) _
-            (λ s. rw s le)
-            (λ s. rw s (by-test (isFile k) _
-            (λ u. rw u (by-test (leb z (baseOf P c)) _ (λ w. rw w le) (λ w. rw w (copy (shownOf P c z) (h .0) v m i))))
-            (λ u. rw u le)))
+            file-cases (says (h .0)) (h .0) v (λ f. chunkVisits (chunkFile says P c z m (behind says t) f) ≤ recordsIn t)
+            (λ r. le)
+            (by-test (leb z (baseOf P c)) _ (λ w. rw w le) (λ w. rw w (copy (shownOf P c z) (h .0) v m i)))

@@ -1,6 +1,6 @@
 -- Laws of the counts of pages by kind: kinds exclude each other, so the counts add up.
 use Prim.Native.Nat.{ℕ, zero, suc, _+_, _/_, _≤_}
-use mathlib.Core.Bool.{Bool, true, false}
+use mathlib.Core.Bool.{Bool}
 use mathlib.Core.List.{List}
 use mathlib.Core.Path.{_≡_, refl}
 use native.Mathlib.Nat.{le-trans}
@@ -8,7 +8,6 @@ use native.Mathlib.Numerals.{add-one}
 use native.Mathlib.Omega.{arith}
 use lib.ListN.{length}
 use Rattle.page.specs.Search.{count, more}
-use Rattle.page.specs.Layouts.{pageLen}
 use Rattle.page.specs.Lengths.{pageCount}
 use Rattle.page.specs.Kinds.{kindAt}
 use Rattle.page.specs.Counts.{countsBelow, withKind, AtMost, isBlank, isForeign, isDamaged, isHeader, isData}

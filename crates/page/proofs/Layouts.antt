@@ -1,14 +1,13 @@
 -- What every layout of the table has, and every layout with room. Sizes are argued for any P and S; the table is one computed test.
-use Prim.Native.Nat.{ℕ, zero, suc, _+_, _*_, _/_, _%_, _<_, _≤_}
-use mathlib.Core.Bool.{Bool, true, false, not, _&&_}
-use mathlib.Core.Path.{_≡_, refl, sym, ap, _∙_}
+use Prim.Native.Nat.{ℕ, zero, suc, _+_, _*_, _<_, _≤_}
+use mathlib.Core.Bool.{Bool, true, false, _&&_}
+use mathlib.Core.Path.{_≡_, refl}
 use mathlib.Core.Logic.{⊎-elim}
 use native.Mathlib.Nat.{le-of-suc-le-suc, not-suc-le-zero, eq-or-lt-of-le, le-trans, mul-le-mul-right, mul-le-mul-left}
 use native.Mathlib.Omega.{arith}
-use lib.Dec.{leb, ltb, eqb}
-use borrow.Author.Tests.{leb-true, eqb-true, ltb-true}
-use Rattle.page.specs.Search.{firstFrom}
-use Rattle.page.specs.Layouts.{layoutOf, layoutAt, dataSizes, spareSizes, tagOffsets, hasSizes, numberOfSizes, numberOf, isListed, pageLen, roomy}
+use lib.Dec.{leb, eqb}
+use borrow.Author.Tests.{leb-true, eqb-true}
+use Rattle.page.specs.Layouts.{layoutOf, layoutAt, dataSizes, spareSizes, tagOffsets, hasSizes, numberOfSizes, numberOf, roomy}
 use Rattle.page.specs.declared.layout.Layout.{Layout}
 use Rattle.page.proofs.Searching.{first-passes}
 

@@ -1,9 +1,9 @@
 -- Laws of what a dump measures, for any layout with room.
 use Prim.Native.Nat.{ℕ, suc, _+_, _*_, _/_, _%_, _<_, _≤_}
-use mathlib.Core.Bool.{Bool, true, false, not, _&&_}
-use mathlib.Core.Path.{_≡_, refl, sym, ap, _∙_}
+use mathlib.Core.Bool.{true, not}
+use mathlib.Core.Path.{_≡_}
 use mathlib.Core.Logic.{_↔_}
-use native.Mathlib.Nat.{suc-mul, mul-le-mul-right, div-mul-le-self, div-lt-iff-lt-mul, div-le-self, le-div-iff-mul-le, mod-eq-of-lt}
+use native.Mathlib.Nat.{suc-mul, mul-le-mul-right, div-lt-iff-lt-mul, div-le-self, le-div-iff-mul-le, mod-eq-of-lt}
 use native.Mathlib.Decide.{decLt}
 use native.Mathlib.Omega.{arith}
 use lib.Dec.{leb, ltb, eqb}

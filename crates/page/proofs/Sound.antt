@@ -1,17 +1,15 @@
 -- Laws of page kinds, for this crate and for those above, which need not see through the definitions.
-use Prim.Native.Nat.{ℕ, _+_, _*_, _/_, _%_, _<_, _≤_}
-use mathlib.Core.Bool.{Bool, true, false, not}
+use Prim.Native.Nat.{ℕ, _+_, _≤_}
+use mathlib.Core.Bool.{true, false}
 use mathlib.Core.List.{List, [], _∷_}
-use mathlib.Core.Path.{_≡_, refl, sym, _∙_}
+use mathlib.Core.Path.{_≡_, refl}
 use mathlib.Core.Logic.{⊎-elim}
 use lib.ListN.{length}
 use native.Mathlib.Omega.{arith}
 use types.Run.{OneOf}
 use denote.Enum.Declared.{tagOf}
-use Rattle.page.specs.Choice.{pick}
 use Rattle.page.specs.Lengths.{pageIn, placedOf}
-use Rattle.page.specs.Pages.{pageAt}
-use Rattle.page.specs.Kinds.{kindOf, kindAt, toldIn, toldOf}
+use Rattle.page.specs.Kinds.{kindAt, toldIn, toldOf}
 use Rattle.page.specs.Counts.{isBlank, isHeader, isData}
 use Rattle.page.specs.Asked.{askedBy, askedOf}
 use Rattle.page.specs.declared.layout.Layout.{Layout}

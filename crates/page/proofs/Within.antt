@@ -65,10 +65,17 @@ pub chunk-within : (n : ℕ) → badChunk n ≡ false → Between 1 mostChunk n
 unfolding badChunk
 chunk-within n e = not-zero-or-above mostChunk n e
 
--- and those numbers are not bad
+-- and those ids and numbers are not bad
+above-zero-good : (high n : ℕ) → Between 1 high n → eqb n 0 || ltb high n ≡ false
+above-zero-good high n b = rw (ne-eqb n 0 (λ e. absurd (omega (arith, b .least))), le-ltb high n (b .most))
+
+pub object-good : (id : ℕ) → Between 1 mostObject id → badObject id ≡ false
+unfolding badObject
+object-good id b = above-zero-good mostObject id b
+
 pub chunk-good : (n : ℕ) → Between 1 mostChunk n → badChunk n ≡ false
 unfolding badChunk
-chunk-good n b = rw (ne-eqb n 0 (λ e. absurd (omega (arith, b .least))), le-ltb mostChunk n (b .most))
+chunk-good n b = above-zero-good mostChunk n b
 
 -- a page type that is not bad is one of the five
 pub type-within : (t : ℕ) → badType t ≡ false → Between 1 5 t

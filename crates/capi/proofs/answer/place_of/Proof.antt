@@ -1,7 +1,5 @@
 -- The place of a page is the product of a 32-bit number and a page's length, so it fits.
 use Prim.Native.Nat.{_*_, _≤_}
-use mathlib.Core.Bool.{true}
-use mathlib.Core.Path.{_≡_}
 use native.Mathlib.Omega.{arith}
 use borrow.Author.Needs.{needs}
 use borrow.Author.Tests.{not-true, not-false, le-leb, lt-leb}

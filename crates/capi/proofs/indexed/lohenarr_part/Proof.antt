@@ -1,3 +1,4 @@
+-- The part is at the place that the answer names.
 use borrow.Author.Needs.{needs}
 use Rattle.capi.proofs.Places.{chunk-here}
 use Rattle.capi.proofs.indexed.lohenarr_part.Statement.{statement}

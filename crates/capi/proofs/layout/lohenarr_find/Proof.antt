@@ -1,3 +1,4 @@
+-- The answer is that of the search, as plain numbers.
 use borrow.Author.Needs.{needs}
 use Rattle.capi.proofs.layout.lohenarr_find.Statement.{statement}
 use Rattle.capi.proofs.layout.lohenarr_find.Tie as tie

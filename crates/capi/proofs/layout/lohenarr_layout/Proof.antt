@@ -1,3 +1,4 @@
+-- The answer is that of the table by number, as plain numbers.
 use borrow.Author.Needs.{needs}
 use Rattle.capi.proofs.layout.lohenarr_layout.Statement.{statement}
 use Rattle.capi.proofs.layout.lohenarr_layout.Tie as tie

@@ -1,3 +1,4 @@
+-- The answer is that of the table by sizes, as plain numbers.
 use borrow.Author.Needs.{needs}
 use Rattle.capi.proofs.layout.lohenarr_layout_sized.Statement.{statement}
 use Rattle.capi.proofs.layout.lohenarr_layout_sized.Tie as tie

@@ -1,3 +1,4 @@
+-- The text is at the place that the answer names.
 use borrow.Author.Needs.{needs}
 use Rattle.page.specs.Layouts.{layoutAt}
 use Rattle.page.specs.declared.fields.Text.the-variants.{Name}

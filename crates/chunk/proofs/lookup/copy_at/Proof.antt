@@ -1,5 +1,4 @@
 -- The lowest later cut says whether the copy is hidden, and how much of it is valid.
-use mathlib.Core.Path.{_≡_, sym}
 use borrow.Author.Needs.{needs}
 use borrow.Author.Tests.{le-leb, lt-leb}
 use Rattle.chunk.specs.Lookups.{copyAt}

@@ -1,6 +1,5 @@
 -- The file size is the header's, and the age is the header's too.
 use borrow.Author.Needs.{needs}
-use mathlib.Core.Path.{_∙_}
 use Rattle.chunk.specs.Sizes.{sizeOf}
 use Rattle.chunk.proofs.lookup.size_of.Statement.{statement}
 use Rattle.chunk.proofs.lookup.size_of.Tie as tie

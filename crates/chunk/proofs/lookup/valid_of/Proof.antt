@@ -1,5 +1,4 @@
 -- The smallest of three numbers, the first of which is a byte count.
-use mathlib.Core.Path.{_∙_}
 use native.Mathlib.Omega.{arith}
 use borrow.Author.Needs.{needs}
 use Rattle.chunk.proofs.lookup.valid_of.Statement.{statement}

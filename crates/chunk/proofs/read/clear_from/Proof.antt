@@ -1,9 +1,9 @@
 -- The loop's invariant: the buffer's front with zeros behind it is laid over the buffer up to i.
 use Prim.Native.Nat.{ℕ, _+_, _≤_, _-_}
 use mathlib.Core.List.{List, _++_}
-use mathlib.Core.Path.{_≡_, refl, sym, ap, _∙_}
-use lib.ListN.{length, take, drop, replicate, set, getD, length-set, length-append, length-replicate}
-use lib.Seq.{take-all, take-append-le, take-take, length-take-le}
+use mathlib.Core.Path.{_≡_, refl, sym}
+use lib.ListN.{length, take, replicate, set, getD, length-set, length-append, length-replicate}
+use lib.Seq.{take-all, length-take-le}
 use native.Mathlib.Nat.{le-refl}
 use native.Mathlib.Omega.{arith}
 use borrow.Author.Needs.{needs}

@@ -1,5 +1,4 @@
 -- The tests come in the definition's order.
-use borrow.Author.Needs.{needs}
 use borrow.Author.Tests.{eq-eqb, ne-eqb}
 use Rattle.chunk.specs.Cuts.{cutOf}
 use Rattle.chunk.proofs.scan.cut_of.Statement.{statement}

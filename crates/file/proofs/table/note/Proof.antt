@@ -1,11 +1,10 @@
 -- The tests come in the definition's order.
-use Prim.Native.Nat.{_+_, _-_, _<_, _≤_}
-use mathlib.Core.Path.{_≡_, refl, sym, ap, _∙_}
+use Prim.Native.Nat.{_+_, _-_, _<_}
 use native.Mathlib.Omega.{arith}
 use lib.ListN.{length, length-set}
 use borrow.Author.Needs.{needs}
 use borrow.Author.Tests.{eq-eqb, ne-eqb, lt-ltb, le-ltb, lt-leb, le-leb}
-use Rattle.file.specs.Table.{wordsOf, noted}
+use Rattle.file.specs.Table.{noted}
 use Rattle.file.proofs.table.note.Statement.{statement}
 use Rattle.file.proofs.table.note.Tie as tie
 

@@ -1,8 +1,6 @@
 -- The size lookup refuses, or gives the size that the rows are counted by; they fit, or not.
-use Prim.Native.Nat.{_≤_, _<_}
 use mathlib.Core.Path.{_≡_, refl, sym, _∙_}
 use native.Mathlib.Omega.{arith}
-use lib.ListN.{length}
 use borrow.Author.Needs.{needs}
 use Rattle.page.proofs.Lengths.{opened-most}
 use Rattle.chunk.specs.declared.answer.Sized.the-variants as sized

@@ -1,16 +1,15 @@
 -- A refused dump is refused before anything else, and nothing is written.
-use mathlib.Core.Path.{refl}
 use borrow.Author.Needs.{needs}
-use Rattle.chunk.specs.Lists.{wordsBy}
+use Rattle.chunk.proofs.Cases.{words-kept}
 use Rattle.index.specs.Listing.{idsFrom, listFrom}
 use Rattle.index.proofs.list.list.Statement.{statement}
 use Rattle.index.proofs.list.list.Tie as tie
 
 returns : tie.Need-returns
-unfolding listFrom wordsBy
+unfolding listFrom
 returns c =
     let p = c .before in
-    (rw (← p .before .before .opened .ensures, p .p .given .1), refl)
+    (rw (← p .before .before .opened .ensures, p .p .given .1), rw words-kept)
 
 returns-2 : tie.Need-returns-2
 unfolding listFrom idsFrom

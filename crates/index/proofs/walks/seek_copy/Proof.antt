@@ -6,8 +6,6 @@ use mathlib.Core.Path.{_≡_, refl, sym, _∙_}
 use native.Mathlib.Omega.{arith}
 use borrow.Author.Needs.{needs}
 use Rattle.page.specs.Kinds.{kindAt}
-use Rattle.chunk.specs.Records.{ageOf}
-use Rattle.index.specs.Chains.{objects}
 use Rattle.index.specs.Walks.{recordsIn, isShown, seek, under}
 use Rattle.index.specs.declared.chains.Step.the-variants.{End, Damaged, Record}
 use Rattle.index.proofs.Links.{Stepped, stepped}

@@ -1,3 +1,4 @@
+-- Only a blank page is not marked.
 use mathlib.Core.Path.{sym}
 use borrow.Author.Needs.{needs}
 use Rattle.page.proofs.Blocks.{not-blank}

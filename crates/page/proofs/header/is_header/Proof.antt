@@ -1,3 +1,4 @@
+-- The match takes headers and leaves the other kinds.
 use mathlib.Core.Path.{sym}
 use borrow.Author.Needs.{needs}
 use Rattle.page.proofs.Sound.{else-header}

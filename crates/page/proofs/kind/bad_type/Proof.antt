@@ -1,3 +1,4 @@
+-- The tests come in the definition's order.
 use Rattle.page.proofs.Tests.{cases}
 use Rattle.page.specs.Kinds.{badType}
 use Rattle.page.proofs.kind.bad_type.Statement.{statement}

@@ -1,5 +1,4 @@
 -- The tags are read once, and say which kind the page is.
-use mathlib.Core.Path.{ap}
 use native.Mathlib.Omega.{arith}
 use borrow.Author.Needs.{needs}
 use Rattle.page.specs.Kinds.{kindOf}

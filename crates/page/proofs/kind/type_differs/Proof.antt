@@ -1,3 +1,4 @@
+-- The tests come in the definition's order.
 use Rattle.page.proofs.Tests.{cases}
 use Rattle.page.specs.Kinds.{typeDiffers}
 use Rattle.page.proofs.kind.type_differs.Statement.{statement}

@@ -1,3 +1,4 @@
+-- The sum of the two bytes is the definition's.
 use borrow.Author.Needs.{needs}
 use Rattle.page.specs.Words.{le16}
 use Rattle.page.proofs.word.half_at.Statement.{statement}

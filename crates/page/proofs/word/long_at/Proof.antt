@@ -1,3 +1,4 @@
+-- The low word, and the high one 2^32 times.
 use borrow.Author.Needs.{needs}
 use Rattle.page.specs.Words.{le64}
 use Rattle.page.proofs.word.long_at.Statement.{statement}

@@ -1,3 +1,4 @@
+-- The sum of the four bytes is the definition's.
 use borrow.Author.Needs.{needs}
 use Rattle.page.specs.Words.{le32}
 use Rattle.page.proofs.word.word_at.Statement.{statement}

@@ -1,3 +1,4 @@
+-- The tests come in the definition's order.
 use Rattle.page.proofs.Tests.{cases}
 use Rattle.page.specs.Lengths.{blockFits}
 use Rattle.page.proofs.layout.Layout.block_fits.Statement.{statement}

@@ -1,5 +1,5 @@
 -- A block is not empty and its length fits, for any layout with room.
-use Prim.Native.Nat.{_*_, _≤_, _<_}
+use Prim.Native.Nat.{_*_, _≤_}
 use native.Mathlib.Omega.{arith}
 use borrow.Author.Needs.{needs}
 use Rattle.page.specs.Lengths.{wholeBlocks}

@@ -1,3 +1,4 @@
+-- A number that the table lacks is refused; another has its row.
 use borrow.Author.Needs.{needs}
 use Rattle.page.proofs.Tests.{cases}
 use Rattle.page.specs.Layouts.{byNumber}

@@ -1,5 +1,5 @@
 -- The tests come in the definition's order. A layout of the table has room, so that its page length is no zero divisor.
-use Prim.Native.Nat.{_<_, _≤_}
+use Prim.Native.Nat.{_<_}
 use mathlib.Core.Bool.{true}
 use mathlib.Core.Path.{_≡_}
 use native.Mathlib.Omega.{arith}
@@ -7,7 +7,7 @@ use native.Mathlib.Nat.{div-le-self}
 use borrow.Author.Needs.{needs}
 use borrow.Author.Tests.{le-leb, lt-leb, not-false}
 use Rattle.page.specs.Layouts.{roomy}
-use Rattle.page.specs.Lengths.{openedOf, blockFits, lengthFits}
+use Rattle.page.specs.Lengths.{openedOf}
 use Rattle.page.proofs.Layouts.{listed-roomy, roomy-facts}
 use Rattle.page.proofs.Lengths.{block-some, length-most}
 use Rattle.page.proofs.layout.Layout.opened.Statement.{statement}

@@ -1,3 +1,4 @@
+-- The columns of the code are those of the definition.
 use borrow.Author.Needs.{needs}
 use Rattle.page.specs.Layouts.{layoutAt, dataSizes, spareSizes, tagOffsets}
 use Rattle.page.proofs.layout.Layout.row.Statement.{statement}

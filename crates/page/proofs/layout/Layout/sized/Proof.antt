@@ -1,3 +1,4 @@
+-- The number of the sizes in the table, and then the layout of that number.
 use borrow.Author.Needs.{needs}
 use Rattle.page.specs.Layouts.{bySizes}
 use Rattle.page.proofs.layout.Layout.sized.Statement.{statement}

@@ -1,3 +1,4 @@
+-- The tests come in the definition's order.
 use Rattle.page.proofs.Tests.{cases}
 use Rattle.page.specs.Numbers.{badChunk}
 use Rattle.page.proofs.number.ChunkNumber.is_bad.Statement.{statement}

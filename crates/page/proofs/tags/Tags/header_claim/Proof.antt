@@ -1,3 +1,4 @@
+-- The id without its mark is bad, or it is the object's.
 use borrow.Author.Needs.{needs}
 use Rattle.page.specs.Tags.{headerClaim}
 use Rattle.page.proofs.tags.Tags.header_claim.Statement.{statement}

@@ -1,3 +1,4 @@
+-- The tests come in the definition's order.
 use Rattle.page.proofs.Tests.{cases}
 use Rattle.page.specs.Tags.{objectIn}
 use Rattle.page.proofs.tags.Tags.header_object.Statement.{statement}

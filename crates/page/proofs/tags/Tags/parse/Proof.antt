@@ -1,3 +1,4 @@
+-- Each field is the word that its call reads.
 use borrow.Author.Needs.{needs}
 use Rattle.page.specs.Tags.{tagsOf}
 use Rattle.page.proofs.tags.Tags.parse.Statement.{statement}
