@@ -40,16 +40,8 @@ use Rattle.index.specs.declared.walks.Reached.{Reached}
 use Rattle.index.specs.declared.walks.Reached.the-variants as reached
 use Rattle.index.proofs.Probing.{first-link}
 use Rattle.index.proofs.Ordering.{data-most, chunk-near}
-use Rattle.index.proofs.Walking.{endBy}
+use Rattle.index.proofs.Walking.{header-chunk, endBy}
 use Rattle.index.proofs.Turning.{chunk-live}
-
--- a header has no chunk number
-header-chunk : (k : Kind) → isHeader k ≡ true → chunkOf k ≡ 0
-header-chunk Blank e = refl
-header-chunk Foreign e = refl
-header-chunk Damaged e = refl
-header-chunk (Header s o t p z m) e = refl
-header-chunk (Data s o c n) e = let z : _≡_ {A = ℕ} 0 1 = cc in absurd (omega arith)
 
 module _ (says : ℕ → Kind) (P c shown : ℕ) where
   -- one turn of the walk, by what the next link leads to

@@ -13,7 +13,7 @@ use Rattle.page.specs.Choice.{pick}
 use Rattle.page.specs.declared.kind.Kind.{Kind}
 use Rattle.page.proofs.Layouts.{and-left, and-right}
 use Rattle.page.proofs.Searching.{by-test}
-use Rattle.chunk.specs.Records.{objectOf, sequenceOf, ageOf}
+use Rattle.chunk.specs.Records.{objectOf, sequenceOf, ageOf, chunkOf, countOf}
 use Rattle.index.specs.Cells.{word, linkAt, linkTo}
 use Rattle.index.specs.Chains.{objects, isOf, Lead, End, Damaged, Record, stepOf, stepAt, Trace, clean, broken, rec, by, leadOf, traceBy, trace}
 use Rattle.index.specs.declared.chains.Step.{Step}
@@ -171,7 +171,7 @@ module _ (n : ℕ) (obj age : ℕ → ℕ) (o : ℕ) (c : List ℕ) where
             let same : p .0 ≡ q = cc in
             (rw same at (k .1), cc)
 
--- what a walk along a chain learns from a step: what the link tells, and what the page there says
+-- what a walk along a chain learns from a step: what the link tells, and the chunk number and the byte count of the page there
 module _ (says : ℕ → Kind) (n o : ℕ) (c : List ℕ) (b w : ℕ) where
   abbrev there : Lead
   there = leadOf n (objects says) (ageOf says) o b w
@@ -179,7 +179,7 @@ module _ (says : ℕ → Kind) (n o : ℕ) (c : List ℕ) (b w : ℕ) where
   abbrev pub Stepped : Step → Type 0
   Stepped step.End = Told n (objects says) (ageOf says) o c b w End
   Stepped step.Damaged = Told n (objects says) (ageOf says) o c b w Damaged
-  Stepped (step.Record q a k) = Told n (objects says) (ageOf says) o c b w (Record q a) × (k ≡ says (q .0))
+  Stepped (step.Record q a h k) = Told n (objects says) (ageOf says) o c b w (Record q a) × (h .0 ≡ chunkOf (says (q .0))) × (k ≡ countOf (says (q .0)))
 
   pub stepped : (s : Step) → s ≡ stepOf says there → Stepped s
   unfolding stepOf
@@ -188,7 +188,7 @@ module _ (says : ℕ → Kind) (n o : ℕ) (c : List ℕ) (b w : ℕ) where
       go : (l : Lead) → Told n (objects says) (ageOf says) o c b w l → Stepped (stepOf says l)
       go End k = k
       go Damaged k = k
-      go (Record q a) k = (k, refl)
+      go (Record q a) k = (k, refl, refl)
 
 -- a step to a page of the dump that is a record goes by its object and its sequence
 pub step-to :
@@ -197,7 +197,7 @@ pub step-to :
     w - 2 < n →
     0 < objectOf (says (w - 2)) →
     stepOf says (leadOf n (objects says) (ageOf says) o b w)
-    ≡ stepAt (says (w - 2)) (w - 2) (objectOf (says (w - 2))) (sequenceOf (says (w - 2))) o b
+    ≡ stepAt (w - 2) (objectOf (says (w - 2))) (sequenceOf (says (w - 2))) (chunkOf (says (w - 2))) (countOf (says (w - 2))) o b
 unfolding stepOf leadOf
 step-to says n o b w big inside some =
     rw (le-ltb w 2 big, lt-ltb (w - 2) n inside, ne-eqb (objectOf (says (w - 2))) 0 (λ e. absurd (omega arith)))

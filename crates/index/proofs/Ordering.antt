@@ -19,7 +19,7 @@ use Rattle.page.specs.declared.layout.Opened.the-variants.{Pages}
 use Rattle.page.proofs.Layouts.{product-le}
 use Rattle.page.proofs.Lengths.{opened-facts, opened-some, opened-most, length-most}
 use Rattle.page.proofs.Within.{chunk-within, header-within, data-within}
-use Rattle.chunk.specs.Records.{objectOf, sequenceOf, orderOf, ageOf, baseOf}
+use Rattle.chunk.specs.Records.{objectOf, sequenceOf, orderOf, ageOf, chunkOf, baseOf}
 use Rattle.chunk.specs.Cuts.{nowhere}
 use Rattle.index.specs.Chains.{objects, top}
 
@@ -59,6 +59,17 @@ module _ (l : Layout) (dump : List ℕ) where
       go Damaged e t = never t
       go (Header s o k p z m) e t = header-within l dump i s o k p z m e .object .least
       go (Data s o c n) e t = never t
+
+  -- a record without a chunk number is a header
+  pub header-of : (i : ℕ) → 0 < objects (kindAt l dump) i → chunkOf (kindAt l dump i) ≡ 0 → isHeader (kindAt l dump i) ≡ true
+  header-of i = go (kindAt l dump i) refl
+    where
+      go : (k : Kind) → kindAt l dump i ≡ k → 0 < objectOf k → chunkOf k ≡ 0 → isHeader k ≡ true
+      go Blank e h z = absurd (omega arith)
+      go Foreign e h z = absurd (omega arith)
+      go Damaged e h z = absurd (omega arith)
+      go (Header s o k p y m) e h z = refl
+      go (Data s o c n) e h z = absurd (omega (arith, data-within l dump i s o c n e .chunk .least))
 
   -- no record is as new as the top
   pub age-below : (i : ℕ) → i < 4294967296 → ageOf (kindAt l dump) i < top

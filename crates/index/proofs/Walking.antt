@@ -9,7 +9,7 @@ use native.Mathlib.Nat.{le-refl}
 use native.Mathlib.Omega.{arith}
 use lib.ListN.{length}
 use lib.Dec.{eqb, leb}
-use borrow.Author.Tests.{lt-ltb, le-ltb, leb-true, leb-false}
+use borrow.Author.Tests.{eqb-false, lt-ltb, le-ltb, leb-true, leb-false}
 use Rattle.page.specs.Choice.{pick}
 use Rattle.page.specs.Counts.{isHeader, isData}
 use Rattle.page.proofs.Searching.{by-test}
@@ -35,6 +35,18 @@ other-none Damaged h d = refl
 other-none (Header s o t p z m) h d = let z : _≡_ {A = ℕ} 0 1 = cc in absurd (omega arith)
 other-none (Data s o c n) h d = let z : _≡_ {A = ℕ} 0 1 = cc in absurd (omega arith)
 
+-- a header has no chunk number
+pub header-chunk : (k : Kind) → isHeader k ≡ true → chunkOf k ≡ 0
+header-chunk Blank e = refl
+header-chunk Foreign e = refl
+header-chunk Damaged e = refl
+header-chunk (Header s o t p z m) e = refl
+header-chunk (Data s o c n) e = let z : _≡_ {A = ℕ} 0 1 = cc in absurd (omega arith)
+
+-- a page with a chunk number is no header
+pub chunk-headless : (k : Kind) → (chunkOf k ≡ 0 → ⊥) → isHeader k ≡ false
+chunk-headless k h = by-test (isHeader k) _ (λ t. absurd (h (header-chunk k t))) (λ t. t)
+
 -- a record is a header or data
 module _ (o : ℕ) (pos : 0 < o) where
   no-record : {A : Type 0} → 0 ≡ o → A
@@ -57,6 +69,13 @@ module _ (o : ℕ) (pos : 0 < o) where
 module _ (says : ℕ → Kind) where
   abbrev pub headed : ℕ → Bool
   headed q = isHeader (says q)
+
+  -- a page that has a chunk number lowers no cut, and need not be looked at for that
+  pub cut-past-is : (b : Bool) (q cut chunk : ℕ) → chunk ≡ chunkOf (says q) → pick (eqb chunk 0) (cutBy says b q cut) cut ≡ cutBy says b q cut
+  cut-past-is b q cut chunk e =
+      by-test (eqb chunk 0) _
+      (λ t. rw t)
+      (λ t. let h : isHeader (says q) ≡ false = chunk-headless (says q) (λ z. eqb-false chunk 0 t (e ∙ z)) in rw (t, h))
 
   pub behind-at : (A : List ℕ) (h : ℕ) (B : List ℕ) → Fails headed A → headed h ≡ true → behind says (fromList (A ++ (h ∷ B))) ≡ fromList B
   unfolding behind fromList

@@ -6,7 +6,7 @@ use mathlib.Core.List.{List}
 use lib.Dec.{eqb, ltb}
 use Rattle.page.specs.Choice.{pick}
 use Rattle.page.specs.declared.kind.Kind.{Kind}
-use Rattle.chunk.specs.Records.{objectOf, orderOf}
+use Rattle.chunk.specs.Records.{objectOf, orderOf, chunkOf, countOf}
 use Rattle.index.specs.Cells.{word, linkAt}
 use Rattle.index.specs.Slots.{first}
 use Rattle.page.specs.declared.number.PageNumber.{PageNumber}
@@ -27,17 +27,17 @@ pub data Lead : Type 0 where
   Damaged : Lead
   Record : PageNumber → ℕ → Lead
 
--- the step down a chain by such a link, with what the page there says
+-- the step down a chain by such a link, with the chunk number and the byte count of the page there
 unfoldable pub stepOf : (ℕ → Kind) → Lead → Step
 stepOf says End = step.End
 stepOf says Damaged = step.Damaged
-stepOf says (Record q a) = step.Record q a (says (q .0))
+stepOf says (Record q a) = step.Record q a (record { 0 = chunkOf (says (q .0)) }) (countOf (says (q .0)))
 
--- the step to page q, a record that says k, of this object and sequence, in the chain of object o below an age
-abbrev pub stepAt : Kind → ℕ → ℕ → ℕ → ℕ → ℕ → Step
-stepAt k q object sequence o b =
+-- the step to page q, a record of this object, sequence, chunk number and byte count, in the chain of object o below an age
+abbrev pub stepAt : ℕ → ℕ → ℕ → ℕ → ℕ → ℕ → ℕ → Step
+stepAt q object sequence chunk count o b =
     pick (eqb object o)
-    (pick (ltb (orderOf sequence q) b) (step.Record (record { 0 = q }) (orderOf sequence q) k)
+    (pick (ltb (orderOf sequence q) b) (step.Record (record { 0 = q }) (orderOf sequence q) (record { 0 = chunk }) count)
     step.Damaged) step.Damaged
 
 -- the records that the links lead to, from the newest on: an end, a link that is damaged, or a record and the rest

@@ -8,22 +8,32 @@ use chunk::record::order_of;
 use page::kind::Kind;
 use page::kind::kind_at;
 use page::layout::Layout;
+use page::number::ChunkNumber;
 use page::number::ObjectId;
 use page::number::PageNumber;
 
 // An age that is above that of every record.
 pub const TOP: u64 = 18_446_744_073_709_551_615;
 
-// A step down a chain by a link: it leads nowhere, where it may not, or to a record, with its age and what its page says.
+// A step down a chain by a link: it leads nowhere, where it may not, or to a record, with its age, its chunk number, which is 0 for a header, and
+// its byte count. What else a header says is not read here: it stands elsewhere on the page.
 pub enum Step {
     End,
     Damaged,
-    Record(PageNumber, u64, Kind),
+    Record(PageNumber, u64, ChunkNumber, u32),
 }
 
-// The step to page q, a record that says k, of this object and sequence, in the chain of object o below an age.
-fn step_to(k: Kind, q: PageNumber, object: ObjectId, sequence: u32, o: ObjectId, bound: u64) -> Step
-    ensures { λ r. ⌜ r ≡ stepAt k (q .0) (object .0) sequence (o .0) bound ⌝ }
+// The step to page q, a record of this object, sequence, chunk number and byte count, in the chain of object o below an age.
+fn step_to(
+    q: PageNumber,
+    object: ObjectId,
+    sequence: u32,
+    chunk: ChunkNumber,
+    count: u32,
+    o: ObjectId,
+    bound: u64,
+) -> Step
+    ensures { λ r. ⌜ r ≡ stepAt (q .0) (object .0) sequence (chunk .0) count (o .0) bound ⌝ }
 {
     if object.0 != o.0 {
         return Step::Damaged;
@@ -32,7 +42,7 @@ fn step_to(k: Kind, q: PageNumber, object: ObjectId, sequence: u32, o: ObjectId,
     if bound <= age {
         return Step::Damaged;
     }
-    Step::Record(q, age, k)
+    Step::Record(q, age, chunk, count)
 }
 
 // Where a link leads in the chain of object o below an age, in a dump of so many pages. A link may not lead outside the dump, to a page that
@@ -51,8 +61,8 @@ pub fn follow(dump: &[u8], l: Layout, pages: u32, o: ObjectId, bound: u64, link:
     let Kind::Data {
         sequence,
         object,
-        chunk: _,
-        count: _,
+        chunk,
+        count,
     } = k
     else {
         let Kind::Header {
@@ -66,7 +76,7 @@ pub fn follow(dump: &[u8], l: Layout, pages: u32, o: ObjectId, bound: u64, link:
         else {
             return Step::Damaged;
         };
-        return step_to(k, q, object, sequence, o, bound);
+        return step_to(q, object, sequence, ChunkNumber(0), 0, o, bound);
     };
-    step_to(k, q, object, sequence, o, bound)
+    step_to(q, object, sequence, chunk, count, o, bound)
 }

@@ -53,7 +53,7 @@ fn place_from(
             Step::Damaged => {
                 return Place::Refused(Refusal::IndexDamaged);
             }
-            Step::Record(q, a, _) => {
+            Step::Record(q, a, _, _) => {
                 if a <= age {
                     if q.0 == p.0 {
                         return Place::Refused(Refusal::AlreadyAdded);

@@ -7,7 +7,7 @@ ghost use lib.Dec.{eqb, ltb};
 ghost use Rattle.page.specs.Choice.{pick};
 ghost use Rattle.page.specs.Counts.{isHeader};
 ghost use Rattle.page.specs.Kinds.{kindAt};
-ghost use Rattle.chunk.specs.Records.{chunkOf, baseOf};
+ghost use Rattle.chunk.specs.Records.{baseOf};
 ghost use Rattle.chunk.specs.Cuts.{nowhere, cutOf};
 ghost use Rattle.index.specs.Cells.{cellsFor};
 ghost use Rattle.index.specs.Chains.{top};
@@ -19,8 +19,6 @@ use crate::chains::follow;
 use chunk::answer::Looked;
 use chunk::lookup::valid_of;
 use chunk::record::base_of;
-use chunk::record::chunk_of;
-use chunk::record::count_of;
 use chunk::record::larger;
 use chunk::record::order_of;
 use chunk::record::sequence_of;
@@ -103,17 +101,11 @@ pub(crate) fn reach_header(
             Step::Damaged => {
                 return Reached::Refused(Refusal::IndexDamaged, 0);
             }
-            Step::Record(q, age, k) => {
+            Step::Record(q, age, chunk, count) => {
                 visits += 1;
-                let Kind::Data {
-                    sequence: _,
-                    object: _,
-                    chunk,
-                    count,
-                } = k
-                else {
+                if chunk.0 == 0 {
                     return Reached::Header(q, end, met, visits);
-                };
+                }
                 end = end_with(end, l.data, chunk, count);
                 met = met.or_copy(c, q, chunk);
                 bound = age;
@@ -125,7 +117,7 @@ pub(crate) fn reach_header(
 }
 
 // The lowest cut, with a page that says k too, which is the newest header or not.
-pub fn lower_cut(newest: bool, k: Kind, cut: u64) -> u64
+fn lower_cut(newest: bool, k: Kind, cut: u64) -> u64
     ensures { λ r. ⌜ r ≡ pick (isHeader k) (min (cutOf newest k) cut) cut ⌝ }
 {
     let Kind::Header {
@@ -142,11 +134,28 @@ pub fn lower_cut(newest: bool, k: Kind, cut: u64) -> u64
     smaller(cut_of(newest, page_type, parent, size, shrink), cut)
 }
 
-// Whether a page that says k is a copy of chunk c, which begins at base, that the lowest cut of newer headers does not hide.
-fn is_shown(k: Kind, c: ChunkNumber, base: u64, cut: u64) -> bool
-    ensures { λ r. ⌜ r ≡ eqb (chunkOf k) (c .0) && ltb base cut ⌝ }
+// The lowest cut, with page q too, which has this chunk number, 0 for a header, and is the newest header or not.
+pub fn cut_past(
+    dump: &[u8],
+    l: Layout,
+    q: PageNumber,
+    chunk: ChunkNumber,
+    newest: bool,
+    cut: u64,
+) -> u64
+    ensures { λ r. ⌜ r ≡ pick (eqb (chunk .0) 0) (cutBy (kindAt l (now (dump .entry))) newest (q .0) cut) cut ⌝ }
 {
-    if chunk_of(k) != c.0 {
+    if chunk.0 != 0 {
+        return cut;
+    }
+    lower_cut(newest, kind_at(dump, l, q), cut)
+}
+
+// Whether a page of this chunk number is a copy of chunk c, which begins at base, that the lowest cut of newer headers does not hide.
+fn is_shown(chunk: ChunkNumber, c: ChunkNumber, base: u64, cut: u64) -> bool
+    ensures { λ r. ⌜ r ≡ eqb (chunk .0) (c .0) && ltb base cut ⌝ }
+{
+    if chunk.0 != c.0 {
         return false;
     }
     base < cut
@@ -185,12 +194,12 @@ fn seek_copy(
             Step::Damaged => {
                 return Looked::Refused(Refusal::IndexDamaged, 0, 0);
             }
-            Step::Record(q, older, k) => {
+            Step::Record(q, older, chunk, count) => {
                 visits += 1;
-                if is_shown(k, c, base, cut) {
-                    return Looked::Copy(q, valid_of(count_of(k), shown, cut, base), shown, visits);
+                if is_shown(chunk, c, base, cut) {
+                    return Looked::Copy(q, valid_of(count, shown, cut, base), shown, visits);
                 }
-                cut = lower_cut(false, k, cut);
+                cut = cut_past(dump, l, q, chunk, false, cut);
                 bound = older;
                 let i = link_at(q);
                 link = cells[i];

@@ -47,7 +47,7 @@ returns-3 c =
     let f = l .before .before in
     let q = f .before .before .loop in
     let s = f .before .before .before .before .before in
-    let k = (stepped _ _ _ _ _ _ (Record _ _ _) (sym (l .step .given .1) ∙ f .follow .ensures)) .0 in
+    let k = (stepped _ _ _ _ _ _ (Record _ _ _ _) (sym (l .step .given .1) ∙ f .follow .ensures)) .0 in
     (sym (q .inv .1 ∙ place-itself _ _ _ _ _ _ (k .2) (omega (arith, k .0, t .if1 .taken, s .pre .0 .aged)) (c .if2 .taken)), tt)
 
 returns-4 : tie.Need-returns-4 Inv-loop μ-loop
@@ -57,14 +57,14 @@ returns-4 c =
     let f = l .before .before in
     let q = f .before .before .loop in
     let s = f .before .before .before .before .before in
-    let k = (stepped _ _ _ _ _ _ (Record _ _ _) (sym (l .step .given .1) ∙ f .follow .ensures)) .0 in
+    let k = (stepped _ _ _ _ _ _ (Record _ _ _ _) (sym (l .step .given .1) ∙ f .follow .ensures)) .0 in
     (sym (q .inv .1 ∙ place-here _ _ _ _ _ _ (k .2) (omega (arith, k .0, t .if1 .taken, s .pre .0 .aged)) (c .if2 .left)), q .inv .0)
 
 loop-less : tie.Need-loop-less Inv-loop μ-loop
 loop-less c =
     let l = c .before .before .before in
     let f = l .before .before in
-    let k = (stepped _ _ _ [] _ _ (Record _ _ _) (sym (l .step .given .1) ∙ f .follow .ensures)) .0 in
+    let k = (stepped _ _ _ [] _ _ (Record _ _ _ _) (sym (l .step .given .1) ∙ f .follow .ensures)) .0 in
     omega (arith, k .0, k .1 .older)
 
 loop-again : tie.Need-loop-again Inv-loop μ-loop
@@ -74,7 +74,7 @@ loop-again c =
     let f = l .before .before in
     let q = f .before .before .loop in
     let s = f .before .before .before .before .before in
-    let k = (stepped _ _ _ _ _ _ (Record _ _ _) (sym (l .step .given .1) ∙ f .follow .ensures)) .0 in (
+    let k = (stepped _ _ _ _ _ _ (Record _ _ _ _) (sym (l .step .given .1) ∙ f .follow .ensures)) .0 in (
       omega (arith, k .1 .inside, c .link-at .ensures, s .pre .0 .room),
       q .inv .1 ∙ place-on _ _ _ _ _ _ (k .2) (omega (arith, k .0, t .if1 .left, s .pre .0 .aged)) ∙ rw (k .0, c .link-at .ensures) refl,
     )

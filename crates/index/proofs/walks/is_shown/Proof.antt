@@ -5,10 +5,10 @@ use Rattle.index.proofs.walks.is_shown.Statement.{statement}
 use Rattle.index.proofs.walks.is_shown.Tie as tie
 
 returns : tie.Need-returns
-returns c = rw (← c .before .before .chunk-of .ensures, ne-eqb _ _ (c .if1 .taken))
+returns c = rw (ne-eqb _ _ (c .if1 .taken))
 
 returns-2 : tie.Need-returns-2
-returns-2 c = rw (← c .before .before .chunk-of .ensures, eq-eqb _ _ (c .if1 .left))
+returns-2 c = rw (eq-eqb _ _ (c .if1 .left))
 
 pub is-shown-spec : {M : Type 1} → statement M
-is-shown-spec = tie.close (tie.spec (search needs) returns returns-2)
+is-shown-spec = tie.close (tie.spec returns returns-2)

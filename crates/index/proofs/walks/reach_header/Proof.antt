@@ -1,20 +1,18 @@
 -- The loop's invariant: what the chain from the first link on reaches is what the chain from here on reaches, and the records visited and
 -- those still ahead are no more than the pages. Each turn goes on to an older record, so that the bound falls.
 use Prim.Native.Nat.{_+_, _≤_}
-use mathlib.Core.Bool.{false}
 use mathlib.Core.Path.{_≡_, refl, sym, _∙_}
 use native.Mathlib.Omega.{arith}
 use borrow.Author.Needs.{needs}
-use Rattle.page.specs.Counts.{isHeader}
 use Rattle.page.specs.Kinds.{kindAt}
-use Rattle.page.proofs.Sound.{else-data}
 use Rattle.chunk.specs.Records.{ageOf}
 use Rattle.index.specs.Chains.{objects, top}
 use Rattle.index.specs.Walks.{recordsIn, reach, under}
 use Rattle.index.specs.declared.chains.Step.the-variants.{End, Damaged, Record}
 use Rattle.index.specs.declared.walks.Met.the-variants.{Nothing}
 use Rattle.index.proofs.Links.{Stepped, stepped}
-use Rattle.index.proofs.Walking.{other-header}
+use Rattle.index.proofs.Ordering.{header-of}
+use Rattle.index.proofs.Walking.{chunk-headless}
 use Rattle.index.proofs.Turning.{reach-nothing, reach-headless, reach-broken, reach-here, reach-on, count-on, few}
 use Rattle.index.proofs.walks.reach_header.Statement.{statement}
 use Rattle.index.proofs.walks.reach_header.Tie as tie
@@ -61,10 +59,10 @@ Here c =
     let q = c .before .before .before .loop in
     let a = c .before .before .before .before .before .before .args in
     let says = kindAt (a .l) (a .dump .now) in
-    Stepped says (a .pages) (a .o .0) (a .cells .now) (q .bound) (q .link) (Record (c .step .given .0 .0) (c .step .given .0 .1 .0) (c .step .given .0 .1 .1 .0))
+    Stepped says (a .pages) (a .o .0) (a .cells .now) (q .bound) (q .link) (Record (c .step .given .0 .0) (c .step .given .0 .1 .0) (c .step .given .0 .1 .1 .0) (c .step .given .0 .1 .1 .1 .0))
 
 here : (c : tie.After-step Inv-loop μ-loop) → Here c
-here c = stepped _ _ _ _ _ _ (Record _ _ _) (sym (c .step .given .1) ∙ c .before .before .follow .ensures)
+here c = stepped _ _ _ _ _ _ (Record _ _ _ _) (sym (c .step .given .1) ∙ c .before .before .follow .ensures)
 
 add-visits : tie.Need-add-visits Inv-loop μ-loop
 add-visits c =
@@ -73,43 +71,40 @@ add-visits c =
 
 returns-4 : tie.Need-returns-4 Inv-loop μ-loop
 returns-4 c =
-    let g = c .before .before in
+    let g = c .before .before .before in
     let q = g .before .before .before .loop in
-    let s = g .before .before .before .before .before .before in
-    let says = kindAt (s .args .l) (s .args .dump .now) in
-    let d = rw (here g .1) at (else-data (g .step .given .0 .1 .1 .0) (c .match2 .keys2)) in
-    let e = other-header (s .args .o .0) (s .pre .0) (says (g .step .given .0 .0 .0)) (here g .0 .1 .own) d in
-    sym (q .inv .1 ∙ reach-here says _ _ _ _ _ _ _ _ (here g .0 .2) e)
+    let a = g .before .before .before .before .before .before .args in
+    let e = header-of (a .l) (a .dump .now) _ (here g .0 .1 .some) (sym (here g .1) ∙ c .if2 .taken) in
+    sym (q .inv .1 ∙ reach-here (kindAt (a .l) (a .dump .now)) _ _ _ _ _ _ _ _ (here g .0 .2) e)
 
 mul-link : tie.Need-mul-link Inv-loop μ-loop
 mul-link c =
-    let g = c .before .before .before .before .before .before .before in
+    let g = c .before .before .before .before .before .before in
     omega (arith, here g .0 .1 .inside, c .link-at .ensures)
 
 read-link : tie.Need-shared-slice-read-link Inv-loop μ-loop
 read-link c =
-    let g = c .before .before .before .before .before .before .before .before in
+    let g = c .before .before .before .before .before .before .before in
     let s = g .before .before .before .before .before .before in
     omega (arith, here g .0 .1 .inside, c .before .link-at .ensures, s .pre .1)
 
 loop-less : tie.Need-loop-less Inv-loop μ-loop
 loop-less c =
-    let g = c .before .before .before .before .before .before .before .before in
+    let g = c .before .before .before .before .before .before .before in
     omega (arith, here g .0 .0, here g .0 .1 .older)
 
 loop-again : tie.Need-loop-again Inv-loop μ-loop
 loop-again c =
-    let m = c .before .before .before .before .before in
-    let g = m .before .before .before in
+    let d = c .before .before .before .before in
+    let g = d .before .before .before in
     let q = g .before .before .before .loop in
     let a = g .before .before .before .before .before .before .args in
     let says = kindAt (a .l) (a .dump .now) in
-    let e = sym (here g .1) ∙ m .k .given .1 in
-    let d : isHeader (says (g .step .given .0 .0 .0)) ≡ false = rw e in (
+    let e = chunk-headless (says (g .step .given .0 .0 .0)) (λ z. d .if2 .left (here g .1 ∙ z)) in (
       rw (here g .0 .0, c .before .link-at .ensures) (omega (arith, q .inv .0, count-on _ _ _ (here g .0 .2))),
       q .inv .1
-          ∙ reach-on says _ _ _ _ _ _ _ _ (here g .0 .2) d
-          ∙ rw (c .before .before .before .end-with .ensures, c .before .before .or-copy .ensures, here g .0 .0, c .before .link-at .ensures, e),
+          ∙ reach-on says _ _ _ _ _ _ _ _ (here g .0 .2) e
+          ∙ rw (c .before .before .before .end-with .ensures, c .before .before .or-copy .ensures, here g .0 .0, c .before .link-at .ensures, here g .1, here g .2),
     )
 
 pub reach-header-spec : {M : Type 1} → statement M
@@ -127,7 +122,6 @@ reach-header-spec =
     returns-3
     (search needs)
     add-visits
-    (search needs)
     returns-4
     (search needs)
     (search needs)

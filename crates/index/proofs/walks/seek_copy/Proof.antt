@@ -9,6 +9,7 @@ use Rattle.page.specs.Kinds.{kindAt}
 use Rattle.index.specs.Walks.{recordsIn, isShown, seek, under}
 use Rattle.index.specs.declared.chains.Step.the-variants.{End, Damaged, Record}
 use Rattle.index.proofs.Links.{Stepped, stepped}
+use Rattle.index.proofs.Walking.{cut-past-is}
 use Rattle.index.proofs.Turning.{seek-end, seek-broken, seek-here, seek-on, count-on}
 use Rattle.index.proofs.walks.seek_copy.Statement.{statement}
 use Rattle.index.proofs.walks.seek_copy.Tie as tie
@@ -43,10 +44,10 @@ Here c =
     let q = c .before .before .before .loop in
     let a = c .before .before .before .before .before .before .before .args in
     let says = kindAt (a .l) (a .dump .now) in
-    Stepped says (a .pages) (a .o .0) (a .cells .now) (q .bound) (q .link) (Record (c .step .given .0 .0) (c .step .given .0 .1 .0) (c .step .given .0 .1 .1 .0))
+    Stepped says (a .pages) (a .o .0) (a .cells .now) (q .bound) (q .link) (Record (c .step .given .0 .0) (c .step .given .0 .1 .0) (c .step .given .0 .1 .1 .0) (c .step .given .0 .1 .1 .1 .0))
 
 here : (c : tie.After-step Inv-loop μ-loop) → Here c
-here c = stepped _ _ _ _ _ _ (Record _ _ _) (sym (c .step .given .1) ∙ c .before .before .follow .ensures)
+here c = stepped _ _ _ _ _ _ (Record _ _ _ _) (sym (c .step .given .1) ∙ c .before .before .follow .ensures)
 
 add-visits : tie.Need-add-visits Inv-loop μ-loop
 add-visits c =
@@ -55,17 +56,17 @@ add-visits c =
 
 returns-3 : tie.Need-returns-3 Inv-loop μ-loop
 returns-3 c =
-    let g = c .before .before .before .before .before in
+    let g = c .before .before .before .before in
     let q = g .before .before .before .loop in
     let b = g .before .before .before .before .base-of in
     let a = g .before .before .before .before .before .before .before .args in
     let says = kindAt (a .l) (a .dump .now) in
     let e : isShown says (a .l .«data») (a .c .0) (q .cut) (g .step .given .0 .0 .0) ≡ true =
-    rw (← here g .1, ← b .ensures .0, ← c .before .before .before .is-shown .ensures) (c .before .before .if1 .taken) in
+    rw (← here g .1, ← b .ensures .0, ← c .before .before .is-shown .ensures) (c .before .if1 .taken) in
     sym
     (q .inv .1
     ∙ seek-here says _ _ _ _ _ _ _ _ (here g .0 .2) e
-    ∙ rw (c .valid-of .ensures, c .before .count-of .ensures, here g .1, b .ensures .0))
+    ∙ rw (c .valid-of .ensures, here g .2, b .ensures .0))
 
 mul-link : tie.Need-mul-link Inv-loop μ-loop
 mul-link c =
@@ -95,7 +96,7 @@ loop-again c =
       rw (here g .0 .0, c .before .link-at .ensures) (omega (arith, q .inv .0, count-on _ _ _ (here g .0 .2))),
       q .inv .1
           ∙ seek-on says _ _ _ _ _ _ _ _ (here g .0 .2) e
-          ∙ rw (c .before .before .lower-cut .ensures, here g .0 .0, c .before .link-at .ensures, here g .1),
+          ∙ rw (c .before .before .cut-past .ensures, cut-past-is says false _ _ _ (here g .1), here g .0 .0, c .before .link-at .ensures),
     )
 
 pub seek-copy-spec : {M : Type 1} → statement M
@@ -113,7 +114,6 @@ seek-copy-spec =
     returns-2
     (search needs)
     add-visits
-    (search needs)
     (search needs)
     (search needs)
     returns-3
