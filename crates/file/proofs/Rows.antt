@@ -13,10 +13,10 @@ use Rattle.page.specs.declared.kind.Kind.{Kind}
 use Rattle.page.specs.declared.refusal.Refusal.the-variants.{IndexDamaged}
 use Rattle.page.proofs.Layouts.{and-left, and-right}
 use Rattle.page.proofs.Searching.{by-test}
-use Rattle.chunk.specs.Records.{chunkOf, baseOf}
+use Rattle.chunk.specs.Records.{chunkOf, countOf, baseOf}
 use Rattle.chunk.specs.declared.answer.Looked.{Looked}
 use Rattle.chunk.specs.declared.answer.Looked.the-variants as looked
-use Rattle.chunk.specs.Lookups.{shownOf, validOf}
+use Rattle.chunk.specs.Lookups.{shownOf}
 use Rattle.index.specs.Cells.{word, linkTo}
 use Rattle.index.specs.Chains.{Trace, rec}
 use Rattle.index.specs.Walks.{isShown, found, cutBy}
@@ -43,99 +43,99 @@ abbrev pub Told : List ℕ → ℕ → Looked → Type 0
 Told t c answer = Has t c (whereWord answer) (validWord answer)
 
 -- what is noted
-abbrev validAt : ℕ → ℕ → ℕ → Kind → ℕ
-validAt P size cut k = validOf P (chunkOf k) k (shownOf P (chunkOf k) size) cut
+abbrev validAt : ℕ → ℕ → ℕ → ℕ → ℕ → ℕ
+validAt P size cut ch n = min n (min (shownOf P ch size) (cut - baseOf P ch))
 
-abbrev stored : List ℕ → ℕ → ℕ → ℕ → ℕ → Kind → List ℕ
-stored t P size cut q k = set (set t (rowAt (chunkOf k)) (linkTo q)) (rowAt (chunkOf k) + 1) (validAt P size cut k)
+abbrev stored : List ℕ → ℕ → ℕ → ℕ → ℕ → ℕ → ℕ → List ℕ
+stored t P size cut q ch n = set (set t (rowAt ch) (linkTo q)) (rowAt ch + 1) (validAt P size cut ch n)
 
 -- a record is noted in the free row of its chunk, which is not hidden; or nothing is
-pub data Noted (t : List ℕ) (m P size cut q : ℕ) (k : Kind) : Type 0 where
-  passed : noted t m P size cut q k ≡ t → Noted t m P size cut q k
+pub data Noted (t : List ℕ) (m P size cut q ch n : ℕ) : Type 0 where
+  passed : noted t m P size cut q ch n ≡ t → Noted t m P size cut q ch n
   wrote :
-      0 < chunkOf k →
-      chunkOf k ≤ m →
-      word t (rowAt (chunkOf k)) ≡ 0 →
-      baseOf P (chunkOf k) < cut →
-      noted t m P size cut q k ≡ stored t P size cut q k →
-      Noted t m P size cut q k
+      0 < ch →
+      ch ≤ m →
+      word t (rowAt ch) ≡ 0 →
+      baseOf P ch < cut →
+      noted t m P size cut q ch n ≡ stored t P size cut q ch n →
+      Noted t m P size cut q ch n
 
-module _ (t : List ℕ) (m P size cut q : ℕ) (k : Kind) where
-  pub noting : Noted t m P size cut q k
+module _ (t : List ℕ) (m P size cut q ch n : ℕ) where
+  pub noting : Noted t m P size cut q ch n
   unfolding noted
   noting =
-      by-test (eqb (chunkOf k) 0) _
+      by-test (eqb ch 0) _
       (λ a. passed (rw a refl))
       (λ a.
-      by-test (ltb m (chunkOf k)) _
+      by-test (ltb m ch) _
       (λ b. passed (rw (a, b) refl))
       (λ b.
-      by-test (eqb (word t (rowAt (chunkOf k))) 0) _
+      by-test (eqb (word t (rowAt ch)) 0) _
       (λ d.
-      by-test (leb cut (baseOf P (chunkOf k))) _
+      by-test (leb cut (baseOf P ch)) _
       (λ e. passed (rw (a, b, d, e) refl))
       (λ e.
-      let z : chunkOf k ≡ 0 → ⊥ = eqb-false (chunkOf k) 0 a in
+      let z : ch ≡ 0 → ⊥ = eqb-false ch 0 a in
       wrote (omega arith) (ltb-false _ _ b) (eqb-true _ _ d) (leb-false _ _ e) (rw (a, b, d, e) refl)))
       (λ d. passed (rw (a, b, d) refl))))
 
   writes :
-      0 < chunkOf k →
-      chunkOf k ≤ m →
-      word t (rowAt (chunkOf k)) ≡ 0 →
-      baseOf P (chunkOf k) < cut →
-      noted t m P size cut q k ≡ stored t P size cut q k
+      0 < ch →
+      ch ≤ m →
+      word t (rowAt ch) ≡ 0 →
+      baseOf P ch < cut →
+      noted t m P size cut q ch n ≡ stored t P size cut q ch n
   unfolding noted
   writes h i z b =
       rw (
-        ne-eqb (chunkOf k) 0 (λ e. absurd (omega arith)),
-        le-ltb m (chunkOf k) i,
-        eq-eqb (word t (rowAt (chunkOf k))) 0 z,
-        lt-leb cut (baseOf P (chunkOf k)) b,
+        ne-eqb ch 0 (λ e. absurd (omega arith)),
+        le-ltb m ch i,
+        eq-eqb (word t (rowAt ch)) 0 z,
+        lt-leb cut (baseOf P ch) b,
       )
 
   -- noting leaves the length, and the words behind the rows
-  pub noted-length : length (noted t m P size cut q k) ≡ length t
+  pub noted-length : length (noted t m P size cut q ch n) ≡ length t
   noted-length = go noting
     where
-      go : Noted t m P size cut q k → length (noted t m P size cut q k) ≡ length t
+      go : Noted t m P size cut q ch n → length (noted t m P size cut q ch n) ≡ length t
       go (passed s) = rw s
-      go (wrote h i z b s) = rw s (length-set (set t (rowAt (chunkOf k)) (linkTo q)) _ _ ∙ length-set t _ _)
+      go (wrote h i z b s) = rw s (length-set (set t (rowAt ch) (linkTo q)) _ _ ∙ length-set t _ _)
 
-  pub noted-rest : drop (wordsOf m) (noted t m P size cut q k) ≡ drop (wordsOf m) t
+  pub noted-rest : drop (wordsOf m) (noted t m P size cut q ch n) ≡ drop (wordsOf m) t
   noted-rest = go noting
     where
-      go : Noted t m P size cut q k → drop (wordsOf m) (noted t m P size cut q k) ≡ drop (wordsOf m) t
+      go : Noted t m P size cut q ch n → drop (wordsOf m) (noted t m P size cut q ch n) ≡ drop (wordsOf m) t
       go (passed s) = rw s
       go (wrote h i z b s) =
           rw s
-          (drop-set-lt (wordsOf m) (set t (rowAt (chunkOf k)) (linkTo q)) (rowAt (chunkOf k) + 1) (validAt P size cut k) (omega arith)
-          ∙ drop-set-lt (wordsOf m) t (rowAt (chunkOf k)) (linkTo q) (omega arith))
+          (drop-set-lt (wordsOf m) (set t (rowAt ch) (linkTo q)) (rowAt ch + 1) (validAt P size cut ch n) (omega arith)
+          ∙ drop-set-lt (wordsOf m) t (rowAt ch) (linkTo q) (omega arith))
 
-module _ (t : List ℕ) (P size cut q : ℕ) (k : Kind) where
+module _ (t : List ℕ) (P size cut q ch n : ℕ) where
   abbrev first : List ℕ
-  first = set t (rowAt (chunkOf k)) (linkTo q)
+  first = set t (rowAt ch) (linkTo q)
 
   -- the row of another chunk stays as it is
-  other : (c w a : ℕ) → 0 < c → 0 < chunkOf k → (chunkOf k ≡ c → ⊥) → Has t c w a → Has (stored t P size cut q k) c w a
+  other : (c w a : ℕ) → 0 < c → 0 < ch → (ch ≡ c → ⊥) → Has t c w a → Has (stored t P size cut q ch n) c w a
   other c w a h i d r = record {
     at =
-        getD-set-other first (rowAt (chunkOf k) + 1) (rowAt c) (validAt P size cut k) 0 (λ e. absurd (omega arith))
-        ∙ getD-set-other t (rowAt (chunkOf k)) (rowAt c) (linkTo q) 0 (λ e. d (omega arith))
+        getD-set-other first (rowAt ch + 1) (rowAt c) (validAt P size cut ch n) 0 (λ e. absurd (omega arith))
+        ∙ getD-set-other t (rowAt ch) (rowAt c) (linkTo q) 0 (λ e. d (omega arith))
         ∙ r .at;
     of =
-        getD-set-other first (rowAt (chunkOf k) + 1) (rowAt c + 1) (validAt P size cut k) 0 (λ e. d (omega arith))
-        ∙ getD-set-other t (rowAt (chunkOf k)) (rowAt c + 1) (linkTo q) 0 (λ e. absurd (omega arith))
+        getD-set-other first (rowAt ch + 1) (rowAt c + 1) (validAt P size cut ch n) 0 (λ e. d (omega arith))
+        ∙ getD-set-other t (rowAt ch) (rowAt c + 1) (linkTo q) 0 (λ e. absurd (omega arith))
         ∙ r .of;
   }
 
   -- its own row has the page and the valid length
-  own : (m : ℕ) → 0 < chunkOf k → chunkOf k ≤ m → wordsOf m ≤ length t → Has (stored t P size cut q k) (chunkOf k) (linkTo q) (validAt P size cut k)
+  own : (m : ℕ) → 0 < ch → ch ≤ m → wordsOf m ≤ length t → Has (stored t P size cut q ch n) ch (linkTo q) (validAt P size cut ch n)
   own m h i room = record {
     at =
-        getD-set-other first (rowAt (chunkOf k) + 1) (rowAt (chunkOf k)) (validAt P size cut k) 0 (λ e. absurd (omega arith))
-        ∙ getD-set-same t (rowAt (chunkOf k)) (linkTo q) 0 (omega arith);
-    of = getD-set-same first (rowAt (chunkOf k) + 1) (validAt P size cut k) 0 (rw (length-set t (rowAt (chunkOf k)) (linkTo q)) (omega arith));
+        getD-set-other first (rowAt ch + 1) (rowAt ch) (validAt P size cut ch n) 0 (λ e. absurd (omega arith))
+        ∙ getD-set-same t (rowAt ch) (linkTo q) 0 (omega arith);
+    of = getD-set-same first (rowAt ch + 1) (validAt P size cut ch n) 0 (rw (length-set t (rowAt ch) (linkTo q)) (omega arith));
   }
 
 module _ (says : ℕ → Kind) (P size m : ℕ) (t : List ℕ) (room : wordsOf m ≤ length t) (newest : Bool) (cut : ℕ) (chain : Trace) (q : ℕ) (rest : Trace)
@@ -150,10 +150,10 @@ module _ (says : ℕ → Kind) (P size m : ℕ) (t : List ℕ) (room : wordsOf m
       next = from c (stillNewest says newest q) (cutBy says newest q cut) rest
 
       -- the record is shown for the chunk
-      shown-row : isShown says P c cut q ≡ true → Has t c 0 0 → from c newest cut chain ≡ answer → (u : List ℕ) → u ≡ stored t P size cut q (says q) → chunkOf (says q) ≡ c → Row u c next answer
+      shown-row : isShown says P c cut q ≡ true → Has t c 0 0 → from c newest cut chain ≡ answer → (u : List ℕ) → u ≡ stored t P size cut q (chunkOf (says q)) (countOf (says q)) → chunkOf (says q) ≡ c → Row u c next answer
       shown-row h f a u i j =
           let l : found says P c (shownOf P c size) cut q 0 ≡ answer = sym (ahead-here says P c (shownOf P c size) newest cut chain q rest e h) ∙ a in
-          let o = own t P size cut q (says q) m (rw j some) (rw j most) room in
+          let o = own t P size cut q (chunkOf (says q)) (countOf (says q)) m (rw j some) (rw j most) room in
           rw (i, ← l, ← j) (done (omega (arith, o .at)) o)
 
       -- nothing is noted in the row of the chunk
@@ -164,15 +164,15 @@ module _ (says : ℕ → Kind) (P size m : ℕ) (t : List ℕ) (room : wordsOf m
       free-row u same h f a = free (same 0 0 f) (sym (ahead-on says P c (shownOf P c size) newest cut chain q rest e h) ∙ a)
 
       abbrev noting-here : List ℕ
-      noting-here = noted t m P size cut q (says q)
+      noting-here = noted t m P size cut q (chunkOf (says q)) (countOf (says q))
 
       -- what is noted elsewhere
       elsewhere : (chunkOf (says q) ≡ c → word t (rowAt c) ≡ 0 → baseOf P c < cut → ⊥) → (w a : ℕ) → Has t c w a → Has noting-here c w a
-      elsewhere d w a r = go (noting t m P size cut q (says q))
+      elsewhere d w a r = go (noting t m P size cut q (chunkOf (says q)) (countOf (says q)))
         where
-          go : Noted t m P size cut q (says q) → Has noting-here c w a
+          go : Noted t m P size cut q (chunkOf (says q)) (countOf (says q)) → Has noting-here c w a
           go (passed s) = rw s r
-          go (wrote h i z b s) = rw s (other t P size cut q (says q) c w a some h (λ j. d j (rw j at z) (rw j at b)) r)
+          go (wrote h i z b s) = rw s (other t P size cut q (chunkOf (says q)) (countOf (says q)) c w a some h (λ j. d j (rw j at z) (rw j at b)) r)
 
       pub noted-row : Row t c (from c newest cut chain) answer → Row noting-here c next answer
       noted-row (done g f) = done-row noting-here (elsewhere (λ j z b. absurd (omega arith))) g f
@@ -181,7 +181,7 @@ module _ (says : ℕ → Kind) (P size m : ℕ) (t : List ℕ) (room : wordsOf m
           (λ h.
           let j : chunkOf (says q) ≡ c = eqb-true _ _ (and-left (eqb (chunkOf (says q)) c) (ltb (baseOf P c) cut) h) in
           let b : baseOf P c < cut = ltb-true _ _ (and-right (eqb (chunkOf (says q)) c) (ltb (baseOf P c) cut) h) in
-          let w = writes t m P size cut q (says q) (rw j some) (rw j most) (rw j (f .at)) (rw j b) in
+          let w = writes t m P size cut q (chunkOf (says q)) (countOf (says q)) (rw j some) (rw j most) (rw j (f .at)) (rw j b) in
           shown-row h f a noting-here w j)
           (λ h.
           free-row noting-here

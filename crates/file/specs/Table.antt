@@ -12,14 +12,14 @@ use Rattle.page.specs.Numbers.{mostChunk}
 use Rattle.page.specs.declared.kind.Kind.{Kind}
 use Rattle.page.specs.declared.layout.Layout.{Layout}
 use Rattle.page.specs.declared.refusal.Refusal.the-variants.{ShortBuffer}
-use Rattle.chunk.specs.Records.{chunkOf, baseOf}
+use Rattle.chunk.specs.Records.{baseOf}
 use Rattle.chunk.specs.Cuts.{nowhere}
 use Rattle.chunk.specs.Answers.{validPart}
 use Rattle.chunk.specs.declared.answer.Looked.{Looked}
 use Rattle.chunk.specs.declared.answer.Looked.the-variants as looked
 use Rattle.chunk.specs.declared.answer.Sized.{Sized}
 use Rattle.chunk.specs.declared.answer.Sized.the-variants as sized
-use Rattle.chunk.specs.Lookups.{shownOf, validOf}
+use Rattle.chunk.specs.Lookups.{shownOf}
 use Rattle.index.specs.Cells.{word, linkTo}
 use Rattle.index.specs.Chains.{top}
 use Rattle.index.specs.Walks.{under, sizeFrom, chunkFrom}
@@ -77,14 +77,14 @@ tableFrom l k dump cells o room = tableBy (l .«data») room (sizeFrom l k dump 
 abbrev pub allAhead : (ℕ → Kind) → ℕ → ℕ → ℕ → List ℕ → ℕ → ℕ → ℕ → Looked
 allAhead says P size n cells o first c = ahead says P c (shownOf P c size) true nowhere (under says n cells o top first)
 
--- a table of m rows in which page q, which says k, is noted: if its chunk has a row, nothing is noted there, and no newer header hides it
-unfoldable pub noted : List ℕ → ℕ → ℕ → ℕ → ℕ → ℕ → Kind → List ℕ
-noted t m P size cut q k =
-    pick (eqb (chunkOf k) 0 || ltb m (chunkOf k)) t
-    (pick (not (eqb (word t (rowAt (chunkOf k))) 0)) t
-    (pick (leb cut (baseOf P (chunkOf k))) t
-    (set (set t (rowAt (chunkOf k)) (linkTo q)) (rowAt (chunkOf k) + 1)
-    (validOf P (chunkOf k) k (shownOf P (chunkOf k) size) cut))))
+-- a table of m rows in which page q, of chunk number c and byte count n, is noted: if the chunk has a row, nothing is noted there, and no newer
+-- header hides it
+unfoldable pub noted : List ℕ → ℕ → ℕ → ℕ → ℕ → ℕ → ℕ → ℕ → List ℕ
+noted t m P size cut q c n =
+    pick (eqb c 0 || ltb m c) t
+    (pick (not (eqb (word t (rowAt c)) 0)) t
+    (pick (leb cut (baseOf P c)) t
+    (set (set t (rowAt c) (linkTo q)) (rowAt c + 1) (min n (min (shownOf P c size) (cut - baseOf P c))))))
 
 -- the first word of a row after a damaged link was met
 abbrev pub closedWord : ℕ → ℕ

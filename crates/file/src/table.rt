@@ -4,7 +4,7 @@ ghost use mathlib.Core.Bool.{true, not, _&&_};
 ghost use mathlib.Core.List.{_++_};
 ghost use Prim.Native.Nat.{_*_, _≤_, _<_, _^_};
 ghost use lib.ListN.{length, drop};
-ghost use Rattle.page.specs.Counts.{isHeader};
+ghost use lib.Dec.{eqb};
 ghost use Rattle.page.specs.Kinds.{kindAt};
 ghost use Rattle.page.specs.Lengths.{openedOf};
 ghost use Rattle.page.specs.declared.layout.Opened.the-variants as opened;
@@ -15,8 +15,6 @@ use chunk::answer::Sized;
 use chunk::lookup::shown_of;
 use chunk::lookup::valid_of;
 use chunk::record::base_of;
-use chunk::record::chunk_of;
-use chunk::record::count_of;
 use chunk::record::smaller;
 use chunk::scan::NOWHERE;
 use index::cells::clear;
@@ -26,9 +24,7 @@ use index::chains::TOP;
 use index::chains::follow;
 use index::lookups::size;
 use index::slots::first_link;
-use index::walks::lower_cut;
-use page::header::is_header;
-use page::kind::Kind;
+use index::walks::cut_past;
 use page::layout::Layout;
 use page::layout::Opened;
 use page::number::ChunkNumber;
@@ -66,29 +62,37 @@ fn chunks_in(data: u16, size: u64) -> u32
     smaller(ChunkNumber::MOST as u64, (size - 1) / (data as u64) + 1) as u32
 }
 
-// Notes page q, which says k, in the row of its chunk, if the table has one, nothing is noted there yet, and the lowest cut of newer headers does
-// not hide the chunk.
-fn note(table: &mut [u32], count: u32, data: u16, size: u64, cut: u64, q: PageNumber, k: Kind)
+// Notes page q in the row of its chunk, if the table has one, nothing is noted there yet, and the lowest cut of newer headers does not hide the
+// chunk. A header has chunk number 0, and no row.
+fn note(
+    table: &mut [u32],
+    count: u32,
+    data: u16,
+    size: u64,
+    cut: u64,
+    q: PageNumber,
+    chunk: ChunkNumber,
+    bytes: u32,
+)
     requires { ⌜ wordsOf count ≤ length (now table) ⌝ }
     requires { ⌜ q .0 < 2 ^ 31 ⌝ }
-    ensures { λ _. ⌜ now (table .exit) ≡ noted (now (table .entry)) count «data» size cut (q .0) k ⌝ }
+    ensures { λ _. ⌜ now (table .exit) ≡ noted (now (table .entry)) count «data» size cut (q .0) (chunk .0) bytes ⌝ }
 {
-    let c = ChunkNumber(chunk_of(k));
-    if c.0 == 0 {
+    if chunk.0 == 0 {
         return;
     }
-    if count < c.0 {
+    if count < chunk.0 {
         return;
     }
-    let i = words_of(c.0 - 1);
+    let i = words_of(chunk.0 - 1);
     if table[i] != 0 {
         return;
     }
-    let base = base_of(data, c);
+    let base = base_of(data, chunk);
     if cut <= base {
         return;
     }
-    let valid = valid_of(count_of(k), shown_of(data, size, base), cut, base);
+    let valid = valid_of(bytes, shown_of(data, size, base), cut, base);
     table[i] = q.0 + PAGES;
     table[i + 1] = valid;
 }
@@ -116,14 +120,14 @@ fn mark_damaged(table: &mut [u32], count: u32)
     }
 }
 
-// Whether the newest header is still ahead behind a page that says k.
-fn still_newest(newest: bool, k: Kind) -> bool
-    ensures { λ r. ⌜ r ≡ newest && not (isHeader k) ⌝ }
+// Whether the newest header is still ahead behind a record of this chunk number, which is 0 for a header.
+fn still_newest(newest: bool, chunk: ChunkNumber) -> bool
+    ensures { λ r. ⌜ r ≡ newest && not (eqb (chunk .0) 0) ⌝ }
 {
-    if newest {
-        return !is_header(k);
+    if !newest {
+        return false;
     }
-    false
+    chunk.0 != 0
 }
 
 // Fills the rows of a file of this size, whose object is o, by one walk down its chain from a link.
@@ -158,10 +162,10 @@ fn fill(
                 mark_damaged(table, count);
                 return;
             }
-            Step::Record(q, age, k) => {
-                note(table, count, l.data, size, cut, q, k);
-                cut = lower_cut(newest, k, cut);
-                newest = still_newest(newest, k);
+            Step::Record(q, age, chunk, bytes) => {
+                note(table, count, l.data, size, cut, q, chunk, bytes);
+                cut = cut_past(dump, l, q, chunk, newest, cut);
+                newest = still_newest(newest, chunk);
                 bound = age;
                 let i = link_at(q);
                 link = cells[i];

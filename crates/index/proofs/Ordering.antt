@@ -7,6 +7,8 @@ use mathlib.Core.Path.{_≡_, refl}
 use native.Mathlib.Nat.{mul-le-mul-right, div-mul-le-self}
 use native.Mathlib.Omega.{arith}
 use lib.ListN.{length}
+use lib.Dec.{eqb}
+use borrow.Author.Tests.{eqb-true, eqb-false}
 use Rattle.page.specs.Counts.{isHeader}
 use Rattle.page.specs.Kinds.{kindAt}
 use Rattle.page.specs.Layouts.{pageLen}
@@ -17,6 +19,7 @@ use Rattle.page.specs.declared.kind.Kind.the-variants.{Blank, Foreign, Damaged,
 use Rattle.page.specs.declared.layout.Layout.{Layout}
 use Rattle.page.specs.declared.layout.Opened.the-variants.{Pages}
 use Rattle.page.proofs.Layouts.{product-le}
+use Rattle.page.proofs.Searching.{by-test}
 use Rattle.page.proofs.Lengths.{opened-facts, opened-some, opened-most, length-most}
 use Rattle.page.proofs.Within.{chunk-within, header-within, data-within}
 use Rattle.chunk.specs.Records.{objectOf, sequenceOf, orderOf, ageOf, chunkOf, baseOf}
@@ -70,6 +73,20 @@ module _ (l : Layout) (dump : List ℕ) where
       go Damaged e h z = absurd (omega arith)
       go (Header s o k p y m) e h z = refl
       go (Data s o c n) e h z = absurd (omega (arith, data-within l dump i s o c n e .chunk .least))
+
+  -- so that the chunk number of a record tells whether it is one
+  pub header-test : (i : ℕ) → 0 < objects (kindAt l dump) i → isHeader (kindAt l dump i) ≡ eqb (chunkOf (kindAt l dump i)) 0
+  header-test i h =
+      by-test (eqb (chunkOf (kindAt l dump i)) 0) _
+      (λ t. rw (t, header-of i h (eqb-true _ _ t)))
+      (λ t. rw t (headless (kindAt l dump i) (eqb-false _ _ t)))
+    where
+      headless : (k : Kind) → (chunkOf k ≡ 0 → ⊥) → isHeader k ≡ false
+      headless Blank z = refl
+      headless Foreign z = refl
+      headless Damaged z = refl
+      headless (Header s o t p y m) z = absurd (z refl)
+      headless (Data s o c n) z = refl
 
   -- no record is as new as the top
   pub age-below : (i : ℕ) → i < 4294967296 → ageOf (kindAt l dump) i < top

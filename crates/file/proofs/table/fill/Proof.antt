@@ -12,6 +12,8 @@ use Rattle.index.specs.Walks.{under}
 use Rattle.index.specs.Ahead.{ahead}
 use Rattle.index.specs.declared.chains.Step.the-variants.{End, Damaged, Record}
 use Rattle.index.proofs.Links.{Stepped, stepped}
+use Rattle.index.proofs.Ordering.{header-test}
+use Rattle.index.proofs.Walking.{cut-past-is}
 use Rattle.index.proofs.Ahead.{ahead-end, ahead-broken}
 use Rattle.file.specs.Table.{wordsOf, allAhead}
 use Rattle.file.proofs.Rows.{Row, free, noted-length, noted-rest, noted-row, row-end, row-broken, clear-length, clear-rest, cleared, table-is}
@@ -111,10 +113,10 @@ Here c =
     let q = c .before .before .before in
     let a = s q .args in
     Stepped (kindAt (a .l) (a .dump .now)) (a .pages) (a .o .0) (a .cells .now) (q .loop .bound) (q .loop .link)
-    (Record (c .step .given .0 .0) (c .step .given .0 .1 .0) (c .step .given .0 .1 .1 .0))
+    (Record (c .step .given .0 .0) (c .step .given .0 .1 .0) (c .step .given .0 .1 .1 .0) (c .step .given .0 .1 .1 .1 .0))
 
 here : (c : tie.After-step Inv-loop μ-loop) → Here c
-here c = stepped _ _ _ _ _ _ (Record _ _ _) (sym (c .step .given .1) ∙ c .before .before .follow .ensures)
+here c = stepped _ _ _ _ _ _ (Record _ _ _ _) (sym (c .step .given .1) ∙ c .before .before .follow .ensures)
 
 note-requires : tie.Need-note-requires Inv-loop μ-loop
 note-requires c κs =
@@ -125,7 +127,7 @@ note-requires c κs =
 mul-link : tie.Need-mul-link Inv-loop μ-loop
 mul-link c =
     let g = c .before .before .before .before .before .before .before .before in
-    omega (arith, here g .0 .1 .inside, c .link-at .ensures)
+    omega (arith, here g .0 .1 .inside, c .link-at .ensures, s (g .before .before .before) .pre .0)
 
 read-link : tie.Need-shared-slice-read-link Inv-loop μ-loop
 read-link c =
@@ -147,10 +149,20 @@ loop-again c =
     let g = t .before .before .before in
     let q = g .before .before .before in
     let a = s q .args in (
-      rw (t .note .ensures) (noted-length (q .loop .table) (a .count) (a .l .«data») (a .size) (q .loop .cut) (g .step .given .0 .0 .0) (g .step .given .0 .1 .1 .0) ∙ q .loop .inv .0),
-      rw (t .note .ensures) (noted-rest (q .loop .table) (a .count) (a .l .«data») (a .size) (q .loop .cut) (g .step .given .0 .0 .0) (g .step .given .0 .1 .1 .0) ∙ q .loop .inv .1),
+      rw (t .note .ensures) (noted-length (q .loop .table) (a .count) (a .l .«data») (a .size) (q .loop .cut) (g .step .given .0 .0 .0) (g .step .given .0 .1 .1 .0 .0) (g .step .given .0 .1 .1 .1 .0) ∙ q .loop .inv .0),
+      rw (t .note .ensures) (noted-rest (q .loop .table) (a .count) (a .l .«data») (a .size) (q .loop .cut) (g .step .given .0 .0 .0) (g .step .given .0 .1 .1 .0 .0) (g .step .given .0 .1 .1 .1 .0) ∙ q .loop .inv .1),
       λ x h j.
-          rw (t .note .ensures, n .still-newest .ensures, d .lower-cut .ensures, here g .1, here g .0 .0, i .link-at .ensures)
+          rw (
+            t .note .ensures,
+            n .still-newest .ensures,
+            d .cut-past .ensures,
+            cut-past-is (kindAt (a .l) (a .dump .now)) (q .loop .newest) _ _ _ (here g .1),
+            here g .1,
+            here g .2,
+            ← header-test (a .l) (a .dump .now) _ (here g .0 .1 .some),
+            here g .0 .0,
+            i .link-at .ensures,
+          )
           (noted-row (kindAt (a .l) (a .dump .now)) (a .l .«data») (a .size) (a .count) (q .loop .table) (room q) (q .loop .newest) (q .loop .cut) _ (g .step .given .0 .0 .0) _ (here g .0 .2) x h j _
           (q .loop .inv .2 x h j)),
     )

@@ -10,25 +10,25 @@ use Rattle.file.proofs.table.note.Tie as tie
 
 returns : tie.Need-returns
 unfolding noted
-returns c = rw (← c .before .before .chunk-of .ensures, eq-eqb _ _ (c .if1 .taken))
+returns c = rw (eq-eqb _ _ (c .if1 .taken))
 
 returns-2 : tie.Need-returns-2
 unfolding noted
 returns-2 c =
     let e = c .before .before in
-    rw (← e .before .before .chunk-of .ensures, ne-eqb _ _ (e .if1 .left), lt-ltb _ _ (c .if2 .taken))
+    rw (ne-eqb _ _ (e .if1 .left), lt-ltb _ _ (c .if2 .taken))
 
 -- the row of the chunk has room
 abbrev Within : tie.After-words-of → Type 0
 Within w =
-    let s = w .before .before .before .before .before .before .before .before in
+    let s = w .before .before .before .before .before .before .before in
     w .words-of .result + 1 < length (s .args .table .now)
 
 within : (w : tie.After-words-of) → Within w
 within w =
     let f = w .before .before in
     let e = f .before .before in
-    omega (arith, w .words-of .ensures, f .if2 .left, e .if1 .left, e .before .before .before .before .pre .0)
+    omega (arith, w .words-of .ensures, f .if2 .left, e .if1 .left, e .before .before .before .pre .0)
 
 returns-3 : tie.Need-returns-3
 unfolding noted
@@ -37,7 +37,6 @@ returns-3 c =
     let f = w .before .before in
     let e = f .before .before in
     rw (
-      ← e .before .before .chunk-of .ensures,
       ne-eqb _ _ (e .if1 .left),
       le-ltb _ _ (f .if2 .left),
       ← w .words-of .ensures,
@@ -53,7 +52,6 @@ returns-4 c =
     let f = w .before .before in
     let e = f .before .before in
     rw (
-      ← e .before .before .chunk-of .ensures,
       ne-eqb _ _ (e .if1 .left),
       le-ltb _ _ (f .if2 .left),
       ← w .words-of .ensures,
@@ -67,38 +65,34 @@ unfolding noted
 returns-5 c =
     let v = c .before in
     let s = v .before in
-    let n = s .before in
-    let h = n .before in
+    let h = s .before in
     let b = h .before in
     let g = b .before in
     let w = g .before .before in
     let f = w .before .before in
     let e = f .before .before in
     rw (
-      ← e .before .before .chunk-of .ensures,
       ne-eqb _ _ (e .if1 .left),
       le-ltb _ _ (f .if2 .left),
       ← w .words-of .ensures,
       eq-eqb _ _ (g .if3 .left),
       ← b .base-of .ensures .0,
       lt-leb _ _ (h .if4 .left),
-      ← n .count-of .ensures,
       ← s .shown-of .ensures,
       ← v .valid-of .ensures,
     )
 
 -- the row of the chunk, where it is written to
 abbrev Here : tie.After-struct-known4 → Type 0
-Here c = Within (c .before .before .before .before .before .before .before .before)
+Here c = Within (c .before .before .before .before .before .before .before)
 
 here : (c : tie.After-struct-known4) → Here c
-here c = within (c .before .before .before .before .before .before .before .before)
+here c = within (c .before .before .before .before .before .before .before)
 
 pub note-spec : {M : Type 1} → statement M
 note-spec =
     tie.close
     (tie.spec
-    (search needs)
     returns
     returns-2
     (λ c. omega (arith, c .before .before .before .if1 .left))
@@ -110,8 +104,7 @@ note-spec =
     returns-4
     (search needs)
     (search needs)
-    (search needs)
-    (λ c. omega (arith, c .before .before .before .before .before .before .before .before .before .before .before .before .before .before .before .before .pre .1))
+    (λ c. omega (arith, c .before .before .before .before .before .before .before .before .before .before .before .before .before .before .pre .1))
     (λ c. omega (arith, here c))
     (λ c. omega (arith, here c))
     (λ c. omega (arith, here c))
