@@ -39,8 +39,8 @@ use Rattle.index.specs.declared.walks.Met.the-variants.{Copy, Nothing}
 use Rattle.index.specs.declared.walks.Reached.{Reached}
 use Rattle.index.specs.declared.walks.Reached.the-variants as reached
 use Rattle.index.proofs.Probing.{first-link}
-use Rattle.index.proofs.Ordering.{data-most, chunk-near}
-use Rattle.index.proofs.Walking.{header-chunk, endBy}
+use Rattle.index.proofs.Ordering.{header-chunk, data-most, chunk-near}
+use Rattle.index.proofs.Walking.{endBy}
 use Rattle.index.proofs.Turning.{chunk-live}
 
 module _ (says : ℕ → Kind) (P c shown : ℕ) where

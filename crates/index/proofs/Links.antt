@@ -69,17 +69,9 @@ module _ (n : ℕ) (obj age : ℕ → ℕ) (o b w : ℕ) where
       unfolding leadOf
       lead-none h = simp (le-ltb w 2 big, lt-ltb (w - 2) n inside, eq-eqb (obj (w - 2)) 0 h)
 
-      pub lead-other : 0 < obj (w - 2) → (obj (w - 2) ≡ o → ⊥) → leadOf n obj age o b w ≡ Damaged
-      unfolding leadOf
-      lead-other s h = simp (le-ltb w 2 big, lt-ltb (w - 2) n inside, ne-eqb (obj (w - 2)) 0 (λ e. absurd (omega arith)), ne-eqb (obj (w - 2)) o h)
-
       module _ (some : 0 < obj (w - 2)) (own : obj (w - 2) ≡ o) where
         record-of : isOf o (obj (w - 2)) ≡ true
         record-of = rw (ne-eqb (obj (w - 2)) 0 (λ e. absurd (omega arith))) (eq-eqb (obj (w - 2)) o own)
-
-        pub lead-newer : b ≤ age (w - 2) → leadOf n obj age o b w ≡ Damaged
-        unfolding leadOf
-        lead-newer h = rw (le-ltb w 2 big, lt-ltb (w - 2) n inside, record-of, le-ltb (age (w - 2)) b h)
 
         pub lead-older : age (w - 2) < b → leadOf n obj age o b w ≡ Record (record { 0 = w - 2 }) (age (w - 2))
         unfolding leadOf

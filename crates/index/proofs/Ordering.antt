@@ -30,6 +30,18 @@ use Rattle.index.specs.Chains.{objects, top}
 pub never : {A : Type 0} → false ≡ true → A
 never e = let z : _≡_ {A = ℕ} 0 1 = cc in absurd (omega arith)
 
+-- a header has no chunk number
+pub header-chunk : (k : Kind) → isHeader k ≡ true → chunkOf k ≡ 0
+header-chunk Blank e = refl
+header-chunk Foreign e = refl
+header-chunk Damaged e = refl
+header-chunk (Header s o t p z m) e = refl
+header-chunk (Data s o c n) e = let z : _≡_ {A = ℕ} 0 1 = cc in absurd (omega arith)
+
+-- a page with a chunk number is no header
+pub chunk-headless : (k : Kind) → (chunkOf k ≡ 0 → ⊥) → isHeader k ≡ false
+chunk-headless k h = by-test (isHeader k) _ (λ t. absurd (h (header-chunk k t))) (λ t. t)
+
 -- the order is by sequence, then by page
 pub order-less : (s t x y : ℕ) → x < 4294967296 → y < 4294967296 → orderOf s x < orderOf t y → (s ≤ t) × (s ≡ t → x < y)
 order-less s t x y hx hy h = (omega arith, λ e. omega arith)
@@ -79,14 +91,7 @@ module _ (l : Layout) (dump : List ℕ) where
   header-test i h =
       by-test (eqb (chunkOf (kindAt l dump i)) 0) _
       (λ t. rw (t, header-of i h (eqb-true _ _ t)))
-      (λ t. rw t (headless (kindAt l dump i) (eqb-false _ _ t)))
-    where
-      headless : (k : Kind) → (chunkOf k ≡ 0 → ⊥) → isHeader k ≡ false
-      headless Blank z = refl
-      headless Foreign z = refl
-      headless Damaged z = refl
-      headless (Header s o t p y m) z = absurd (z refl)
-      headless (Data s o c n) z = refl
+      (λ t. rw t (chunk-headless (kindAt l dump i) (eqb-false _ _ t)))
 
   -- no record is as new as the top
   pub age-below : (i : ℕ) → i < 4294967296 → ageOf (kindAt l dump) i < top

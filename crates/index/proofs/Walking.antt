@@ -24,6 +24,7 @@ use Rattle.index.specs.Walks.{headless, behind, cutBy, metWith, reach, f
 use Rattle.index.specs.declared.walks.Met.{Met}
 use Rattle.index.specs.declared.walks.Met.the-variants.{Copy, Nothing}
 use Rattle.index.specs.declared.walks.Reached.the-variants as reached
+use Rattle.index.proofs.Ordering.{chunk-headless}
 use Rattle.index.proofs.Through.{through, through-at, through-idle}
 use Rattle.index.proofs.Parting.{Fails}
 
@@ -35,19 +36,7 @@ other-none Damaged h d = refl
 other-none (Header s o t p z m) h d = let z : _≡_ {A = ℕ} 0 1 = cc in absurd (omega arith)
 other-none (Data s o c n) h d = let z : _≡_ {A = ℕ} 0 1 = cc in absurd (omega arith)
 
--- a header has no chunk number
-pub header-chunk : (k : Kind) → isHeader k ≡ true → chunkOf k ≡ 0
-header-chunk Blank e = refl
-header-chunk Foreign e = refl
-header-chunk Damaged e = refl
-header-chunk (Header s o t p z m) e = refl
-header-chunk (Data s o c n) e = let z : _≡_ {A = ℕ} 0 1 = cc in absurd (omega arith)
-
--- a page with a chunk number is no header
-pub chunk-headless : (k : Kind) → (chunkOf k ≡ 0 → ⊥) → isHeader k ≡ false
-chunk-headless k h = by-test (isHeader k) _ (λ t. absurd (h (header-chunk k t))) (λ t. t)
-
--- a record is a header or data
+-- a record that is no header is data
 module _ (o : ℕ) (pos : 0 < o) where
   no-record : {A : Type 0} → 0 ≡ o → A
   no-record e = absurd (omega arith)
@@ -58,13 +47,6 @@ module _ (o : ℕ) (pos : 0 < o) where
   other-data Damaged e f = no-record e
   other-data (Header s i t p z m) e f = sym f
   other-data (Data s i c n) e f = refl
-
-  pub other-header : (k : Kind) → objectOf k ≡ o → isData k ≡ false → isHeader k ≡ true
-  other-header Blank e f = no-record e
-  other-header Foreign e f = no-record e
-  other-header Damaged e f = no-record e
-  other-header (Header s i t p z m) e f = refl
-  other-header (Data s i c n) e f = sym f
 
 module _ (says : ℕ → Kind) where
   abbrev pub headed : ℕ → Bool

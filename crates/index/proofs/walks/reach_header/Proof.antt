@@ -11,8 +11,7 @@ use Rattle.index.specs.Walks.{recordsIn, reach, under}
 use Rattle.index.specs.declared.chains.Step.the-variants.{End, Damaged, Record}
 use Rattle.index.specs.declared.walks.Met.the-variants.{Nothing}
 use Rattle.index.proofs.Links.{Stepped, stepped}
-use Rattle.index.proofs.Ordering.{header-of}
-use Rattle.index.proofs.Walking.{chunk-headless}
+use Rattle.index.proofs.Ordering.{chunk-headless, header-of}
 use Rattle.index.proofs.Turning.{reach-nothing, reach-headless, reach-broken, reach-here, reach-on, count-on, few}
 use Rattle.index.proofs.walks.reach_header.Statement.{statement}
 use Rattle.index.proofs.walks.reach_header.Tie as tie
