@@ -3,14 +3,20 @@ ghost use mathlib.Core.Path.{_≡_};
 ghost use Prim.Native.Nat.{_+_, _≤_, _<_};
 ghost use lib.ListN.{length};
 ghost use Rattle.page.specs.Kinds.{kindAt};
+ghost use Rattle.chunk.specs.Lookups.{fileAt};
 ghost use Rattle.chunk.specs.Answers.{readBy, partBy, bufferBy};
 ghost use Rattle.index.specs.Cells.{cellsFor};
 ghost use Rattle.index.specs.Chains.{top};
-ghost use Rattle.index.specs.Walks.{recordsIn, sizeReached, copyFrom, chunkReached, chunkWalk, under, below, sizeIn, chunkIn, sizeFrom, chunkFrom};
+ghost use Rattle.index.specs.Walks.{recordsIn, sizeFile, sizeAt, sizeWalk, copyFrom, chunkReached, chunkWalk, under, below, sizeIn, chunkIn, sizeFrom, chunkFrom};
 use crate::cells::cells_for;
+use crate::cells::link_at;
+use crate::chains::Step;
+use crate::chains::TOP;
+use crate::chains::follow;
 use crate::slots::first_link;
 use crate::walks::Met;
 use crate::walks::Reached;
+use crate::walks::end_with;
 use crate::walks::reach_header;
 use crate::walks::seek_below;
 use chunk::answer::File;
@@ -34,18 +40,49 @@ use page::number::ObjectId;
 use page::number::PageNumber;
 use page::refusal::Refusal;
 
-// The size by what a walk reached.
-fn size_reached(dump: &[u8], l: Layout, r: Reached) -> Sized
-    ensures { λ s. ⌜ s ≡ sizeReached (kindAt l (now (dump .entry))) r ⌝ }
+// The size of the file whose newest header is page h, with the largest end of the data above it.
+fn size_file(dump: &[u8], l: Layout, h: PageNumber, end: u64, visits: u32) -> Sized
+    ensures { λ s. ⌜ s ≡ sizeFile (sizeAt (kindAt l (now (dump .entry))) (h .0) end) (fileAt (kindAt l (now (dump .entry)) (h .0)) (h .0) visits) ⌝ }
 {
-    match r {
-        Reached::Refused(no, visits) => Sized::Refused(no, visits),
-        Reached::Header(h, end, _, visits) => {
-            let k = kind_at(dump, l, h);
-            let f = file_at(k, h, visits);
-            match f {
-                File::Refused(no, v) => Sized::Refused(no, v),
-                File::Header(_, v) => Sized::Size(larger(file_size(k) as u64, end), v),
+    let k = kind_at(dump, l, h);
+    let f = file_at(k, h, visits);
+    match f {
+        File::Refused(no, v) => Sized::Refused(no, v),
+        File::Header(_, v) => Sized::Size(larger(file_size(k) as u64, end), v),
+    }
+}
+
+// The size of object o by its chain from a link. A chunk lookup reaches the header by a walk of its own: a size lookup notes no copies.
+fn size_walk(dump: &[u8], l: Layout, pages: u32, cells: &[u32], o: ObjectId, first: u32) -> Sized
+    requires { ⌜ 0 < o .0 ⌝ }
+    requires { ⌜ cellsFor pages ≤ length (now cells) ⌝ }
+    ensures { λ r. ⌜ r ≡ sizeWalk (kindAt l (now (dump .entry))) (l .«data») (under (kindAt l (now (dump .entry))) pages (now (cells .entry)) (o .0) top first) ⌝ }
+{
+    let mut link = first;
+    let mut bound = TOP;
+    let mut end: u64 = 0;
+    let mut visits: u32 = 0;
+    loop {
+        let step = follow(dump, l, pages, o, bound, link);
+        match step {
+            Step::End => {
+                if visits == 0 {
+                    return Sized::Refused(Refusal::NoObject, 0);
+                }
+                return Sized::Refused(Refusal::NoHeader, visits);
+            }
+            Step::Damaged => {
+                return Sized::Refused(Refusal::IndexDamaged, 0);
+            }
+            Step::Record(q, age, chunk, count) => {
+                visits += 1;
+                if chunk.0 == 0 {
+                    return size_file(dump, l, q, end, visits);
+                }
+                end = end_with(end, l.data, chunk, count);
+                bound = age;
+                let i = link_at(q);
+                link = cells[i];
             }
         }
     }
@@ -62,12 +99,7 @@ fn size_in(dump: &[u8], l: Layout, pages: u32, cells: &[u32], o: ObjectId) -> Si
     if o.is_bad() {
         return Sized::Refused(Refusal::BadObject, 0);
     }
-    let first = first_link(cells, o, pages);
-    size_reached(
-        dump,
-        l,
-        reach_header(dump, l, pages, cells, o, ChunkNumber(0), first),
-    )
+    size_walk(dump, l, pages, cells, o, first_link(cells, o, pages))
 }
 
 // The size of object o of a dump of a named layout in blocks of k, by its index.

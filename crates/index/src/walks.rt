@@ -64,7 +64,7 @@ impl Met {
 }
 
 // The largest end of data, with a page of this chunk number and byte count too.
-fn end_with(end: u64, data: u16, chunk: ChunkNumber, count: u32) -> u64
+pub(crate) fn end_with(end: u64, data: u16, chunk: ChunkNumber, count: u32) -> u64
     ensures { λ r. ⌜ r ≡ max (baseOf «data» (chunk .0) + count) end ⌝ }
 {
     larger(base_of(data, chunk) + (count as u64), end)

@@ -2,7 +2,7 @@
 ghost use mathlib.Core.Path.{_≡_};
 ghost use Prim.Native.Nat.{_+_, _<_, _^_};
 ghost use mathlib.Core.Bool.{true};
-ghost use Rattle.page.specs.Layouts.{layoutAt, byNumber, bySizes, hasSizes, numberOf, numberOfSizes, pageLen, tagPlace, roomy};
+ghost use Rattle.page.specs.Layouts.{layoutOf, layoutAt, byNumber, bySizes, hasSizes, numberOf, numberOfSizes, pageLen, tagPlace, roomy};
 ghost use Rattle.page.specs.Lengths.{blockFits, lengthFits, wholeBlocks, pageIn, openedOf, placedOf};
 use crate::number::PageNumber;
 use crate::refusal::Refusal;
@@ -194,11 +194,12 @@ impl Layout {
         (n.0 as usize) * size + size <= len
     }
 
-    // How many pages a dump of this length has in blocks of k, or why it is refused.
-    pub fn opened(self, len: usize, k: u32) -> Opened
-        ensures { λ r. ⌜ r ≡ openedOf self k len ⌝ }
+    // What `opened` answers. Every call begins with it, and the sizes one by one travel in registers.
+    fn opened_of(data: u16, spare: u16, tag: u16, len: usize, k: u32) -> Opened
+        ensures { λ r. ⌜ r ≡ openedOf (layoutOf «data» spare tag) k len ⌝ }
     {
-        if Layout::COUNT <= self.number() {
+        let l = Layout { data, spare, tag };
+        if Layout::COUNT <= l.number() {
             return Opened::Refused(Refusal::BadLayout);
         }
         if !Layout::block_fits(k) {
@@ -207,10 +208,17 @@ impl Layout {
         if !Layout::length_fits(len) {
             return Opened::Refused(Refusal::BadLength);
         }
-        if !self.divides(len, k) {
+        if !l.divides(len, k) {
             return Opened::Refused(Refusal::BadLength);
         }
-        Opened::Pages((len / self.page_len()) as u32)
+        Opened::Pages((len / l.page_len()) as u32)
+    }
+
+    // How many pages a dump of this length has in blocks of k, or why it is refused.
+    pub fn opened(self, len: usize, k: u32) -> Opened
+        ensures { λ r. ⌜ r ≡ openedOf self k len ⌝ }
+    {
+        Layout::opened_of(self.data, self.spare, self.tag, len, k)
     }
 
     // Whether page n is in a dump of this length in blocks of k, or why not.

@@ -5,7 +5,7 @@ use borrow.Author.Needs.{needs}
 use borrow.Author.Tests.{lt-ltb, le-ltb}
 use Rattle.page.proofs.Within.{object-within}
 use Rattle.index.specs.Chains.{chain}
-use Rattle.index.specs.Walks.{sizeWalk, sizeIn}
+use Rattle.index.specs.Walks.{sizeIn}
 use Rattle.index.proofs.Probing.{first-link}
 use Rattle.index.proofs.lookups.size_in.Statement.{statement}
 use Rattle.index.proofs.lookups.size_in.Tie as tie
@@ -20,28 +20,27 @@ returns-2 c =
     let b = c .before .before in
     rw (← b .before .cells-for .ensures, le-ltb _ _ (b .if1 .left), ← c .before .is-bad .ensures, c .if2 .taken)
 
-reach-header-requires : tie.Need-reach-header-requires
-reach-header-requires c κs =
+size-walk-requires : tie.Need-size-walk-requires
+size-walk-requires c κs =
     let d = c .before in
     let w = object-within _ (rw (d .before .is-bad .ensures) at (d .if2 .left)) in
     (w .least, omega (arith, d .before .before .if1 .left, d .before .before .before .cells-for .ensures))
 
 returns-3 : tie.Need-returns-3
-unfolding sizeIn sizeWalk chain
+unfolding sizeIn chain
 returns-3 c =
     let r = c .before in
-    let d = r .before .before in
+    let d = r .before in
     let b = d .before .before in
-    let first = r .before .first-link .ensures ∙ first-link _ _ _ (b .before .before .before .before .pre) (omega (arith, b .if1 .left, b .before .cells-for .ensures)) in
+    let first = r .first-link .ensures ∙ first-link _ _ _ (b .before .before .before .before .pre) (omega (arith, b .if1 .left, b .before .cells-for .ensures)) in
     rw (
       ← b .before .cells-for .ensures,
       le-ltb _ _ (b .if1 .left),
       ← d .before .is-bad .ensures,
       d .if2 .left,
       ← first,
-      ← r .reach-header .ensures,
     )
-    (c .size-reached .ensures)
+    (c .size-walk .ensures)
 
 pub size-in-spec : {M : Type 1} → statement M
-size-in-spec = tie.close (tie.spec (search needs) returns (search needs) returns-2 (search needs) reach-header-requires (search needs) returns-3)
+size-in-spec = tie.close (tie.spec (search needs) returns (search needs) returns-2 (search needs) size-walk-requires returns-3)
