@@ -106,7 +106,7 @@ fn size_in(dump: &[u8], l: Layout, pages: u32, cells: &[u32], o: ObjectId) -> Si
 pub fn size(dump: &[u8], l: Layout, k: u32, cells: &[u32], o: ObjectId) -> Sized
     ensures { λ r. ⌜ r ≡ sizeFrom l k (now (dump .entry)) (now (cells .entry)) (o .0) ⌝ }
 {
-    let p = l.opened(dump.len(), k);
+    let p = Layout::opened_of(l.data, l.spare, l.tag, dump.len(), k);
     match p {
         Opened::Refused(r) => Sized::Refused(r, 0),
         Opened::Pages(pages) => size_in(dump, l, pages, cells, o),
@@ -237,7 +237,7 @@ fn chunk_in(
 pub fn chunk(dump: &[u8], l: Layout, k: u32, cells: &[u32], o: ObjectId, c: ChunkNumber) -> Looked
     ensures { λ r. ⌜ r ≡ chunkFrom l k (now (dump .entry)) (now (cells .entry)) (o .0) (c .0) ⌝ }
 {
-    let p = l.opened(dump.len(), k);
+    let p = Layout::opened_of(l.data, l.spare, l.tag, dump.len(), k);
     match p {
         Opened::Refused(r) => Looked::Refused(r, 0, 0),
         Opened::Pages(pages) => chunk_in(dump, l, pages, cells, o, c),

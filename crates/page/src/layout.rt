@@ -194,8 +194,8 @@ impl Layout {
         (n.0 as usize) * size + size <= len
     }
 
-    // What `opened` answers. Every call begins with it, and the sizes one by one travel in registers.
-    fn opened_of(data: u16, spare: u16, tag: u16, len: usize, k: u32) -> Opened
+    // What `opened` answers, by sizes: for short calls, since numbers travel in registers and a layout is copied to memory.
+    pub fn opened_of(data: u16, spare: u16, tag: u16, len: usize, k: u32) -> Opened
         ensures { λ r. ⌜ r ≡ openedOf (layoutOf «data» spare tag) k len ⌝ }
     {
         let l = Layout { data, spare, tag };

@@ -9,15 +9,15 @@ use Rattle.index.proofs.lookups.chunk.Tie as tie
 chunk-in-requires : tie.Need-chunk-in-requires
 chunk-in-requires c κs =
     let p = c .before in
-    opened-some _ _ _ _ (sym (p .before .before .opened .ensures) ∙ p .p2 .given .1)
+    opened-some _ _ _ _ (sym (p .before .before .opened-of .ensures) ∙ p .p2 .given .1)
 
 returns : tie.Need-returns
 unfolding chunkFrom
-returns c = let p = c .before in rw (← p .before .before .opened .ensures, p .p .given .1)
+returns c = let p = c .before in rw (← p .before .before .opened-of .ensures, p .p .given .1)
 
 returns-2 : tie.Need-returns-2
 unfolding chunkFrom
-returns-2 c = let p = c .before .before in rw (← p .before .before .opened .ensures, p .p2 .given .1) (c .chunk-in .ensures)
+returns-2 c = let p = c .before .before in rw (← p .before .before .opened-of .ensures, p .p2 .given .1) (c .chunk-in .ensures)
 
 pub chunk-spec : {M : Type 1} → statement M
 chunk-spec = tie.close (tie.spec (search needs) (search needs) (search needs) chunk-in-requires returns returns-2)
