@@ -16,6 +16,7 @@ pub mod Visiting
 pub mod Bridging
 pub mod Placing
 pub mod Turning
+pub mod Standing
 pub mod Ahead
 pub mod Looking
 pub mod Listing

@@ -13,7 +13,7 @@ use Rattle.page.specs.Lengths.{openedOf}
 use Rattle.page.specs.Refusals.{refusalNumber}
 use Rattle.page.specs.declared.kind.Kind.{Kind}
 use Rattle.page.specs.declared.layout.Layout.{Layout}
-use Rattle.page.specs.declared.refusal.Refusal.the-variants.{ShortIndex, IndexDamaged}
+use Rattle.page.specs.declared.refusal.Refusal.the-variants.{NoHeader, ShortIndex, IndexDamaged}
 use Rattle.chunk.specs.Records.{isGone}
 use Rattle.chunk.specs.Answers.{onPages}
 use Rattle.chunk.specs.Live.{idsOf}
@@ -54,7 +54,7 @@ unfoldable pub standing : Ask → (ℕ → Kind) → Reached → Standing
 standing ask says (reached.Header h end m v) = pick (isAny ask) Asked (pick (isGone (says (h .0))) Other Asked)
 standing ask says (reached.Refused r v) =
     pick (eqb (refusalNumber r) (refusalNumber IndexDamaged)) Damaged
-    (pick (isAny ask && eqb (refusalNumber r) 7) Asked
+    (pick (isAny ask && eqb (refusalNumber r) (refusalNumber NoHeader)) Asked
     Other)
 
 -- whether slot s of n is used, and is where its object is looked for

@@ -1,19 +1,26 @@
 // Listing the live objects and counting all objects by the index, on any cells: slot by slot, down each object's chain to its newest header.
 ghost use mathlib.Core.Path.{_≡_};
+ghost use mathlib.Core.Bool.{_&&_};
 ghost use Prim.Native.Nat.{_+_, _≤_, _<_};
 ghost use lib.ListN.{length};
+ghost use Rattle.page.specs.Choice.{pick};
 ghost use Rattle.page.specs.Search.{count};
 ghost use Rattle.page.specs.Kinds.{kindAt};
 ghost use Rattle.chunk.specs.Records.{isGone};
 ghost use Rattle.chunk.specs.Lists.{inFront, wordsBy};
 ghost use Rattle.index.specs.Cells.{cellsFor, keys};
+ghost use Rattle.index.specs.Chains.{top};
+ghost use Rattle.index.specs.Walks.{reach, under};
 ghost use Rattle.index.specs.Listing.{isAny, standing, standingAt, askedSlot, slotIds, tallyIn, listIn, objectsIn, idsFrom, listFrom, objectsFrom};
+ghost use Rattle.index.specs.declared.walks.Met.the-variants.{Nothing};
 use crate::cells::cells_for;
 use crate::cells::key_at;
+use crate::cells::link_at;
+use crate::chains::Step;
+use crate::chains::TOP;
+use crate::chains::follow;
 use crate::slots::first_of;
 use crate::slots::slot_of;
-use crate::walks::Reached;
-use crate::walks::reach_header;
 use chunk::answer::Listed;
 use chunk::answer::Tallied;
 use chunk::list::insert_id;
@@ -23,8 +30,8 @@ use page::kind::Kind;
 use page::kind::kind_at;
 use page::layout::Layout;
 use page::layout::Opened;
-use page::number::ChunkNumber;
 use page::number::ObjectId;
+use page::number::PageNumber;
 use page::refusal::Refusal;
 
 // Which objects are asked for: the live ones, or any that has a record.
@@ -72,33 +79,66 @@ fn is_gone(k: Kind) -> bool
     parent.0 == DELETED
 }
 
-// How an object stands by what the walk to its newest header reached.
-fn standing_of(dump: &[u8], l: Layout, ask: Ask, r: Reached) -> Standing
-    ensures { λ s. ⌜ s ≡ standing ask (kindAt l (now (dump .entry))) r ⌝ }
+// How an object stands by its newest header, page q.
+fn headed_standing(dump: &[u8], l: Layout, ask: Ask, q: PageNumber) -> Standing
+    ensures { λ s. ⌜ s ≡ pick (isAny ask) Standing.Asked (pick (isGone (kindAt l (now (dump .entry)) (q .0))) Standing.Other Standing.Asked) ⌝ }
 {
-    let any = ask.is_any();
-    match r {
-        Reached::Refused(no, _) => {
-            let number = no.number();
-            if number == 13 {
+    if ask.is_any() {
+        return Standing::Asked;
+    }
+    if is_gone(kind_at(dump, l, q)) {
+        return Standing::Other;
+    }
+    Standing::Asked
+}
+
+// How an object without a header stands, whose chain has a record or none.
+fn headless_standing(ask: Ask, met: bool) -> Standing
+    ensures { λ s. ⌜ s ≡ pick (isAny ask && met) Standing.Asked Standing.Other ⌝ }
+{
+    if !ask.is_any() {
+        return Standing::Other;
+    }
+    if met {
+        return Standing::Asked;
+    }
+    Standing::Other
+}
+
+// How object o stands by its chain from a link: its newest header decides. What lookups gather on the way there is not needed here.
+fn standing_from(
+    dump: &[u8],
+    l: Layout,
+    ask: Ask,
+    pages: u32,
+    cells: &[u32],
+    o: ObjectId,
+    first: u32,
+) -> Standing
+    requires { ⌜ cellsFor pages ≤ length (now cells) ⌝ }
+    ensures { λ s. ⌜ s ≡ standing ask (kindAt l (now (dump .entry))) (reach (kindAt l (now (dump .entry))) (l .«data») 0 0 Nothing 0 (under (kindAt l (now (dump .entry))) pages (now (cells .entry)) (o .0) top first)) ⌝ }
+{
+    let mut link = first;
+    let mut bound = TOP;
+    let mut met = false;
+    loop {
+        let step = follow(dump, l, pages, o, bound, link);
+        match step {
+            Step::End => {
+                return headless_standing(ask, met);
+            }
+            Step::Damaged => {
                 return Standing::Damaged;
             }
-            if !any {
-                return Standing::Other;
+            Step::Record(q, age, chunk, _) => {
+                if chunk.0 == 0 {
+                    return headed_standing(dump, l, ask, q);
+                }
+                met = true;
+                bound = age;
+                let i = link_at(q);
+                link = cells[i];
             }
-            if number == 7 {
-                return Standing::Asked;
-            }
-            Standing::Other
-        }
-        Reached::Header(h, _, _, _) => {
-            if any {
-                return Standing::Asked;
-            }
-            if is_gone(kind_at(dump, l, h)) {
-                return Standing::Other;
-            }
-            Standing::Asked
         }
     }
 }
@@ -132,12 +172,7 @@ fn standing_at(
         return Standing::Other;
     }
     let first = first_of(cells, o, s);
-    standing_of(
-        dump,
-        l,
-        ask,
-        reach_header(dump, l, pages, cells, o, ChunkNumber(0), first),
-    )
+    standing_from(dump, l, ask, pages, cells, o, first)
 }
 
 // How many slots have objects that are asked for, if no damaged link is met.

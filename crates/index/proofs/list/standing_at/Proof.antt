@@ -18,8 +18,7 @@ returns c =
 returns-2 : tie.Need-returns-2
 unfolding standingAt chain first
 returns-2 c =
-    let r = c .before in
-    let f = r .before in
+    let f = c .before in
     let d = f .before in
     let h = d .before in
     let b = h .before .before .before in
@@ -30,9 +29,8 @@ returns-2 c =
       eq-eqb _ _ (d .if1 .left),
       d .if1 .left,
       ← f .first-of .ensures,
-      ← r .reach-header .ensures,
     )
-    (c .standing-of .ensures)
+    (c .standing-from .ensures)
 
 pub standing-at-spec : {M : Type 1} → statement M
-standing-at-spec = tie.close (tie.spec (search needs) returns (search needs) (search needs) (search needs) returns-2)
+standing-at-spec = tie.close (tie.spec (search needs) returns (search needs) (search needs) returns-2)
