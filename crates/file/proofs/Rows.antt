@@ -22,11 +22,8 @@ use Rattle.index.specs.Chains.{Trace, rec}
 use Rattle.index.specs.Walks.{isShown, found, cutBy}
 use Rattle.index.specs.Ahead.{stillNewest, ahead}
 use Rattle.index.proofs.Ahead.{ahead-here, ahead-on}
+use Rattle.index.proofs.Ordering.{never}
 use Rattle.file.specs.Table.{whereWord, validWord, wordsOf, rowAt, rows, noted, closedWord, Closed}
-
--- a test comes out one way only
-never : {A : Type 0} → false ≡ true → A
-never e = let z : _≡_ {A = ℕ} 0 1 = cc in absurd (omega arith)
 
 -- a row that has these words
 pub record Has (t : List ℕ) (c place valid : ℕ) : Type 0 where

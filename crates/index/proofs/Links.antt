@@ -15,7 +15,7 @@ use Rattle.page.proofs.Layouts.{and-left, and-right}
 use Rattle.page.proofs.Searching.{by-test}
 use Rattle.chunk.specs.Records.{objectOf, sequenceOf, ageOf, chunkOf, countOf}
 use Rattle.index.specs.Cells.{word, linkAt, linkTo}
-use Rattle.index.specs.Chains.{objects, isOf, Lead, End, Damaged, Record, stepOf, stepAt, Trace, clean, broken, rec, by, leadOf, traceBy, trace}
+use Rattle.index.specs.Chains.{objects, isRecordOf, Lead, End, Damaged, Record, stepOf, stepAt, Trace, clean, broken, rec, by, leadOf, traceBy, trace}
 use Rattle.index.specs.declared.chains.Step.{Step}
 use Rattle.index.specs.declared.chains.Step.the-variants as step
 
@@ -36,13 +36,13 @@ module _ (n : ℕ) (obj age : ℕ → ℕ) (o b w : ℕ) where
 
   pub known : Known (leadOf n obj age o b w)
   unfolding leadOf
-  known = go (ltb w 2) (ltb (w - 2) n) (isOf o (obj (w - 2))) (ltb (age (w - 2)) b) refl refl refl refl
+  known = go (ltb w 2) (ltb (w - 2) n) (isRecordOf o (obj (w - 2))) (ltb (age (w - 2)) b) refl refl refl refl
     where
       go :
           (t₁ t₂ t₃ t₄ : Bool) →
           ltb w 2 ≡ t₁ →
           ltb (w - 2) n ≡ t₂ →
-          isOf o (obj (w - 2)) ≡ t₃ →
+          isRecordOf o (obj (w - 2)) ≡ t₃ →
           ltb (age (w - 2)) b ≡ t₄ →
           Known (pick t₁ End (pick t₂ (pick t₃ (pick t₄ (Record (record { 0 = w - 2 }) (age (w - 2))) Damaged) Damaged) Damaged))
       go true t₂ t₃ t₄ e₁ e₂ e₃ e₄ = ltb-true _ _ e₁
@@ -70,7 +70,7 @@ module _ (n : ℕ) (obj age : ℕ → ℕ) (o b w : ℕ) where
       lead-none h = simp (le-ltb w 2 big, lt-ltb (w - 2) n inside, eq-eqb (obj (w - 2)) 0 h)
 
       module _ (some : 0 < obj (w - 2)) (own : obj (w - 2) ≡ o) where
-        record-of : isOf o (obj (w - 2)) ≡ true
+        record-of : isRecordOf o (obj (w - 2)) ≡ true
         record-of = rw (ne-eqb (obj (w - 2)) 0 (λ e. absurd (omega arith))) (eq-eqb (obj (w - 2)) o own)
 
         pub lead-older : age (w - 2) < b → leadOf n obj age o b w ≡ Record (record { 0 = w - 2 }) (age (w - 2))

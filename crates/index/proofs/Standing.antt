@@ -1,7 +1,7 @@
 -- What a listing sees of a chain: the newest header, or that there is none, and then whether a record was met. So what the walk of a lookup
 -- gathers on the way down, the end of the data, the copy and the visits, does not change how an object stands.
 use Prim.Native.Nat.{ℕ, _+_}
-use mathlib.Core.Bool.{Bool, true, false, not, _&&_}
+use mathlib.Core.Bool.{Bool, true, false, not}
 use mathlib.Core.Path.{_≡_, refl, _∙_}
 use native.Mathlib.Omega.{arith}
 use lib.Dec.{eqb}
@@ -10,29 +10,21 @@ use Rattle.page.specs.Choice.{pick}
 use Rattle.page.specs.Counts.{isHeader}
 use Rattle.page.specs.declared.kind.Kind.{Kind}
 use Rattle.page.proofs.Searching.{by-test}
-use Rattle.chunk.specs.Records.{isGone}
 use Rattle.index.specs.Chains.{Trace, clean, broken, rec}
 use Rattle.index.specs.Walks.{metWith, reach}
-use Rattle.index.specs.Listing.{isAny, standing}
+use Rattle.index.specs.Listing.{headedStanding, headlessStanding, standing}
 use Rattle.index.specs.declared.list.Ask.{Ask}
 use Rattle.index.specs.declared.list.Standing.{Standing}
-use Rattle.index.specs.declared.list.Standing.the-variants.{Asked, Damaged, Other}
+use Rattle.index.specs.declared.list.Standing.the-variants.{Damaged}
 use Rattle.index.specs.declared.walks.Met.{Met}
 use Rattle.index.proofs.Walking.{endBy}
 
 module _ (ask : Ask) (says : ℕ → Kind) where
-  -- how an object stands by its newest header, and without one
-  abbrev pub headedStanding : ℕ → Standing
-  headedStanding q = pick (isAny ask) Asked (pick (isGone (says q)) Other Asked)
-
-  abbrev pub headlessStanding : Bool → Standing
-  headlessStanding met = pick (isAny ask && met) Asked Other
-
   -- how it stands by its chain from here on, where a record was met before or not
   unfoldable pub stands : Bool → Trace → Standing
-  stands met clean = headlessStanding met
+  stands met clean = headlessStanding ask met
   stands met broken = Damaged
-  stands met (rec q t) = pick (isHeader (says q)) (headedStanding q) (stands true t)
+  stands met (rec q t) = pick (isHeader (says q)) (headedStanding ask (says q)) (stands true t)
 
   -- by what the walk of a lookup reaches it stands so
   pub stands-reach :
@@ -50,7 +42,7 @@ module _ (ask : Ask) (says : ℕ → Kind) where
 
   -- one turn of the walk, by what the next link leads to
   module _ (met : Bool) (t : Trace) where
-    pub stands-end : t ≡ clean → stands met t ≡ headlessStanding met
+    pub stands-end : t ≡ clean → stands met t ≡ headlessStanding ask met
     unfolding stands
     stands-end e = rw e
 
@@ -59,7 +51,7 @@ module _ (ask : Ask) (says : ℕ → Kind) where
     stands-broken e = rw e
 
     module _ (q : ℕ) (rest : Trace) (e : t ≡ rec q rest) where
-      pub stands-here : isHeader (says q) ≡ true → stands met t ≡ headedStanding q
+      pub stands-here : isHeader (says q) ≡ true → stands met t ≡ headedStanding ask (says q)
       unfolding stands
       stands-here h = rw e (rw h)
 

@@ -53,8 +53,8 @@ by Damaged rest = broken
 by (Record q a) rest = rec (q .0) (rest (q .0) a)
 
 -- whether a page that has the object x is a record of object o
-abbrev pub isOf : ℕ → ℕ → Bool
-isOf o x = not (eqb x 0) && eqb x o
+abbrev pub isRecordOf : ℕ → ℕ → Bool
+isRecordOf o x = not (eqb x 0) && eqb x o
 
 module _ (n : ℕ) (obj age : ℕ → ℕ) where
   -- where the link w leads in the chain of object o below the age b. It is damaged if it leads outside the dump, to a page that is not a
@@ -63,7 +63,7 @@ module _ (n : ℕ) (obj age : ℕ → ℕ) where
   leadOf o b w =
       pick (ltb w 2) End
       (pick (ltb (w - 2) n)
-      (pick (isOf o (obj (w - 2)))
+      (pick (isRecordOf o (obj (w - 2)))
       (pick (ltb (age (w - 2)) b) (Record (record { 0 = w - 2 }) (age (w - 2)))
       Damaged) Damaged) Damaged)
 

@@ -48,14 +48,20 @@ isDamaged Asked = false
 isDamaged Damaged = true
 isDamaged Other = false
 
--- how an object stands by what the walk to its newest header reached. It is live if that header's parent is neither 3 nor 4; one with data
--- records only is an object too
+-- how an object stands by its newest header, which says k: it is live if the parent is neither 3 nor 4
+abbrev pub headedStanding : Ask → Kind → Standing
+headedStanding ask k = pick (isAny ask) Asked (pick (isGone k) Other Asked)
+
+-- and without a header: one with data records only is an object too
+abbrev pub headlessStanding : Ask → Bool → Standing
+headlessStanding ask hasRecord = pick (isAny ask && hasRecord) Asked Other
+
+-- how an object stands by what the walk to its newest header reached
 unfoldable pub standing : Ask → (ℕ → Kind) → Reached → Standing
-standing ask says (reached.Header h end m v) = pick (isAny ask) Asked (pick (isGone (says (h .0))) Other Asked)
+standing ask says (reached.Header h end m v) = headedStanding ask (says (h .0))
 standing ask says (reached.Refused r v) =
     pick (eqb (refusalNumber r) (refusalNumber IndexDamaged)) Damaged
-    (pick (isAny ask && eqb (refusalNumber r) (refusalNumber NoHeader)) Asked
-    Other)
+    (headlessStanding ask (eqb (refusalNumber r) (refusalNumber NoHeader)))
 
 -- whether slot s of n is used, and is where its object is looked for
 abbrev pub isOwn : List ℕ → ℕ → ℕ → Bool

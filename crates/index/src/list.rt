@@ -1,9 +1,7 @@
 // Listing the live objects and counting all objects by the index, on any cells: slot by slot, down each object's chain to its newest header.
 ghost use mathlib.Core.Path.{_≡_};
-ghost use mathlib.Core.Bool.{_&&_};
 ghost use Prim.Native.Nat.{_+_, _≤_, _<_};
 ghost use lib.ListN.{length};
-ghost use Rattle.page.specs.Choice.{pick};
 ghost use Rattle.page.specs.Search.{count};
 ghost use Rattle.page.specs.Kinds.{kindAt};
 ghost use Rattle.chunk.specs.Records.{isGone};
@@ -11,7 +9,7 @@ ghost use Rattle.chunk.specs.Lists.{inFront, wordsBy};
 ghost use Rattle.index.specs.Cells.{cellsFor, keys};
 ghost use Rattle.index.specs.Chains.{top};
 ghost use Rattle.index.specs.Walks.{reach, under};
-ghost use Rattle.index.specs.Listing.{isAny, standing, standingAt, askedSlot, slotIds, tallyIn, listIn, objectsIn, idsFrom, listFrom, objectsFrom};
+ghost use Rattle.index.specs.Listing.{isAny, headedStanding, headlessStanding, standing, standingAt, askedSlot, slotIds, tallyIn, listIn, objectsIn, idsFrom, listFrom, objectsFrom};
 ghost use Rattle.index.specs.declared.walks.Met.the-variants.{Nothing};
 use crate::cells::cells_for;
 use crate::cells::key_at;
@@ -81,7 +79,7 @@ fn is_gone(k: Kind) -> bool
 
 // How an object stands by its newest header, page q.
 fn headed_standing(dump: &[u8], l: Layout, ask: Ask, q: PageNumber) -> Standing
-    ensures { λ s. ⌜ s ≡ pick (isAny ask) Standing.Asked (pick (isGone (kindAt l (now (dump .entry)) (q .0))) Standing.Other Standing.Asked) ⌝ }
+    ensures { λ s. ⌜ s ≡ headedStanding ask (kindAt l (now (dump .entry)) (q .0)) ⌝ }
 {
     if ask.is_any() {
         return Standing::Asked;
@@ -94,7 +92,7 @@ fn headed_standing(dump: &[u8], l: Layout, ask: Ask, q: PageNumber) -> Standing
 
 // How an object without a header stands, whose chain has a record or none.
 fn headless_standing(ask: Ask, met: bool) -> Standing
-    ensures { λ s. ⌜ s ≡ pick (isAny ask && met) Standing.Asked Standing.Other ⌝ }
+    ensures { λ s. ⌜ s ≡ headlessStanding ask met ⌝ }
 {
     if !ask.is_any() {
         return Standing::Other;
