@@ -55,12 +55,13 @@ impl<'d> Objects<'d> {
         Table::of(answer, words)
     }
 
-    /// The bytes of a live file, in pieces.
-    pub fn contents<'t>(&self, table: &'t Table) -> impl Iterator<Item = &'t [u8]>
-    where
-        'd: 't,
-    {
-        table.pieces(self.dump, self.layout)
+    /// Hands on the bytes of a live file, in pieces, until one is not taken.
+    pub fn hand_on<E>(
+        &self,
+        table: &Table,
+        take: impl FnMut(&'d [u8]) -> Result<(), E>,
+    ) -> Result<(), E> {
+        table.hand_on(self.dump, self.layout, take)
     }
 
     /// The ids of the live objects, ascending, or the number of the refusal.

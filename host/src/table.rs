@@ -1,8 +1,6 @@
 //! The table of a file: its size, and for each chunk where its copy is and how
 //! many bytes of it are valid, as the library writes them.
 
-use std::iter;
-
 use crate::ffi::{self, TableAnswer};
 use crate::refusal::INDEX_DAMAGED;
 
@@ -60,41 +58,45 @@ impl Table {
         })
     }
 
-    /// The file in pieces, none empty: the valid bytes of each copy as a part
-    /// of the dump, at its chunk's place, and zeros everywhere else.
-    pub fn pieces<'t>(
-        &'t self,
-        dump: &'t [u8],
+    /// Hands on the file in pieces, none empty: the valid bytes of each copy as
+    /// a part of the dump, at its chunk's place, and zeros everywhere else. A
+    /// plain loop, since a copy is fetched from memory while the next row is
+    /// looked at: an iterator that kept its place between pieces was slower.
+    pub fn hand_on<'d, E>(
+        &self,
+        dump: &'d [u8],
         layout: u32,
-    ) -> impl Iterator<Item = &'t [u8]> + 't {
+        mut take: impl FnMut(&'d [u8]) -> Result<(), E>,
+    ) -> Result<(), E> {
         let data = u64::from(ffi::layout(layout).data);
-        let copies = self.rows().filter(|row| row.page().is_some());
-        let copies = copies.map(move |row| {
-            let bytes = ffi::row(dump, layout, row.place, row.valid).of(dump);
-            (u64::from(row.n - 1) * data, bytes)
-        });
-        let end: &[u8] = &[];
         let mut done = 0;
-        let pieces = copies
-            .chain(iter::once((self.size, end)))
-            .flat_map(move |(at, bytes)| {
-                let gap = at - done;
-                done = at + bytes.len() as u64;
-                zeros(gap).chain(iter::once(bytes))
-            });
-        pieces.filter(|piece| !piece.is_empty())
+        for row in self.rows().filter(|row| row.page().is_some()) {
+            let at = u64::from(row.n - 1) * data;
+            zeros(at - done, &mut take)?;
+            let bytes = ffi::row(dump, layout, row.place, row.valid).of(dump);
+            if !bytes.is_empty() {
+                take(bytes)?;
+            }
+            done = at + bytes.len() as u64;
+        }
+        zeros(self.size - done, &mut take)
     }
 }
 
-/// So many zeros, in pieces.
-fn zeros<'z>(count: u64) -> impl Iterator<Item = &'z [u8]> {
-    let most = ZEROS.len() as u64;
-    let starts = (0..count).step_by(ZEROS.len());
-    starts.map(move |at| &ZEROS[..most.min(count - at) as usize])
+/// Hands on so many zeros.
+fn zeros<'z, E>(mut count: u64, take: &mut impl FnMut(&'z [u8]) -> Result<(), E>) -> Result<(), E> {
+    while count > 0 {
+        let some = count.min(ZEROS.len() as u64);
+        take(&ZEROS[..some as usize])?;
+        count -= some;
+    }
+    Ok(())
 }
 
 #[cfg(test)]
 mod tests {
+    use std::convert::Infallible;
+
     use crate::objects::Objects;
 
     /// A header alone that says 4 GiB: there are no more rows than numbers for
@@ -106,7 +108,11 @@ mod tests {
         let objects = Objects::of(&page, 6, 1).unwrap();
         let table = objects.table(257).unwrap();
         assert_eq!(table.rows().count(), 0xF_FFFF);
-        let lengths = objects.contents(&table).map(|piece| piece.len() as u64);
-        assert_eq!(lengths.sum::<u64>(), u64::from(u32::MAX));
+        let mut length = 0;
+        let counted = objects.hand_on(&table, |piece| {
+            length += piece.len() as u64;
+            Ok::<_, Infallible>(())
+        });
+        assert_eq!((counted, length), (Ok(()), u64::from(u32::MAX)));
     }
 }

@@ -19,14 +19,18 @@ pub fn read(
 ) -> Result<(), Failure> {
     let (objects, asked) = opened.objects()?;
     let table = opened.done(objects.table(object.number), asked.of(object))?;
-    let pieces = objects.contents(&table);
+    let write = |out: &mut dyn Write, written: &mut dyn FnMut(u64)| {
+        let mut batch = Batch::new(out, written);
+        objects.hand_on(&table, |piece| batch.push(piece))?;
+        batch.write()
+    };
     let Some(name) = name else {
-        return Ok(write_all(pieces, out, |_| ())?);
+        return Ok(write(out, &mut |_| ())?);
     };
     let unwritten = |error| Failure::File(format!("cannot write {}: {error}", name.display()));
     let mut file = File::create_new(name).map_err(unwritten)?;
     let mut progress = Progress::new(table.size);
-    let written = write_all(pieces, &mut file, |n| progress.show(n));
+    let written = write(&mut file, &mut |count| progress.show(count));
     progress.end();
     if written.is_err() {
         let _ = fs::remove_file(name);
@@ -34,33 +38,51 @@ pub fn read(
     written.map_err(unwritten)
 }
 
-/// Writes pieces that are not empty as they stand, many at once, and says how
-/// many bytes are written.
-fn write_all<'p>(
-    mut pieces: impl Iterator<Item = &'p [u8]>,
-    out: &mut impl Write,
-    mut written: impl FnMut(u64),
-) -> io::Result<()> {
-    let mut done = 0;
-    loop {
-        let batch = pieces.by_ref().take(AT_ONCE).map(IoSlice::new);
-        let mut batch: Vec<_> = batch.collect();
-        let mut left = &mut batch[..];
-        if left.is_empty() {
-            return Ok(());
+/// Pieces that are not empty, to be written as they stand, many at once.
+struct Batch<'p, 'w> {
+    pieces: Vec<IoSlice<'p>>,
+    out: &'w mut dyn Write,
+    /// How many bytes are written, and who is told.
+    done: u64,
+    written: &'w mut dyn FnMut(u64),
+}
+
+impl<'p, 'w> Batch<'p, 'w> {
+    fn new(out: &'w mut dyn Write, written: &'w mut dyn FnMut(u64)) -> Batch<'p, 'w> {
+        Batch {
+            pieces: Vec::with_capacity(AT_ONCE),
+            out,
+            done: 0,
+            written,
         }
+    }
+
+    /// Adds a piece, and writes if there are enough.
+    fn push(&mut self, piece: &'p [u8]) -> io::Result<()> {
+        self.pieces.push(IoSlice::new(piece));
+        match self.pieces.len() {
+            AT_ONCE => self.write(),
+            _ => Ok(()),
+        }
+    }
+
+    /// Writes what is left.
+    fn write(&mut self) -> io::Result<()> {
+        let mut left = &mut self.pieces[..];
         while !left.is_empty() {
-            match out.write_vectored(left) {
+            match self.out.write_vectored(left) {
                 Ok(0) => return Err(ErrorKind::WriteZero.into()),
                 Ok(count) => {
-                    done += count as u64;
+                    self.done += count as u64;
                     IoSlice::advance_slices(&mut left, count);
                 }
                 Err(error) if error.kind() == ErrorKind::Interrupted => {}
                 Err(error) => return Err(error),
             }
         }
-        written(done);
+        self.pieces.clear();
+        (self.written)(self.done);
+        Ok(())
     }
 }
 
@@ -119,6 +141,16 @@ mod tests {
         }
     }
 
+    fn write_all(
+        bytes: &[u8],
+        out: &mut dyn Write,
+        written: &mut dyn FnMut(u64),
+    ) -> io::Result<()> {
+        let mut batch = Batch::new(out, written);
+        bytes.chunks(4).try_for_each(|piece| batch.push(piece))?;
+        batch.write()
+    }
+
     #[test]
     fn pieces_are_written_whole() {
         let bytes: Vec<u8> = (0..=255).cycle().take(5 * AT_ONCE + 7).collect();
@@ -130,12 +162,12 @@ mod tests {
                 interrupted,
             };
             let mut shown = 0;
-            write_all(bytes.chunks(4), &mut slow, |count| shown = count).unwrap();
+            write_all(&bytes, &mut slow, &mut |count| shown = count).unwrap();
             assert!(slow.taken == bytes);
             assert_eq!(shown, bytes.len() as u64);
         }
         let mut full: &mut [u8] = &mut [0; 9];
-        let error = write_all(bytes.chunks(4), &mut full, |_| ()).unwrap_err();
+        let error = write_all(&bytes, &mut full, &mut |_| ()).unwrap_err();
         assert_eq!(error.kind(), ErrorKind::WriteZero);
     }
 }

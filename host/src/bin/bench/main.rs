@@ -21,6 +21,7 @@ mod sleuthkit;
 mod timing;
 
 use std::cell::RefCell;
+use std::convert::Infallible;
 use std::env;
 use std::fs;
 use std::hint::black_box;
@@ -186,9 +187,13 @@ fn contents(library: &Objects<'_>, plain: &Index<'_>, rounds: usize) {
 }
 
 /// Hands on the pieces of a live file.
-fn read(library: &Objects<'_>, object: u32, hand_on: impl FnMut(&[u8])) {
+fn read(library: &Objects<'_>, object: u32, mut hand_on: impl FnMut(&[u8])) {
     if let Ok(table) = library.table(object) {
-        library.contents(&table).for_each(hand_on);
+        let taken = library.hand_on(&table, |piece| {
+            hand_on(piece);
+            Ok::<_, Infallible>(())
+        });
+        let Ok(()) = taken;
     }
 }
 
