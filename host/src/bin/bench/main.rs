@@ -36,6 +36,9 @@ use dump::LONG;
 use index::Index;
 
 const BLOCK: u32 = 64;
+/// How many times over the sizes of all files are asked for: once is too short
+/// to be timed.
+const TIMES: usize = 10;
 
 fn main() -> ExitCode {
     let mut numbers = env::args().skip(1).map(|word| word.parse::<usize>());
@@ -116,11 +119,12 @@ fn lookups(dump: &[u8], layout: u32, rounds: usize) {
         },
     );
     let files = || LONG..LONG + dump::SHORT;
+    let often = || (0..TIMES).flat_map(|_| files());
     timing::compare(
         "size",
         rounds,
-        || files().map(|object| library.size(object).size).sum::<u64>(),
-        || files().filter_map(|object| plain.size(object)).sum::<u64>(),
+        || often().map(|object| library.size(object).size).sum::<u64>(),
+        || often().filter_map(|object| plain.size(object)).sum::<u64>(),
     );
     let chunks = || (1..200).map(|i| i * 100);
     timing::compare(
