@@ -46,6 +46,12 @@ memory first. Numbers are decimal, or hexadecimal with 0x.
 
 /// Carries out the command that was typed.
 pub fn run(arguments: &Arguments, out: &mut impl Write) -> Result<(), Failure> {
+    if arguments.help {
+        return Ok(out.write_all(USAGE.as_bytes())?);
+    }
+    if arguments.version {
+        return Ok(writeln!(out, "lohenarr {}", env!("CARGO_PKG_VERSION"))?);
+    }
     let Some((command, rest)) = arguments.words.split_first() else {
         return Err(Failure::Usage("no command".to_string()));
     };
@@ -55,8 +61,7 @@ pub fn run(arguments: &Arguments, out: &mut impl Write) -> Result<(), Failure> {
         return Err(Failure::Usage("--out goes with read alone".to_string()));
     }
     match (name, rest) {
-        ("help" | "--help", []) => Ok(out.write_all(USAGE.as_bytes())?),
-        ("--version", []) => Ok(writeln!(out, "lohenarr {}", env!("CARGO_PKG_VERSION"))?),
+        ("help", []) => Ok(out.write_all(USAGE.as_bytes())?),
         ("report", [dump]) => report::report(&open(dump)?, out),
         ("find", [dump]) => find::find(&open(dump)?, out),
         ("pages", [dump]) => pages::pages(&open(dump)?, out),
@@ -89,9 +94,7 @@ pub fn run(arguments: &Arguments, out: &mut impl Write) -> Result<(), Failure> {
         }
         ("script", [dump]) => script::script(&open(dump)?, OsStr::new("-"), out),
         ("script", [dump, script]) => script::script(&open(dump)?, script, out),
-        ("help" | "--help" | "--version", _) => {
-            Err(Failure::Usage(format!("{name} takes no arguments")))
-        }
+        ("help", _) => Err(Failure::Usage("help takes no arguments".to_string())),
         _ => Err(Failure::Usage(match form(name) {
             Some(form) => format!("{name} is typed as: {form}"),
             None => format!("there is no command {}", command.display()),
