@@ -11,7 +11,7 @@ mod report;
 mod script;
 mod size;
 
-use std::ffi::OsStr;
+use std::ffi::{OsStr, OsString};
 use std::io::Write;
 
 use crate::arguments::{Arguments, Typed};
@@ -88,12 +88,14 @@ pub fn run(arguments: &Arguments, out: &mut impl Write) -> Result<(), Failure> {
             let object = Typed::number("OBJECT", object)?;
             extract::extract(&open(dump)?, Some(&object), out)
         }
-        ("script", [dump]) if dump == "-" => {
-            let both = "dump and script cannot both be standard input";
-            Err(Failure::Usage(both.to_string()))
+        ("script", [dump] | [dump, _]) => {
+            let script = rest.get(1).map_or(OsStr::new("-"), OsString::as_os_str);
+            if dump == "-" && script == "-" {
+                let both = "dump and script cannot both be standard input";
+                return Err(Failure::Usage(both.to_string()));
+            }
+            script::script(&open(dump)?, script, out)
         }
-        ("script", [dump]) => script::script(&open(dump)?, OsStr::new("-"), out),
-        ("script", [dump, script]) => script::script(&open(dump)?, script, out),
         ("help", _) => Err(Failure::Usage("help takes no arguments".to_string())),
         _ => Err(Failure::Usage(match form(name) {
             Some(form) => format!("{name} is typed as: {form}"),
