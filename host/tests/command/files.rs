@@ -88,11 +88,16 @@ fn a_closed_pipe_ends_quietly() {
 #[test]
 fn an_output_that_is_full() {
     let folder = dumps::folder("full");
-    let full = File::create("/dev/full").unwrap();
-    let mut command = lohenarr(&folder);
-    command.args(["pages", "W", "--block", "4"]).stdout(full);
-    let output = command.output().unwrap();
-    assert_eq!(output.status.code(), Some(2));
+    for (dump, refused) in [("W", false), ("empty", true)] {
+        let full = File::create("/dev/full").unwrap();
+        let mut command = lohenarr(&folder);
+        command.args(["pages", dump, "--block", "4"]).stdout(full);
+        let output = command.output().unwrap();
+        let said = String::from_utf8(output.stderr).unwrap();
+        assert!(said.contains("lohenarr: cannot write the answer"), "{said}");
+        assert_eq!(said.contains("refused: "), refused, "{said}");
+        assert_eq!(output.status.code(), Some(2), "{dump}");
+    }
 }
 
 /// Reading changes neither a dump's bytes nor when it was last written.
