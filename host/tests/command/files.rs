@@ -38,6 +38,19 @@ fn a_dump_from_standard_input() {
     assert_eq!(output.status.code(), Some(1));
 }
 
+/// The fewest pages of 512/16 that are too long; the file has no blocks on disk.
+#[test]
+fn a_dump_that_is_too_long() {
+    let folder = dumps::folder("long");
+    let file = File::create(folder.join("long")).unwrap();
+    file.set_len(1_073_741_856).unwrap();
+    let mut command = lohenarr(&folder);
+    let output = command.args(["find", "long", "--block", "1"]).output();
+    let output = output.unwrap();
+    assert_eq!(output.stdout, b"refusal=2\n");
+    assert_eq!(output.status.code(), Some(1));
+}
+
 #[test]
 fn a_file_is_read() {
     let folder = dumps::folder("read");
