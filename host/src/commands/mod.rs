@@ -20,6 +20,7 @@ use crate::ffi;
 use crate::map::Dump;
 use crate::objects::Objects;
 use crate::refusal::{meaning, Asked};
+use crate::script::request::FORMS;
 
 pub const USAGE: &str = "\
 usage: lohenarr COMMAND DUMP [ARGUMENTS] [--layout P/S/T] [--block K] [--copy]
@@ -47,7 +48,7 @@ memory first. Numbers are decimal, or hexadecimal with 0x.
 /// Carries out the command that was typed.
 pub fn run(arguments: &Arguments, out: &mut impl Write) -> Result<(), Failure> {
     if arguments.help {
-        return Ok(out.write_all(USAGE.as_bytes())?);
+        return help(out);
     }
     if arguments.version {
         return Ok(writeln!(out, "lohenarr {}", env!("CARGO_PKG_VERSION"))?);
@@ -61,7 +62,7 @@ pub fn run(arguments: &Arguments, out: &mut impl Write) -> Result<(), Failure> {
         return Err(Failure::Usage("--out goes with read alone".to_string()));
     }
     match (name, rest) {
-        ("help", []) => Ok(out.write_all(USAGE.as_bytes())?),
+        ("help", []) => help(out),
         ("report", [dump]) => report::report(&open(dump)?, out),
         ("find", [dump]) => find::find(&open(dump)?, out),
         ("pages", [dump]) => pages::pages(&open(dump)?, out),
@@ -102,6 +103,11 @@ pub fn run(arguments: &Arguments, out: &mut impl Write) -> Result<(), Failure> {
             None => format!("there is no command {}", command.display()),
         })),
     }
+}
+
+/// How commands and the requests of a script are typed.
+fn help(out: &mut impl Write) -> Result<(), Failure> {
+    Ok(write!(out, "{USAGE}\n{FORMS}")?)
 }
 
 /// How a command is typed, by its line of the usage.
