@@ -67,8 +67,9 @@ fn a_file_is_read() {
     let output = read(&["--copy", "--out", "new"]);
     assert_eq!((output.stdout, output.stderr), (vec![], vec![]));
     assert_eq!(fs::read(folder.join("new")).unwrap(), file());
-    let output = read(&["--out", "new"]);
-    assert_eq!(output.status.code(), Some(2), "new is there already");
+    let output = read(&["--out", "W"]);
+    assert_eq!(output.status.code(), Some(2), "W is there already");
+    assert_eq!(fs::read(folder.join("W")).unwrap(), W);
     let output = read(&["--out", "no/new"]);
     assert_eq!(output.status.code(), Some(2), "there is no folder for it");
 }
@@ -87,15 +88,17 @@ fn a_refused_read_makes_no_file() {
 #[test]
 fn a_closed_pipe_ends_quietly() {
     let folder = dumps::folder("pipe");
-    let mut command = lohenarr(&folder);
-    command.args(["pages", "-", "--block", "4"]);
-    command.stdin(Stdio::piped()).stdout(Stdio::piped());
-    let mut child = command.stderr(Stdio::piped()).spawn().unwrap();
-    drop(child.stdout.take());
-    child.stdin.take().unwrap().write_all(W).unwrap();
-    let output = child.wait_with_output().unwrap();
-    assert_eq!(output.stderr, b"");
-    assert_eq!(output.status.code(), Some(0));
+    for typed in [&["pages", "-"][..], &["read", "-", "257"]] {
+        let mut command = lohenarr(&folder);
+        command.args(typed).args(["--block", "4"]);
+        command.stdin(Stdio::piped()).stdout(Stdio::piped());
+        let mut child = command.stderr(Stdio::piped()).spawn().unwrap();
+        drop(child.stdout.take());
+        child.stdin.take().unwrap().write_all(W).unwrap();
+        let output = child.wait_with_output().unwrap();
+        assert_eq!(output.stderr, b"", "{typed:?}");
+        assert_eq!(output.status.code(), Some(0), "{typed:?}");
+    }
 }
 
 #[test]
