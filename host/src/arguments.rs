@@ -99,6 +99,8 @@ pub struct Arguments {
     pub layout: Option<Typed>,
     pub block: Option<Typed>,
     pub copy: bool,
+    pub help: bool,
+    pub version: bool,
     pub out: Option<OsString>,
 }
 
@@ -124,7 +126,8 @@ impl Arguments {
                 }
                 "--out" => once(option, &mut arguments.out, value()?)?,
                 "--copy" => arguments.copy = true,
-                "--help" | "--version" => arguments.words.push(word),
+                "--help" => arguments.help = true,
+                "--version" => arguments.version = true,
                 _ if option.starts_with("--") => return Err(no_option(option)),
                 _ => arguments.words.push(word),
             }

@@ -18,14 +18,8 @@ fn main() -> ExitCode {
     match done {
         Ok(()) | Err(Failure::ClosedPipe) => ExitCode::SUCCESS,
         Err(Failure::Refused(number, meaning)) => refused(out, number, &meaning),
-        Err(Failure::Usage(reason)) => {
-            say(&format!("lohenarr: {reason}\ntry: lohenarr help"));
-            ExitCode::from(2)
-        }
-        Err(Failure::File(reason)) => {
-            say(&format!("lohenarr: {reason}"));
-            ExitCode::from(2)
-        }
+        Err(Failure::Usage(reason)) => failed(&format!("{reason}\ntry: lohenarr help")),
+        Err(Failure::File(reason)) => failed(&reason),
     }
 }
 
@@ -34,9 +28,15 @@ fn refused(mut out: impl Write, number: u32, meaning: &str) -> ExitCode {
     let written = writeln!(out, "refusal={number}").and_then(|()| out.flush());
     say(&format!("refused: {number} {}: {meaning}", name(number)));
     match written.map_err(Failure::from) {
-        Ok(()) | Err(Failure::ClosedPipe) => ExitCode::from(1),
-        Err(_) => ExitCode::from(2),
+        Err(Failure::File(reason)) => failed(&reason),
+        _ => ExitCode::from(1),
     }
+}
+
+/// Why nothing was answered, on standard error.
+fn failed(reason: &str) -> ExitCode {
+    say(&format!("lohenarr: {reason}"));
+    ExitCode::from(2)
 }
 
 /// A line on standard error, if anyone listens.

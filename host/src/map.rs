@@ -1,5 +1,6 @@
 //! A dump as a slice of bytes: a file mapped read-only, or bytes read into
-//! memory. A dump is never opened for writing.
+//! memory. A dump is never opened for writing. Of an input that is longer than
+//! any dump no more is taken than makes it too long.
 
 use std::ffi::{c_int, c_void, OsStr};
 use std::fs::File;
@@ -32,12 +33,15 @@ impl Dump {
     }
 }
 
-/// All bytes of an input. Of one that is longer than any dump, enough to be
-/// refused for it.
+/// The fewest bytes that are longer than any dump.
+fn too_long() -> u64 {
+    ffi::most_bytes() as u64 + 1
+}
+
+/// The bytes of an input.
 fn copied(input: impl Read) -> io::Result<Vec<u8>> {
     let mut bytes = Vec::new();
-    let enough = ffi::most_bytes() as u64 + 1;
-    input.take(enough).read_to_end(&mut bytes)?;
+    input.take(too_long()).read_to_end(&mut bytes)?;
     Ok(bytes)
 }
 
@@ -75,7 +79,7 @@ extern "C" {
 
 impl Map {
     pub fn of(file: &File) -> io::Result<Map> {
-        let len = usize::try_from(file.metadata()?.len()).map_err(io::Error::other)?;
+        let len = file.metadata()?.len().min(too_long()) as usize;
         if len == 0 {
             let at = ptr::NonNull::dangling().as_ptr();
             return Ok(Map { at, len });

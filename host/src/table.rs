@@ -7,11 +7,12 @@ use crate::refusal::INDEX_DAMAGED;
 /// How many words a row has.
 const WORDS: usize = 2;
 
-/// The first word of a row: none of a copy, and of one the page and 2.
+/// The first word of a row: 0 for a hole, `DAMAGED` where the index is damaged
+/// before a copy is met, and else the page and `FIRST_PAGE`.
 const DAMAGED: u32 = 1;
 const FIRST_PAGE: u32 = 2;
 
-/// What a gap is filled with, a piece at a time.
+/// What a file has where no copy is, a piece at a time.
 static ZEROS: [u8; 1 << 16] = [0; 1 << 16];
 
 pub struct Table {

@@ -11,7 +11,7 @@ mod report;
 mod script;
 mod size;
 
-use std::ffi::OsStr;
+use std::ffi::{OsStr, OsString};
 use std::io::Write;
 
 use crate::arguments::{Arguments, Typed};
@@ -20,6 +20,7 @@ use crate::ffi;
 use crate::map::Dump;
 use crate::objects::Objects;
 use crate::refusal::{meaning, Asked};
+use crate::script::request::FORMS;
 
 pub const USAGE: &str = "\
 usage: lohenarr COMMAND DUMP [ARGUMENTS] [--layout P/S/T] [--block K] [--copy]
@@ -46,6 +47,12 @@ memory first. Numbers are decimal, or hexadecimal with 0x.
 
 /// Carries out the command that was typed.
 pub fn run(arguments: &Arguments, out: &mut impl Write) -> Result<(), Failure> {
+    if arguments.help {
+        return help(out);
+    }
+    if arguments.version {
+        return Ok(writeln!(out, "lohenarr {}", env!("CARGO_PKG_VERSION"))?);
+    }
     let Some((command, rest)) = arguments.words.split_first() else {
         return Err(Failure::Usage("no command".to_string()));
     };
@@ -55,8 +62,7 @@ pub fn run(arguments: &Arguments, out: &mut impl Write) -> Result<(), Failure> {
         return Err(Failure::Usage("--out goes with read alone".to_string()));
     }
     match (name, rest) {
-        ("help" | "--help", []) => Ok(out.write_all(USAGE.as_bytes())?),
-        ("--version", []) => Ok(writeln!(out, "lohenarr {}", env!("CARGO_PKG_VERSION"))?),
+        ("help", []) => help(out),
         ("report", [dump]) => report::report(&open(dump)?, out),
         ("find", [dump]) => find::find(&open(dump)?, out),
         ("pages", [dump]) => pages::pages(&open(dump)?, out),
@@ -83,20 +89,25 @@ pub fn run(arguments: &Arguments, out: &mut impl Write) -> Result<(), Failure> {
             let object = Typed::number("OBJECT", object)?;
             extract::extract(&open(dump)?, Some(&object), out)
         }
-        ("script", [dump]) if dump == "-" => {
-            let both = "dump and script cannot both be standard input";
-            Err(Failure::Usage(both.to_string()))
+        ("script", [dump] | [dump, _]) => {
+            let script = rest.get(1).map_or(OsStr::new("-"), OsString::as_os_str);
+            if dump == "-" && script == "-" {
+                let both = "dump and script cannot both be standard input";
+                return Err(Failure::Usage(both.to_string()));
+            }
+            script::script(&open(dump)?, script, out)
         }
-        ("script", [dump]) => script::script(&open(dump)?, OsStr::new("-"), out),
-        ("script", [dump, script]) => script::script(&open(dump)?, script, out),
-        ("help" | "--help" | "--version", _) => {
-            Err(Failure::Usage(format!("{name} takes no arguments")))
-        }
+        ("help", _) => Err(Failure::Usage("help takes no arguments".to_string())),
         _ => Err(Failure::Usage(match form(name) {
             Some(form) => format!("{name} is typed as: {form}"),
             None => format!("there is no command {}", command.display()),
         })),
     }
+}
+
+/// How commands and the requests of a script are typed.
+fn help(out: &mut impl Write) -> Result<(), Failure> {
+    Ok(write!(out, "{USAGE}\n{FORMS}")?)
 }
 
 /// How a command is typed, by its line of the usage.

@@ -19,8 +19,8 @@ pub fn read(
 ) -> Result<(), Failure> {
     let (objects, asked) = opened.objects()?;
     let table = opened.done(objects.table(object.number), asked.of(object))?;
-    let write = |out: &mut dyn Write, written: &mut dyn FnMut(u64)| {
-        let mut batch = Batch::new(out, written);
+    let write = |out: &mut dyn Write, tell: &mut dyn FnMut(u64)| {
+        let mut batch = Batch::new(out, tell);
         objects.hand_on(&table, |piece| batch.push(piece))?;
         batch.write()
     };
@@ -43,17 +43,17 @@ struct Batch<'p, 'w> {
     pieces: Vec<IoSlice<'p>>,
     out: &'w mut dyn Write,
     /// How many bytes are written, and who is told.
-    done: u64,
-    written: &'w mut dyn FnMut(u64),
+    written: u64,
+    tell: &'w mut dyn FnMut(u64),
 }
 
 impl<'p, 'w> Batch<'p, 'w> {
-    fn new(out: &'w mut dyn Write, written: &'w mut dyn FnMut(u64)) -> Batch<'p, 'w> {
+    fn new(out: &'w mut dyn Write, tell: &'w mut dyn FnMut(u64)) -> Batch<'p, 'w> {
         Batch {
             pieces: Vec::with_capacity(AT_ONCE),
             out,
-            done: 0,
-            written,
+            written: 0,
+            tell,
         }
     }
 
@@ -66,14 +66,14 @@ impl<'p, 'w> Batch<'p, 'w> {
         }
     }
 
-    /// Writes what is left.
+    /// Writes the pieces that were added since the last time, whole.
     fn write(&mut self) -> io::Result<()> {
         let mut left = &mut self.pieces[..];
         while !left.is_empty() {
             match self.out.write_vectored(left) {
                 Ok(0) => return Err(ErrorKind::WriteZero.into()),
                 Ok(count) => {
-                    self.done += count as u64;
+                    self.written += count as u64;
                     IoSlice::advance_slices(&mut left, count);
                 }
                 Err(error) if error.kind() == ErrorKind::Interrupted => {}
@@ -81,7 +81,7 @@ impl<'p, 'w> Batch<'p, 'w> {
             }
         }
         self.pieces.clear();
-        (self.written)(self.done);
+        (self.tell)(self.written);
         Ok(())
     }
 }
@@ -89,6 +89,7 @@ impl<'p, 'w> Batch<'p, 'w> {
 /// How much of a file is written, on standard error where that is a terminal.
 struct Progress {
     size: u64,
+    /// The percentage that stands there, 0 for none; nothing without a terminal.
     shown: Option<u64>,
 }
 
@@ -107,7 +108,7 @@ impl Progress {
     }
 
     fn end(&self) {
-        if self.shown.is_some() {
+        if self.shown.is_some_and(|shown| shown > 0) {
             let _ = writeln!(io::stderr());
         }
     }
@@ -141,12 +142,9 @@ mod tests {
         }
     }
 
-    fn write_all(
-        bytes: &[u8],
-        out: &mut dyn Write,
-        written: &mut dyn FnMut(u64),
-    ) -> io::Result<()> {
-        let mut batch = Batch::new(out, written);
+    /// Writes bytes in pieces of four.
+    fn write_all(bytes: &[u8], out: &mut dyn Write, tell: &mut dyn FnMut(u64)) -> io::Result<()> {
+        let mut batch = Batch::new(out, tell);
         bytes.chunks(4).try_for_each(|piece| batch.push(piece))?;
         batch.write()
     }

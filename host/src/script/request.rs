@@ -2,6 +2,24 @@
 
 use crate::arguments::{layout, long, number};
 
+/// How each request is typed, for the help.
+pub const FORMS: &str = "\
+The requests of a script, one a line; # starts a comment:
+
+  find K            pages L K         counts L K        kind L K PAGE
+  header L K PAGE   dsize L K OBJ     dchunk L K OBJ N  dpart L K OBJ N
+  dlist L K WORDS   dobjects L K      dread L K OBJ N BUFLEN
+  row L PLACE VALID
+
+  start L K WORDS   add PAGE          size OBJ          chunk OBJ N
+  part OBJ N        list WORDS        objects           read OBJ N BUFLEN
+  table OBJ WORDS   fill X            poke I X          peek I
+
+L is P/S/T or a layout's number. The first ask the dump alone, the others an
+index: under the layout and K of the last accepted start, with as many words.
+k=, words= and layout= behind the arguments of such a call give it others.
+";
+
 /// A layout by its number in the table, and K.
 #[derive(Clone, Copy, Debug, PartialEq, Eq)]
 pub struct On {
@@ -299,6 +317,25 @@ mod tests {
             assert_eq!(request(line), Ok(Some(expected)), "{line}");
         }
         assert_eq!(parse("\n# none\n   \n"), Ok(vec![]));
+    }
+
+    /// Each form with a 1 for each argument is a request, and with one more none.
+    #[test]
+    fn requests_are_typed_as_the_help_says() {
+        let forms = FORMS.lines().filter_map(|line| line.strip_prefix("  "));
+        let forms = forms.flat_map(|line| line.split("  ").map(str::trim));
+        let mut count = 0;
+        for form in forms.filter(|form| !form.is_empty()) {
+            let one = |word: &str| match word.contains(char::is_uppercase) {
+                true => "1".to_string(),
+                false => word.to_string(),
+            };
+            let line = form.split(' ').map(one).collect::<Vec<_>>().join(" ");
+            assert!(matches!(request(&line), Ok(Some(_))), "{form}");
+            assert!(request(&format!("{line} 1")).is_err(), "{form}");
+            count += 1;
+        }
+        assert_eq!(count, 24);
     }
 
     #[test]

@@ -38,6 +38,19 @@ fn a_dump_from_standard_input() {
     assert_eq!(output.status.code(), Some(1));
 }
 
+/// The fewest pages of 512/16 that are too long; the file has no blocks on disk.
+#[test]
+fn a_dump_that_is_too_long() {
+    let folder = dumps::folder("long");
+    let file = File::create(folder.join("long")).unwrap();
+    file.set_len(1_073_741_856).unwrap();
+    let mut command = lohenarr(&folder);
+    let output = command.args(["find", "long", "--block", "1"]).output();
+    let output = output.unwrap();
+    assert_eq!(output.stdout, b"refusal=2\n");
+    assert_eq!(output.status.code(), Some(1));
+}
+
 #[test]
 fn a_file_is_read() {
     let folder = dumps::folder("read");
@@ -54,8 +67,9 @@ fn a_file_is_read() {
     let output = read(&["--copy", "--out", "new"]);
     assert_eq!((output.stdout, output.stderr), (vec![], vec![]));
     assert_eq!(fs::read(folder.join("new")).unwrap(), file());
-    let output = read(&["--out", "new"]);
-    assert_eq!(output.status.code(), Some(2), "new is there already");
+    let output = read(&["--out", "W"]);
+    assert_eq!(output.status.code(), Some(2), "W is there already");
+    assert_eq!(fs::read(folder.join("W")).unwrap(), W);
     let output = read(&["--out", "no/new"]);
     assert_eq!(output.status.code(), Some(2), "there is no folder for it");
 }
@@ -74,25 +88,32 @@ fn a_refused_read_makes_no_file() {
 #[test]
 fn a_closed_pipe_ends_quietly() {
     let folder = dumps::folder("pipe");
-    let mut command = lohenarr(&folder);
-    command.args(["pages", "-", "--block", "4"]);
-    command.stdin(Stdio::piped()).stdout(Stdio::piped());
-    let mut child = command.stderr(Stdio::piped()).spawn().unwrap();
-    drop(child.stdout.take());
-    child.stdin.take().unwrap().write_all(W).unwrap();
-    let output = child.wait_with_output().unwrap();
-    assert_eq!(output.stderr, b"");
-    assert_eq!(output.status.code(), Some(0));
+    for typed in [&["pages", "-"][..], &["read", "-", "257"]] {
+        let mut command = lohenarr(&folder);
+        command.args(typed).args(["--block", "4"]);
+        command.stdin(Stdio::piped()).stdout(Stdio::piped());
+        let mut child = command.stderr(Stdio::piped()).spawn().unwrap();
+        drop(child.stdout.take());
+        child.stdin.take().unwrap().write_all(W).unwrap();
+        let output = child.wait_with_output().unwrap();
+        assert_eq!(output.stderr, b"", "{typed:?}");
+        assert_eq!(output.status.code(), Some(0), "{typed:?}");
+    }
 }
 
 #[test]
 fn an_output_that_is_full() {
     let folder = dumps::folder("full");
-    let full = File::create("/dev/full").unwrap();
-    let mut command = lohenarr(&folder);
-    command.args(["pages", "W", "--block", "4"]).stdout(full);
-    let output = command.output().unwrap();
-    assert_eq!(output.status.code(), Some(2));
+    for (dump, refused) in [("W", false), ("empty", true)] {
+        let full = File::create("/dev/full").unwrap();
+        let mut command = lohenarr(&folder);
+        command.args(["pages", dump, "--block", "4"]).stdout(full);
+        let output = command.output().unwrap();
+        let said = String::from_utf8(output.stderr).unwrap();
+        assert!(said.contains("lohenarr: cannot write the answer"), "{said}");
+        assert_eq!(said.contains("refused: "), refused, "{said}");
+        assert_eq!(output.status.code(), Some(2), "{dump}");
+    }
 }
 
 /// Reading changes neither a dump's bytes nor when it was last written.

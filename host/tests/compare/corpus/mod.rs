@@ -48,29 +48,28 @@ pub fn cases() -> Vec<Case> {
 fn case(path: &Path) -> Case {
     let text = fs::read_to_string(path).unwrap();
     let (first, shown) = text.split_once('\n').unwrap();
-    let number = |line, key| value(line, key).and_then(|word| word.parse().ok());
-    let file = |line| {
-        Some(File {
-            object: number(line, "object")? as u32,
-            size: number(line, "size")?,
-            sha256: value(line, "sha256")?.to_string(),
-        })
+    let object = |line| value(line, "object").parse().unwrap();
+    let file = |line| File {
+        object: object(line),
+        size: value(line, "size").parse().unwrap(),
+        sha256: value(line, "sha256").to_string(),
     };
-    let objects = shown.lines().filter_map(|line| number(line, "object"));
+    let files = shown.lines().filter(|line| value(line, "type") == "1");
     Case {
         name: path.file_stem().unwrap().to_string_lossy().into_owned(),
         dump: dump(path),
-        layout: value(first, "layout").unwrap().to_string(),
-        block: value(first, "block").unwrap().to_string(),
-        objects: objects.map(|object: u64| object as u32).collect(),
-        files: shown.lines().filter_map(file).collect(),
+        layout: value(first, "layout").to_string(),
+        block: value(first, "block").to_string(),
+        objects: shown.lines().map(object).collect(),
+        files: files.map(file).collect(),
     }
 }
 
-/// The value of `key=` in a line of words.
-fn value<'l>(line: &'l str, key: &str) -> Option<&'l str> {
+/// The value of `key=` in a line of words, which must have it.
+fn value<'l>(line: &'l str, key: &str) -> &'l str {
     let mut words = line.split_whitespace();
-    words.find_map(|word| word.strip_prefix(key)?.strip_prefix('='))
+    let value = words.find_map(|word| word.strip_prefix(key)?.strip_prefix('='));
+    value.unwrap_or_else(|| panic!("no {key}= in: {line}"))
 }
 
 /// The dump beside a text, kept as runs or as it is.
