@@ -1,6 +1,6 @@
 -- What each call on a dump of a named layout in blocks of k answers (document 01, the refusal table and "Newest, size and cuts").
 use Prim.Native.Nat.{ℕ}
-use mathlib.Core.Bool.{Bool, _&&_}
+use mathlib.Core.Bool.{_&&_}
 use mathlib.Core.List.{List, [], _++_}
 use lib.ListN.{length, take, drop, replicate}
 use lib.Dec.{ltb, leb}

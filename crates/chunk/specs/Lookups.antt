@@ -1,6 +1,5 @@
 -- What the lookups of an object answer (document 01, "Newest, size and cuts", "Index" for the visits, and the refusal table), over what each page says.
-use Prim.Native.Nat.{ℕ, _+_, _-_, min}
-use mathlib.Core.Bool.{Bool, true, false}
+use Prim.Native.Nat.{ℕ, _-_, min}
 use mathlib.Core.Option.{Option, none, some}
 use lib.Dec.{eqb, leb}
 use Rattle.page.specs.Choice.{pick}

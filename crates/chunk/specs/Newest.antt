@@ -1,6 +1,6 @@
 -- The newest record of a kind (document 01, "Newest, size and cuts").
-use Prim.Native.Nat.{ℕ, suc, min}
-use mathlib.Core.Bool.{Bool, true, false, _&&_}
+use Prim.Native.Nat.{ℕ, suc}
+use mathlib.Core.Bool.{Bool, _&&_}
 use mathlib.Core.Option.{Option, none, some}
 use lib.Dec.{eqb, leb}
 use Rattle.page.specs.Choice.{pick}

@@ -1,6 +1,6 @@
 -- Records and their order (document 01, "Newest, size and cuts"), over what each page says.
 use Prim.Native.Nat.{ℕ, _+_, _-_, _*_}
-use mathlib.Core.Bool.{Bool, true, false, _&&_, _||_}
+use mathlib.Core.Bool.{Bool, false, _&&_, _||_}
 use lib.Dec.{eqb}
 use Rattle.page.specs.Counts.{isHeader, isData}
 use Rattle.page.specs.declared.kind.Kind.{Kind}
@@ -64,11 +64,14 @@ fileSize (Header s o t p z m) = z
 fileSize (Data s o c n) = 0
 
 -- parent 3 is unlinked, parent 4 deleted
+abbrev pub goneUnder : ℕ → Bool
+goneUnder parent = eqb parent 3 || eqb parent 4
+
 abbrev pub isGone : Kind → Bool
 isGone Blank = false
 isGone Foreign = false
 isGone Damaged = false
-isGone (Header s o t p z m) = eqb (p .0) 3 || eqb (p .0) 4
+isGone (Header s o t p z m) = goneUnder (p .0)
 isGone (Data s o c n) = false
 
 -- type 1 is a file

@@ -1,12 +1,10 @@
 -- The twelve marked cases of document 01, as one table: what the definitions say, and what the paper says.
 use Prim.Native.Nat.{ℕ}
-use mathlib.Core.Bool.{Bool, true, false, _||_}
-use mathlib.Core.List.{List, [], _∷_, _++_, map}
+use mathlib.Core.List.{List, _∷_, map}
 use lib.Dec.{eqb}
-use lib.ListN.{getD}
 use Rattle.page.specs.Choice.{pick}
 use Rattle.page.specs.Kinds.{kindAt}
-use Rattle.page.specs.Shelf.{shelfLayout, shelf, pageCases, kindIn, PageCase}
+use Rattle.page.specs.Shelf.{shelfLayout, shelf, pageCases, kindIn}
 use Rattle.page.specs.declared.kind.Kind.{Kind}
 use Rattle.page.specs.declared.kind.Kind.the-variants.{Blank}
 use Rattle.page.specs.declared.refusal.Refusal.the-variants.{PastEnd, NoObject}

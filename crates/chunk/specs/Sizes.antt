@@ -1,6 +1,6 @@
 -- The size of a file (document 01, "Newest, size and cuts").
 use Prim.Native.Nat.{ℕ, _+_, max}
-use mathlib.Core.Bool.{Bool, _&&_}
+use mathlib.Core.Bool.{_&&_}
 use lib.Dec.{ltb}
 use Rattle.page.specs.Choice.{pick}
 use Rattle.page.specs.declared.kind.Kind.{Kind}

@@ -1,20 +1,19 @@
 // The live objects of a dump alone: their list, how many they are, and how many objects there are.
 ghost use mathlib.Core.Path.{_≡_};
-ghost use mathlib.Core.Bool.{not, _&&_, _||_};
+ghost use mathlib.Core.Bool.{not, _&&_};
 ghost use Prim.Native.Nat.{_≤_};
-ghost use lib.Dec.{eqb};
 ghost use lib.ListN.{length};
 ghost use Rattle.page.specs.Kinds.{kindAt};
+ghost use Rattle.chunk.specs.Records.{goneUnder};
 ghost use Rattle.chunk.specs.Newest.{newestHeader};
 ghost use Rattle.chunk.specs.Live.{isAt, objectCount, liveIds, liveCount};
 ghost use Rattle.chunk.specs.Lists.{inserted, inFront, listedBy, wordsBy, listOn, liveOn, liveCountOn, objectCountOn};
 use crate::answer::Listed;
 use crate::answer::Tallied;
 use crate::record::Want;
+use crate::record::gone_under;
 use crate::record::object_of;
-use crate::scan::DELETED;
 use crate::scan::Newest;
-use crate::scan::UNLINKED;
 use crate::scan::newest_page;
 use crate::scan::records_since;
 use page::kind::Kind;
@@ -48,12 +47,9 @@ pub fn insert_id(words: &mut [u32], m: usize, o: ObjectId)
 
 // Whether page n, a header of object o under this parent, is the object's newest header, and the parent neither 3 nor 4.
 fn is_live(dump: &[u8], l: Layout, pages: u32, n: PageNumber, o: ObjectId, parent: ObjectId) -> bool
-    ensures { λ r. ⌜ r ≡ (not (eqb (parent .0) 3 || eqb (parent .0) 4) && isAt (n .0) (newestHeader (kindAt l (now (dump .entry))) (o .0) pages)) ⌝ }
+    ensures { λ r. ⌜ r ≡ (not (goneUnder (parent .0)) && isAt (n .0) (newestHeader (kindAt l (now (dump .entry))) (o .0) pages)) ⌝ }
 {
-    if parent.0 == UNLINKED {
-        return false;
-    }
-    if parent.0 == DELETED {
+    if gone_under(parent) {
         return false;
     }
     let h = newest_page(dump, l, pages, o, Want::Header);

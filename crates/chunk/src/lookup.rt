@@ -2,7 +2,7 @@
 ghost use mathlib.Core.Path.{_≡_};
 ghost use Rattle.page.specs.Kinds.{kindAt};
 ghost use Prim.Native.Nat.{min, _-_};
-ghost use Rattle.chunk.specs.Records.{ageOf, baseOf};
+ghost use Rattle.chunk.specs.Records.{ageOf};
 ghost use Rattle.chunk.specs.Sizes.{sizeOf};
 ghost use Rattle.chunk.specs.Lookups.{fileAt, fileOf, sizedOf, copyAt, chunkBy, lookedOf};
 ghost use Rattle.chunk.specs.Answers.{sizeOn, chunkOn};
@@ -13,14 +13,13 @@ use crate::record::Want;
 use crate::record::base_of;
 use crate::record::count_of;
 use crate::record::file_size;
+use crate::record::gone_under;
 use crate::record::larger;
 use crate::record::order_of;
 use crate::record::sequence_of;
 use crate::record::smaller;
-use crate::scan::DELETED;
 use crate::scan::FILE;
 use crate::scan::Newest;
-use crate::scan::UNLINKED;
 use crate::scan::data_end;
 use crate::scan::lowest_cut;
 use crate::scan::newest_page;
@@ -49,10 +48,7 @@ pub fn file_at(k: Kind, h: PageNumber, visits: u32) -> File
     else {
         return File::Refused(Refusal::NotAFile, visits);
     };
-    if parent.0 == UNLINKED {
-        return File::Refused(Refusal::Deleted, visits);
-    }
-    if parent.0 == DELETED {
+    if gone_under(parent) {
         return File::Refused(Refusal::Deleted, visits);
     }
     if page_type != FILE {

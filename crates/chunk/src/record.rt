@@ -1,7 +1,7 @@
-// What the rules ask of a single record: its object, its place in the order, its chunk, its cut.
+// What the rules ask of a single record: its object, its place in the order, its chunk and byte count, its file size, its parent.
 ghost use mathlib.Core.Path.{_≡_};
 ghost use Prim.Native.Nat.{max, min, _<_, _^_};
-ghost use Rattle.chunk.specs.Records.{objectOf, sequenceOf, orderOf, chunkOf, countOf, fileSize, baseOf};
+ghost use Rattle.chunk.specs.Records.{objectOf, sequenceOf, orderOf, chunkOf, countOf, fileSize, goneUnder, baseOf};
 ghost use Rattle.chunk.specs.Scans.{wanted};
 use page::header::is_header;
 use page::kind::Kind;
@@ -14,6 +14,21 @@ pub enum Want {
     Record,
     Header,
     Copy(ChunkNumber),
+}
+
+// The parents of unlinked and of deleted objects.
+const UNLINKED: u32 = 3;
+
+const DELETED: u32 = 4;
+
+// Whether an object under this parent is unlinked or deleted.
+pub fn gone_under(parent: ObjectId) -> bool
+    ensures { λ r. ⌜ r ≡ goneUnder (parent .0) ⌝ }
+{
+    if parent.0 == UNLINKED {
+        return true;
+    }
+    parent.0 == DELETED
 }
 
 // The larger of two numbers.

@@ -1,17 +1,13 @@
 // Scans over the pages of a dump, each a single pass.
 ghost use mathlib.Core.Path.{_≡_};
-ghost use mathlib.Core.Bool.{_&&_};
-ghost use Prim.Native.Nat.{max, min};
-ghost use lib.Dec.{eqb, ltb};
-ghost use Rattle.page.specs.Choice.{pick};
 ghost use Rattle.page.specs.Kinds.{kindAt};
-ghost use Rattle.chunk.specs.Records.{orderOf};
 ghost use Rattle.chunk.specs.Newest.{newest, since};
 ghost use Rattle.chunk.specs.Cuts.{cutOf, lowestCut};
 ghost use Rattle.chunk.specs.Sizes.{dataEnd};
 ghost use Rattle.chunk.specs.Scans.{wanted, newestIn, laterIn, endWith, cutWith, headerIn, dataIn};
 use crate::record::Want;
 use crate::record::base_of;
+use crate::record::gone_under;
 use crate::record::is_wanted;
 use crate::record::larger;
 use crate::record::order_of;
@@ -30,11 +26,7 @@ pub enum Newest {
     Nothing,
 }
 
-// The parents of unlinked and of deleted objects, and the type of a file.
-pub const UNLINKED: u32 = 3;
-
-pub const DELETED: u32 = 4;
-
+// The type of a file.
 pub const FILE: u32 = 1;
 // A place behind every file's end, for a header that does not cut.
 pub const NOWHERE: u64 = 18446744073709551615;
@@ -146,10 +138,7 @@ pub fn data_end(dump: &[u8], l: Layout, pages: u32, o: ObjectId, age: u64) -> u6
 pub fn cut_of(newest: bool, page_type: u32, parent: ObjectId, size: u32, shrink: bool) -> u64
     ensures { λ r. ⌜ r ≡ cutOf newest (headerIn 0 (record { 0 = 0 }) «page_type» parent size shrink) ⌝ }
 {
-    if parent.0 == UNLINKED {
-        return 0;
-    }
-    if parent.0 == DELETED {
+    if gone_under(parent) {
         return 0;
     }
     if page_type != FILE {

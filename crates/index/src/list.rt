@@ -22,8 +22,7 @@ use crate::slots::slot_of;
 use chunk::answer::Listed;
 use chunk::answer::Tallied;
 use chunk::list::insert_id;
-use chunk::scan::DELETED;
-use chunk::scan::UNLINKED;
+use chunk::record::gone_under;
 use page::kind::Kind;
 use page::kind::kind_at;
 use page::layout::Layout;
@@ -71,10 +70,7 @@ fn is_gone(k: Kind) -> bool
     else {
         return false;
     };
-    if parent.0 == UNLINKED {
-        return true;
-    }
-    parent.0 == DELETED
+    gone_under(parent)
 }
 
 // How an object stands by its newest header, page q.

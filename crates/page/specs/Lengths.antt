@@ -1,7 +1,7 @@
 -- What a dump measures (document 01, "Layouts"): its length, its blocks and its pages.
 use Prim.Native.Nat.{ℕ, _+_, _*_, _/_, _%_}
-use mathlib.Core.Bool.{Bool, true, false, not, _&&_}
-use lib.Dec.{eqb, ltb, leb}
+use mathlib.Core.Bool.{Bool, not, _&&_}
+use lib.Dec.{eqb, leb}
 use Rattle.page.specs.Choice.{pick}
 use Rattle.page.specs.Layouts.{layouts, pageLen, roomy, numberOf}
 use Rattle.page.specs.declared.layout.Layout.{Layout}

@@ -1,9 +1,7 @@
 // The header fields of a page of a dump.
 ghost use mathlib.Core.Path.{_≡_};
 ghost use mathlib.Core.Bool.{true};
-ghost use Prim.Native.Nat.{_≤_};
 ghost use lib.ListN.{length};
-ghost use Rattle.page.specs.Lengths.{pageIn};
 ghost use Rattle.page.specs.Counts.{isHeader};
 ghost use Rattle.page.specs.Asked.{askedOf, headedOf, textAt};
 use crate::fields::Fields;

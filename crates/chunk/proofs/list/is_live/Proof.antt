@@ -2,7 +2,6 @@
 use mathlib.Core.Option.{none}
 use mathlib.Core.Path.{_≡_, sym, _∙_}
 use borrow.Author.Needs.{needs}
-use borrow.Author.Tests.{eq-eqb, ne-eqb}
 use Rattle.page.specs.Kinds.{kindAt}
 use Rattle.chunk.specs.Newest.{newestHeader}
 use Rattle.chunk.proofs.Gathering.{in-none, in-some}
@@ -10,29 +9,26 @@ use Rattle.chunk.proofs.list.is_live.Statement.{statement}
 use Rattle.chunk.proofs.list.is_live.Tie as tie
 
 returns : tie.Need-returns
-returns c = rw (eq-eqb _ _ (c .if1 .taken))
+returns c = rw (← c .before .gone-under .ensures, c .if1 .taken)
 
 returns-2 : tie.Need-returns-2
-returns-2 c = rw (ne-eqb _ _ (c .before .before .if1 .left), eq-eqb _ _ (c .if2 .taken))
+returns-2 c =
+    let w = c .before .before in
+    let e = w .before in
+    let a = e .before .before .before .args in
+    let says = kindAt (a .l) (a .dump .now) in
+    let n : newestHeader says (a .o .0) (a .pages) ≡ none = in-none says _ (sym (w .newest-page .ensures) ∙ c .enum-told .given .1) in
+    rw (← e .before .gone-under .ensures, e .if1 .left, n)
 
 returns-3 : tie.Need-returns-3
 returns-3 c =
-    let w = c .before .before in
-    let e = w .before in
-    let a = e .before .before .before .before .before .args in
-    let says = kindAt (a .l) (a .dump .now) in
-    let n : newestHeader says (a .o .0) (a .pages) ≡ none = in-none says _ (sym (w .newest-page .ensures) ∙ c .enum-told .given .1) in
-    rw (ne-eqb _ _ (e .before .before .if1 .left), ne-eqb _ _ (e .if2 .left), n)
-
-returns-4 : tie.Need-returns-4
-returns-4 c =
     let h = c .before .before .before in
     let w = h .before .before in
     let e = w .before in
-    let a = e .before .before .before .before .before .args in
+    let a = e .before .before .before .args in
     let says = kindAt (a .l) (a .dump .now) in
     let f = in-some says (newestHeader says (a .o .0) (a .pages)) _ _ (sym (w .newest-page .ensures) ∙ h .h .given .1) in
-    rw (ne-eqb _ _ (e .before .before .if1 .left), ne-eqb _ _ (e .if2 .left), f .0)
+    rw (← e .before .gone-under .ensures, e .if1 .left, f .0)
 
 pub is-live-spec : {M : Type 1} → statement M
-is-live-spec = tie.close (tie.spec returns returns-2 (search needs) (search needs) (search needs) returns-3 returns-4)
+is-live-spec = tie.close (tie.spec (search needs) returns (search needs) (search needs) (search needs) returns-2 returns-3)

@@ -17,30 +17,21 @@ returns-2 : tie.Need-returns-2
 unfolding fileAt
 returns-2 c =
     let m = c .before .before .before in
-    rw (m .k .given .1, eq-eqb _ _ (c .if1 .taken))
+    rw (m .k .given .1, ← c .before .gone-under .ensures, c .if1 .taken)
 
 returns-3 : tie.Need-returns-3
 unfolding fileAt
 returns-3 c =
-    let e = c .before .before in
+    let e = c .before in
     let m = e .before .before .before in
-    rw (m .k .given .1, ne-eqb _ _ (e .if1 .left), eq-eqb _ _ (c .if2 .taken))
+    rw (m .k .given .1, ← e .before .gone-under .ensures, e .if1 .left, ne-eqb _ _ (c .if2 .taken))
 
 returns-4 : tie.Need-returns-4
 unfolding fileAt
 returns-4 c =
-    let d = c .before in
-    let e = d .before .before in
+    let e = c .before in
     let m = e .before .before .before in
-    rw (m .k .given .1, ne-eqb _ _ (e .if1 .left), ne-eqb _ _ (d .if2 .left), ne-eqb _ _ (c .if3 .taken))
-
-returns-5 : tie.Need-returns-5
-unfolding fileAt
-returns-5 c =
-    let d = c .before in
-    let e = d .before .before in
-    let m = e .before .before .before in
-    rw (m .k .given .1, ne-eqb _ _ (e .if1 .left), ne-eqb _ _ (d .if2 .left), eq-eqb _ _ (c .if3 .left))
+    rw (m .k .given .1, ← e .before .gone-under .ensures, e .if1 .left, eq-eqb _ _ (c .if2 .left))
 
 pub file-at-spec : {M : Type 1} → statement M
-file-at-spec = tie.close (tie.spec (search needs) returns returns-2 returns-3 returns-4 returns-5)
+file-at-spec = tie.close (tie.spec (search needs) returns (search needs) returns-2 returns-3 returns-4)
