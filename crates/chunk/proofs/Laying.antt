@@ -25,10 +25,6 @@ laid-more t d i hd ht =
     ∙ ap (λ (r : List ℕ). r ++ drop (suc i) d) (sym (take-suc t i 0 ht))
     ∙ rw add-one
 
--- and leaves the length
-pub laid-length : (t d : List ℕ) (i : ℕ) → i ≤ length t → i ≤ length d → length (laid t d i) ≡ length d
-laid-length t d i ht hd = simp (length-append, length-take-le i t ht, length-drop) (omega arith)
-
 -- a buffer's own front laid over it changes nothing, whatever stands behind it
 pub front-laid : (d t : List ℕ) (i : ℕ) → i ≤ length d → laid (take i d ++ t) d i ≡ d
 front-laid d t i h = rw (take-at (take i d) t i (length-take-le i d h)) (take-append-drop i d)

@@ -78,11 +78,3 @@ product-le {a} {b} {m} {n} p q = le-trans (mul-le-mul-right b p) (mul-le-mul-lef
 -- a product of numbers above 0 is above 0
 pub product-pos : {a b : ℕ} → 0 < a → 0 < b → 0 < a * b
 product-pos {a} {b} p q = let h : 1 * 1 ≤ a * b = product-le p q in omega arith
-
--- no layout of the table has more than 16,384 data bytes to a page: computed at each of the thirteen
-row-most : (n : ℕ) → n < 13 → leb (layoutAt n .«data») 16384 ≡ true
-unfolding allBelow layoutAt dataSizes spareSizes tagOffsets
-row-most n h = all-at (λ k. leb (layoutAt k .«data») 16384) 13 refl n h
-
-pub listed-most : (l : Layout) → numberOf l < 13 → l .«data» ≤ 16384
-listed-most l h = leb-true _ _ (rw listed-row at (row-most (numberOf l) h))

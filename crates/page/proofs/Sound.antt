@@ -49,11 +49,6 @@ else-data (Data s o c n) h =
     absurd (⊎-elim (λ e. omega arith) (⊎-elim (λ e. omega arith) (⊎-elim (λ e. omega arith) (λ e. omega arith))) h)
 
 module _ (l : Layout) (dump : List ℕ) (i : ℕ) where
-  -- a page that is not blank lies in the dump
-  pub not-blank-in : isBlank (kindAt l dump i) ≡ false → pageIn l (length dump) i ≡ true
-  unfolding kindAt
-  not-blank-in h = by-test (pageIn l (length dump) i) _ (λ t. t) (λ t. let z : true ≡ false = rw t at h in cc)
-
   -- a header lies in the dump
   pub header-in : isHeader (kindAt l dump i) ≡ true → pageIn l (length dump) i ≡ true
   unfolding kindAt

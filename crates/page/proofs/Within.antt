@@ -297,10 +297,6 @@ module _ (l : Layout) (k : ℕ) (dump : List ℕ) (m : ℕ) (e : openedOf l k (l
   pub blank-beyond : (i : ℕ) → m ≤ i → kindAt l dump i ≡ Blank
   blank-beyond i h = blank-outside l dump i (page-beyond i h)
 
-  -- and what is in the dump is below the page count
-  pub below-count : (i : ℕ) → pageIn l (length dump) i ≡ true → i < m
-  below-count i h = ltb-true i m (sym (opened-in i) ∙ h)
-
 -- whether every number of a list is a byte
 abbrev pub AllBytes : List ℕ → Type 0
 AllBytes s = (i : ℕ) → getD s i 0 < 256

@@ -60,10 +60,6 @@ bySizes p s t = byNumber (numberOfSizes p s t)
 abbrev pub numberOf : Layout → ℕ
 numberOf l = numberOfSizes (l .«data») (l .spare) (l .tag)
 
--- whether the table has a layout
-abbrev pub isListed : Layout → Bool
-isListed l = ltb (numberOf l) layouts
-
 -- the length of a page: P data bytes and then S spare bytes
 abbrev pub pageLen : Layout → ℕ
 pageLen l = l .«data» + l .spare

@@ -61,10 +61,6 @@ dumpOf (page ∷ pages) = page ++ dumpOf pages
 unfoldable pub shelf : List ℕ
 shelf = dumpOf shelfPages
 
--- page i blank
-unfoldable pub blanked : ℕ → List (List ℕ) → List (List ℕ)
-blanked i pages = set pages i blankPage
-
 -- page i with other tags
 unfoldable pub retagged : ℕ → List ℕ → List (List ℕ) → List (List ℕ)
 retagged i tags pages = set pages i (take 512 (getD pages i []) ++ tags)

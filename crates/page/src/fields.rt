@@ -2,6 +2,7 @@
 ghost use mathlib.Core.Path.{_≡_};
 ghost use Prim.Native.Nat.{_≤_};
 ghost use lib.ListN.{length};
+ghost use Rattle.page.specs.Layouts.{headerBytes};
 ghost use Rattle.page.specs.Headers.{fieldsOf, textPlace, textLength};
 use crate::word::half_at;
 use crate::word::long_at;
@@ -88,7 +89,7 @@ impl Fields {
 
     // The numbers of a header page.
     pub(crate) fn of_page(page: &[u8]) -> Fields
-        requires { ⌜ 480 ≤ length (now page) ⌝ }
+        requires { ⌜ headerBytes ≤ length (now page) ⌝ }
         ensures { λ r. ⌜ r ≡ fieldsOf (now (page .entry)) ⌝ }
     {
         Fields {

@@ -3,7 +3,7 @@ ghost use mathlib.Core.Path.{_≡_};
 ghost use mathlib.Core.Bool.{true};
 ghost use Prim.Native.Nat.{_≤_};
 ghost use lib.ListN.{length};
-ghost use Rattle.page.specs.Layouts.{pageLen, roomy};
+ghost use Rattle.page.specs.Layouts.{headerBytes, pageLen, roomy};
 ghost use Rattle.page.specs.Kinds.{badType, typeDiffers, headerOf, kindBy, kindOf, kindAt, toldOf};
 use crate::fields::Fields;
 use crate::layout::Layout;
@@ -59,7 +59,7 @@ fn type_differs(t: Tags, page_type: u32) -> bool
 
 // A header by its tags, with the tests on its types.
 fn header_kind(page: &[u8], t: Tags, sequence: u32, object: ObjectId) -> Kind
-    requires { ⌜ 480 ≤ length (now page) ⌝ }
+    requires { ⌜ headerBytes ≤ length (now page) ⌝ }
     ensures { λ r. ⌜ r ≡ headerOf (now (page .entry)) t sequence object ⌝ }
 {
     let page_type = word_at(page, Fields::TYPE);
@@ -81,7 +81,7 @@ fn header_kind(page: &[u8], t: Tags, sequence: u32, object: ObjectId) -> Kind
 
 // The kind of a page whose tags say this.
 fn kind_by(page: &[u8], t: Tags, claim: Claim) -> Kind
-    requires { ⌜ 480 ≤ length (now page) ⌝ }
+    requires { ⌜ headerBytes ≤ length (now page) ⌝ }
     ensures { λ r. ⌜ r ≡ kindBy (now (page .entry)) t claim ⌝ }
 {
     match claim {

@@ -2,7 +2,7 @@
 ghost use mathlib.Core.Path.{_≡_};
 ghost use Prim.Native.Nat.{_+_, _<_, _^_};
 ghost use mathlib.Core.Bool.{true};
-ghost use Rattle.page.specs.Layouts.{layoutOf, layoutAt, byNumber, bySizes, hasSizes, numberOf, numberOfSizes, pageLen, tagPlace, roomy};
+ghost use Rattle.page.specs.Layouts.{layouts, layoutOf, layoutAt, byNumber, bySizes, hasSizes, numberOf, numberOfSizes, pageLen, tagPlace, roomy};
 ghost use Rattle.page.specs.Lengths.{blockFits, lengthFits, wholeBlocks, pageIn, openedOf, placedOf};
 use crate::number::PageNumber;
 use crate::refusal::Refusal;
@@ -66,7 +66,7 @@ impl Layout {
 
     // The layout with the number n in the table.
     pub(crate) fn row(n: u32) -> Layout
-        requires { ⌜ n < 13 ⌝ }
+        requires { ⌜ n < layouts ⌝ }
         ensures { λ r. ⌜ r ≡ layoutAt n ⌝ }
     {
         let i = n as usize;

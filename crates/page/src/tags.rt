@@ -3,7 +3,7 @@ ghost use mathlib.Core.Path.{_≡_};
 ghost use Prim.Native.Nat.{_+_, _≤_};
 ghost use lib.ListN.{length};
 ghost use mathlib.Core.Bool.{true};
-ghost use Rattle.page.specs.Layouts.{pageLen, roomy};
+ghost use Rattle.page.specs.Layouts.{tagLength, pageLen, roomy};
 ghost use Rattle.page.specs.Lengths.{pageIn};
 ghost use Rattle.page.specs.Pages.{pageAt};
 ghost use Rattle.page.specs.Tags.{tagsOf, tagBytes, objectIn, headerClaim, dataClaim, claimOf, claimAt};
@@ -52,7 +52,7 @@ impl Tags {
 
     // The tags that 16 bytes hold.
     fn parse(s: &[u8]) -> Tags
-        requires { ⌜ 16 ≤ length (now s) ⌝ }
+        requires { ⌜ tagLength ≤ length (now s) ⌝ }
         ensures { λ r. ⌜ r ≡ tagsOf (now (s .entry)) ⌝ }
     {
         Tags {
