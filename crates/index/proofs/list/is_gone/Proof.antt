@@ -10,7 +10,7 @@ returns : tie.Need-returns
 returns c = let a = c .before .args in sym (other-gone (a .k) (else-header (a .k) (c .match .keys2)))
 
 returns-2 : tie.Need-returns-2
-returns-2 c = rw (c .before .before .before .k .given .1) (c .gone-under .ensures)
+returns-2 c = rw (c .before .before .k .given .1) (c .gone-under .ensures)
 
 pub is-gone-spec : {M : Type 1} → statement M
 is-gone-spec = tie.close (tie.spec (search needs) returns (search needs) returns-2)
