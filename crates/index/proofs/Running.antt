@@ -6,12 +6,18 @@ use mathlib.Core.Path.{_≡_, refl}
 use native.Mathlib.Omega.{arith}
 use lib.ListN.{length}
 use lib.Seq.{take-length, drop-length}
+use lib.Dec.{ltb}
+use borrow.Author.Tests.{lt-ltb, le-ltb, ltb-true, ltb-false}
 use Rattle.page.specs.Kinds.{kindAt}
 use Rattle.page.specs.Lengths.{openedOf}
+use Rattle.page.specs.declared.kind.Kind.{Kind}
 use Rattle.page.specs.declared.layout.Layout.{Layout}
 use Rattle.page.specs.declared.layout.Opened.the-variants as opened
 use Rattle.page.specs.declared.refusal.Refusal.{Refusal}
+use Rattle.page.specs.declared.refusal.Refusal.the-variants.{ShortIndex}
+use Rattle.page.proofs.Searching.{by-test}
 use Rattle.chunk.specs.Records.{ageOf}
+use Rattle.index.specs.Cells.{cellsFor}
 use Rattle.index.specs.Chains.{objects}
 use Rattle.index.specs.Additions.{Outcome, outcome, addTo, addIn, addOf}
 use Rattle.index.specs.Requests.{add, wordsAfter, wordsOf}
@@ -37,6 +43,16 @@ module _ (n : ℕ) (obj age : ℕ → ℕ) (end p : ℕ) (c : List ℕ) where
     pub run-stop : (r : Refusal) → outcome (added.Refused r) u ≡ addTo n obj age c p → runBy n obj age (end - p) p c ≡ ran (Stopped (record { 0 = p }) r) u
     unfolding runBy
     run-stop r e = rw (more, ← e)
+
+-- words that are too few, and enough of them
+module _ (n : ℕ) (says : ℕ → Kind) (from end : ℕ) (c : List ℕ) where
+  pub run-short : length c < cellsFor n → runIn (opened.Pages n) says from end c ≡ ran (Stopped (record { 0 = from }) ShortIndex) c
+  unfolding runIn
+  run-short h = simp (lt-ltb (length c) (cellsFor n) h)
+
+  pub run-room : cellsFor n ≤ length c → runIn (opened.Pages n) says from end c ≡ runBy n (objects says) (ageOf says) (end - from) from c
+  unfolding runIn
+  run-room h = simp (le-ltb (length c) (cellsFor n) h)
 
 module _ (l : Layout) (k : ℕ) (dump : List ℕ) (n : ℕ) (e : openedOf l k (length dump) ≡ opened.Pages n) where
   abbrev to : List ℕ → ℕ → Outcome
@@ -66,5 +82,9 @@ module _ (l : Layout) (k : ℕ) (dump : List ℕ) (n : ℕ) (e : openedOf l k (l
   -- a run that was done is the list of its additions
   pub run-list :
       (c : List ℕ) (from end : ℕ) → runOf l k dump c from end .answer ≡ Done → runOf l k dump c from end .cells ≡ wordsOf l dump c (adds k (length c) (end - from) from)
-  unfolding runOf runIn
-  run-list c from end = rw e (by (end - from) from c)
+  unfolding runOf
+  run-list c from end =
+      rw e
+      (by-test (ltb (length c) (cellsFor n)) _
+      (λ t. rw (run-short n (kindAt l dump) from end c (ltb-true _ _ t)) (λ d. let z : _≡_ {A = ℕ} 0 1 = cc in absurd (omega arith)))
+      (λ t. rw (run-room n (kindAt l dump) from end c (ltb-false _ _ t)) (by (end - from) from c)))
