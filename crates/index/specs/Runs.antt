@@ -55,3 +55,8 @@ runOf l k dump c from to = runIn (openedOf l k (length dump)) (kindAt l dump) fr
 unfoldable pub adds : ℕ → ℕ → ℕ → ℕ → List Request
 adds k w zero p = []
 adds k w (suc m) p = add k w p ∷ adds k w m (p + 1)
+
+-- how many additions a run asked for: all of them, or those up to the refused one
+unfoldable pub asked : Run → ℕ → ℕ → ℕ
+asked Done from to = to - from
+asked (Stopped p r) from to = p .0 - from + 1
