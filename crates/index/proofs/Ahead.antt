@@ -13,7 +13,6 @@ use Rattle.page.specs.Kinds.{kindAt}
 use Rattle.page.specs.Lengths.{openedOf}
 use Rattle.page.specs.Numbers.{badObject, badChunk}
 use Rattle.page.specs.declared.kind.Kind.{Kind}
-use Rattle.page.specs.declared.kind.Kind.the-variants.{Blank, Foreign, Damaged, Header, Data}
 use Rattle.page.specs.declared.layout.Layout.{Layout}
 use Rattle.page.specs.declared.layout.Opened.the-variants as opened
 use Rattle.page.specs.declared.refusal.Refusal.{Refusal}

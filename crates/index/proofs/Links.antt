@@ -2,7 +2,7 @@
 -- that as many steps as the bound says are always enough, and nothing but this equation looks at their number. A chain reads only the links
 -- of its own object's pages below its bound (`frame`), and ages fall along it.
 use Prim.Native.Nat.{ℕ, zero, suc, _-_, _≤_, _<_}
-use mathlib.Core.Bool.{Bool, true, false, not, _&&_}
+use mathlib.Core.Bool.{Bool, true, false, not}
 use mathlib.Core.List.{List}
 use mathlib.Core.Path.{_≡_, refl, ap, _∙_}
 use native.Mathlib.Nat.{le-refl, le-of-suc-le-suc, not-suc-le-zero, le-trans}

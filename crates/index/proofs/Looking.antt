@@ -21,7 +21,7 @@ use Rattle.chunk.specs.Lookups.{sizedOf, lookedOf}
 use Rattle.chunk.proofs.Cases.{size-bad, size-by-file, chunk-bad-object, chunk-bad-number, chunk-by-file}
 use Rattle.index.specs.Chains.{objects, top}
 use Rattle.index.specs.Held.{Held}
-use Rattle.index.specs.Walks.{seenSays, sizeVisits, chunkVisits, sizeIn, chunkIn, sizeFrom, chunkFrom}
+use Rattle.index.specs.Walks.{seenSays, sizeVisits, chunkVisits, sizeIn, chunkIn, chunkFrom}
 use Rattle.index.proofs.Bridging.{size-seen, chunk-seen, size-visits-seen, chunk-visits-seen}
 use Rattle.index.proofs.Ordering.{data-most, chunk-near, pages-most, ages-below}
 
@@ -93,13 +93,6 @@ module _
 
     abbrev D : ℕ → Kind
     D = seenSays (kindAt l dump) added
-
-    pub size-from-held :
-        (sizeFrom l k dump cells o ≡ sizedOf D o n (l .«data»)) × (sizeVisits (sizeFrom l k dump cells o) ≤ records D o n)
-    unfolding sizeFrom
-    size-from-held =
-        rw (e, size-held (kindAt l dump) n few-pages (ages-below l dump k n e) added o (l .«data») cells held)
-        (refl, size-visited (kindAt l dump) n few-pages (ages-below l dump k n e) added o (l .«data»))
 
     pub chunk-from-held :
         (c : ℕ) →

@@ -22,7 +22,7 @@ use Rattle.page.proofs.Layouts.{product-le}
 use Rattle.page.proofs.Searching.{by-test}
 use Rattle.page.proofs.Lengths.{opened-facts, opened-some, opened-most, length-most}
 use Rattle.page.proofs.Within.{chunk-within, header-within, data-within}
-use Rattle.chunk.specs.Records.{objectOf, sequenceOf, orderOf, ageOf, chunkOf, baseOf}
+use Rattle.chunk.specs.Records.{objectOf, sequenceOf, ageOf, chunkOf, baseOf}
 use Rattle.chunk.specs.Cuts.{nowhere}
 use Rattle.index.specs.Chains.{objects, top}
 
@@ -41,10 +41,6 @@ header-chunk (Data s o c n) e = let z : _≡_ {A = ℕ} 0 1 = cc in absurd (omeg
 -- a page with a chunk number is no header
 pub chunk-headless : (k : Kind) → (chunkOf k ≡ 0 → ⊥) → isHeader k ≡ false
 chunk-headless k h = by-test (isHeader k) _ (λ t. absurd (h (header-chunk k t))) (λ t. t)
-
--- the order is by sequence, then by page
-pub order-less : (s t x y : ℕ) → x < 4294967296 → y < 4294967296 → orderOf s x < orderOf t y → (s ≤ t) × (s ≡ t → x < y)
-order-less s t x y hx hy h = (omega arith, λ e. omega arith)
 
 -- a chunk with few enough bytes to a page begins before the place of no cut
 pub chunk-near : (P c : ℕ) → P ≤ mostBytes → badChunk c ≡ false → baseOf P c < nowhere

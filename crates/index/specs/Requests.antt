@@ -1,7 +1,7 @@
 -- A list of requests on one memory of words, for one unchanged dump and layout (document 01, "Demand 3 exactly"): what our calls answer and
 -- leave, and beside it what the paper says. Each request has its own K and its own length of slice; the words past the slice stay as they are.
 use Prim.Native.Nat.{ℕ, min}
-use mathlib.Core.Bool.{Bool, true, false}
+use mathlib.Core.Bool.{Bool}
 use mathlib.Core.List.{List, [], _∷_, _++_}
 use lib.ListN.{length, take, drop}
 use lib.Dec.{ltb, leb}

@@ -3,13 +3,17 @@
 use Prim.Native.Nat.{ℕ, zero, suc, _+_, _-_}
 use mathlib.Core.List.{List, [], _∷_}
 use lib.ListN.{length}
+use lib.Dec.{ltb}
+use Rattle.page.specs.Choice.{pick}
 use Rattle.page.specs.Lengths.{openedOf}
 use Rattle.page.specs.Kinds.{kindAt}
 use Rattle.page.specs.declared.kind.Kind.{Kind}
 use Rattle.page.specs.declared.layout.Layout.{Layout}
 use Rattle.page.specs.declared.layout.Opened.{Opened}
 use Rattle.page.specs.declared.layout.Opened.the-variants as opened
+use Rattle.page.specs.declared.refusal.Refusal.the-variants.{ShortIndex}
 use Rattle.chunk.specs.Records.{ageOf}
+use Rattle.index.specs.Cells.{cellsFor}
 use Rattle.index.specs.Chains.{objects}
 use Rattle.index.specs.Additions.{addTo}
 use Rattle.index.specs.Requests.{Request, add}
@@ -36,9 +40,12 @@ unfoldable pub runBy : (n : ℕ) (obj age : ℕ → ℕ) → ℕ → ℕ → Lis
 runBy n obj age zero p c = ran Done c
 runBy n obj age (suc m) p c = onward (addTo n obj age c p .answer) (addTo n obj age c p .cells) p (runBy n obj age m (p + 1))
 
+-- a dump or words that no addition would take stop a run at its first page, even if it has none to add
 unfoldable pub runIn : Opened → (ℕ → Kind) → ℕ → ℕ → List ℕ → Ran
 runIn (opened.Refused r) says from to c = ran (Stopped (record { 0 = from }) r) c
-runIn (opened.Pages n) says from to c = runBy n (objects says) (ageOf says) (to - from) from c
+runIn (opened.Pages n) says from to c =
+    pick (ltb (length c) (cellsFor n)) (ran (Stopped (record { 0 = from }) ShortIndex) c)
+    (runBy n (objects says) (ageOf says) (to - from) from c)
 
 -- the pages of a dump from one to before another
 unfoldable pub runOf : Layout → ℕ → List ℕ → List ℕ → ℕ → ℕ → Ran
@@ -48,3 +55,8 @@ runOf l k dump c from to = runIn (openedOf l k (length dump)) (kindAt l dump) fr
 unfoldable pub adds : ℕ → ℕ → ℕ → ℕ → List Request
 adds k w zero p = []
 adds k w (suc m) p = add k w p ∷ adds k w m (p + 1)
+
+-- how many additions a run asked for: all of them, or those up to the refused one
+unfoldable pub asked : Run → ℕ → ℕ → ℕ
+asked Done from to = to - from
+asked (Stopped p r) from to = p .0 - from + 1

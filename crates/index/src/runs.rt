@@ -7,6 +7,7 @@ ghost use Rattle.index.specs.Chains.{objects};
 ghost use Rattle.index.specs.Runs.{ran, runBy, runOf};
 use crate::additions::Added;
 use crate::additions::add_page;
+use crate::cells::cells_for;
 use page::layout::Layout;
 use page::layout::Opened;
 use page::number::PageNumber;
@@ -46,7 +47,8 @@ fn run_pages(
     Run::Done
 }
 
-// Adds the pages of a dump of a named layout in blocks of k from one to before another to its index, until one is refused.
+// Adds the pages of a dump of a named layout in blocks of k from one to before another to its index, until one is refused. A dump or words that
+// no addition would take are refused even if there is no page to add.
 pub fn add_run(
     dump: &[u8],
     l: Layout,
@@ -60,6 +62,11 @@ pub fn add_run(
     let o = l.opened(dump.len(), k);
     match o {
         Opened::Refused(r) => Run::Stopped(from, r),
-        Opened::Pages(pages) => run_pages(dump, l, pages, cells, from, to),
+        Opened::Pages(pages) => {
+            if cells.len() < cells_for(pages) {
+                return Run::Stopped(from, Refusal::ShortIndex);
+            }
+            run_pages(dump, l, pages, cells, from, to)
+        }
     }
 }

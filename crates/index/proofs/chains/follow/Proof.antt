@@ -1,7 +1,6 @@
 -- The tests come in the definition's order. A page that is neither a header nor data is no record; the others have an object.
 use Prim.Native.Nat.{_-_, _<_}
-use mathlib.Core.Path.{_≡_, sym, _∙_}
-use native.Mathlib.Omega.{arith}
+use mathlib.Core.Path.{sym, _∙_}
 use borrow.Author.Needs.{needs}
 use Rattle.page.specs.Kinds.{kindAt}
 use Rattle.page.proofs.Sound.{else-header, else-data}

@@ -1,5 +1,4 @@
 -- The chunk number is compared first, then the cut.
-use borrow.Author.Needs.{needs}
 use borrow.Author.Tests.{eq-eqb, ne-eqb}
 use Rattle.index.proofs.walks.is_shown.Statement.{statement}
 use Rattle.index.proofs.walks.is_shown.Tie as tie
