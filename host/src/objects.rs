@@ -136,4 +136,18 @@ mod tests {
         assert_eq!(objects.size(257).size, 1034);
         assert_eq!(chunks(&objects), Err(INDEX_DAMAGED));
     }
+    /// A run of no pages is refused as one of some would be, and is done where
+    /// the words are enough.
+    #[test]
+    fn a_run_of_no_pages_tests_its_words() {
+        let dump = include_bytes!("../tests/data/W");
+        let mut cells = vec![0; ffi::cells(8)];
+        let short = cells.len() - 1;
+        let run = |cells: &mut [u32], from, to| ffi::add_run(dump, 6, 4, cells, from, to).refusal;
+        for to in [2, 3, 4] {
+            assert_eq!(run(&mut cells[..short], 3, to), 12, "ShortIndex");
+        }
+        assert_eq!(run(&mut cells, 3, 3), 0);
+        assert_eq!(run(&mut cells, 3, 2), 0);
+    }
 }
