@@ -1,6 +1,6 @@
 -- The index of a dump, call by call: what a start and an addition of any request leave, where the cells hold exactly the added pages. The
 -- page count goes by layout and length alone, so that each call may name a K of its own; and each may be lent as many of the words as it
--- likes, if they are enough. A refused start changes nothing, on any cells.
+-- likes, if they are enough. A refused call changes nothing, on any cells.
 use Prim.Native.Nat.{ℕ, _≤_, _<_}
 use mathlib.Core.Bool.{Bool, true, false}
 use mathlib.Core.List.{List, _∷_, _++_}
@@ -8,7 +8,7 @@ use mathlib.Core.Path.{_≡_, refl, sym, _∙_}
 use native.Mathlib.Omega.{arith}
 use lib.ListN.{length, take, drop}
 use lib.Seq.{length-take-le}
-use lib.Dec.{ltb}
+use lib.Dec.{ltb, leb, eqb}
 use Rattle.page.specs.Choice.{pick}
 use Rattle.page.specs.Kinds.{kindAt}
 use Rattle.page.specs.Lengths.{openedOf}
@@ -19,11 +19,15 @@ use Rattle.page.specs.declared.refusal.Refusal.{Refusal}
 use Rattle.page.proofs.Lengths.{opened-some}
 use Rattle.chunk.specs.Records.{ageOf}
 use Rattle.chunk.proofs.Ascending.{In}
-use Rattle.index.specs.Cells.{cellsFor}
+use Rattle.index.specs.Cells.{cellsFor, firstAt, keys, isMarked}
+use Rattle.index.specs.Slots.{slot}
 use Rattle.index.specs.Chains.{objects, top, chain}
-use Rattle.index.specs.Additions.{Outcome, startIn, startOf, addIn, addOf}
+use Rattle.index.specs.Places.{placeOf}
+use Rattle.index.specs.Additions.{Outcome, startIn, startOf, addOther, addAt, addRecord, addTo, addIn, addOf}
 use Rattle.index.specs.Held.{seen, noneAdded, with, recs, Held}
 use Rattle.index.specs.declared.additions.Added.the-variants.{Done, Refused}
+use Rattle.index.specs.declared.places.Place.{Place}
+use Rattle.index.specs.declared.places.Place.the-variants as place
 use Rattle.index.proofs.Records.{recs-in, recs-of}
 use Rattle.index.proofs.Inserting.{Falls, falls-in, trace-falls}
 use Rattle.index.proofs.Holding.{seen-of}
@@ -61,7 +65,7 @@ module _ (n : ℕ) (obj age : ℕ → ℕ) (added : ℕ → Bool) (c : List ℕ)
 pub falls-once : (age : ℕ → ℕ) (b q : ℕ) (L : List ℕ) → Falls age b (q ∷ L) → In q L → ⊥
 falls-once age b q L f i = let k = falls-in age q L (age q) (f .1) i in absurd (omega arith)
 
--- ---- a refused start changes nothing
+-- ---- a refused call changes nothing
 
 module _ (c : List ℕ) where
   abbrev Unchanged : Outcome → Type 0
@@ -79,10 +83,32 @@ module _ (c : List ℕ) where
   start-in-refused (opened.Refused s) = λ r e. refl
   start-in-refused (opened.Pages n) = either (ltb (length c) (cellsFor n)) _ _ (λ r e. refl) (stored _)
 
+  module _ (p : ℕ) where
+    at-refused : (o s : ℕ) (x : Place) → Unchanged (addAt c p o s x)
+    unfolding addAt
+    at-refused o s (place.Refused s′) = λ r e. refl
+    at-refused o s (place.At i) = either (isMarked c p) _ _ (λ r e. refl) (stored _)
+
+    to-refused : (n : ℕ) (obj age : ℕ → ℕ) → Unchanged (addTo n obj age c p)
+    unfolding addTo addOther addRecord
+    to-refused n obj age =
+        either (ltb (length c) (cellsFor n)) _ _ (λ r e. refl)
+        (either (leb n p) _ _ (λ r e. refl)
+        (either (eqb (obj p) 0) _ _ (either (isMarked c p) _ _ (λ r e. refl) (stored _))
+        (at-refused (obj p) (slot n (keys c) (obj p)) (placeOf age p (chain n obj age c (obj p)) (firstAt (slot n (keys c) (obj p)))))))
+
   module _ (l : Layout) (k : ℕ) (dump : List ℕ) where
     pub start-refused : (r : Refusal) → startOf l k dump c .answer ≡ Refused r → startOf l k dump c .cells ≡ c
     unfolding startOf
     start-refused = start-in-refused (openedOf l k (length dump))
+
+    pub add-refused : (p : ℕ) (r : Refusal) → addOf l k dump c p .answer ≡ Refused r → addOf l k dump c p .cells ≡ c
+    unfolding addOf addIn
+    add-refused p = go (openedOf l k (length dump))
+      where
+        go : (x : Opened) → Unchanged (addIn x (kindAt l dump) c p)
+        go (opened.Refused s) = λ r e. refl
+        go (opened.Pages n) = to-refused p n (objects (kindAt l dump)) (ageOf (kindAt l dump))
 
 -- ---- the index of a dump
 

@@ -1,4 +1,4 @@
-// The walks down an object's chain that lookups take.
+// The walks down an object's chain that chunk lookups take, and steps that other walks take too.
 ghost use mathlib.Core.Path.{_≡_};
 ghost use mathlib.Core.Bool.{true, false, _&&_};
 ghost use Prim.Native.Nat.{_+_, _≤_, _<_, max, min};
