@@ -15,6 +15,7 @@
 //! table, and both sides copy each piece of the dump to the same buffer.
 
 mod dump;
+mod find;
 mod index;
 mod plain;
 mod sleuthkit;
@@ -88,7 +89,7 @@ fn measure(dump: &[u8], rounds: usize) {
         "find",
         rounds,
         || ffi::find(dump, BLOCK).number,
-        || plain::find(dump, BLOCK as usize),
+        || find::find(dump, BLOCK as usize),
     );
     timing::compare(
         "counts",

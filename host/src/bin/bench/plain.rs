@@ -1,5 +1,5 @@
-//! The same rules in plain Rust, as one would write them by hand: page kinds,
-//! counts, and the finding of the layout.
+//! The same rules in plain Rust, as one would write them by hand: page kinds
+//! and counts.
 
 /// The table: data size, spare size and tag offset.
 pub const LAYOUTS: [(usize, usize, usize); 13] = [
@@ -32,13 +32,7 @@ pub fn word(bytes: &[u8], at: usize) -> u32 {
     u32::from_le_bytes(bytes[at..at + 4].try_into().unwrap())
 }
 
-/// The sequence, and what the tags say, first match wins.
-fn claim(page: &[u8], data: usize, tag: usize) -> (u32, Claim) {
-    let tags = &page[data + tag..data + tag + 16];
-    let sequence = word(tags, 0);
-    (sequence, claim_of(tags, sequence, data))
-}
-
+/// What the tags say, first match wins.
 pub fn claim_of(tags: &[u8], sequence: u32, data: usize) -> Claim {
     if sequence == u32::MAX {
         return Claim::Blank;
@@ -77,7 +71,8 @@ pub fn counts(dump: &[u8], layout: u32) -> [u32; 5] {
     let (data, spare, tag) = LAYOUTS[layout as usize];
     let (mut blank, mut foreign, mut damaged, mut headers, mut chunks) = (0, 0, 0, 0, 0);
     for page in dump.chunks_exact(data + spare) {
-        match claim(page, data, tag).1 {
+        let tags = &page[data + tag..data + tag + 16];
+        match claim_of(tags, word(tags, 0), data) {
             Claim::Blank => blank += 1,
             Claim::Foreign => foreign += 1,
             Claim::Damaged => damaged += 1,
@@ -87,37 +82,6 @@ pub fn counts(dump: &[u8], layout: u32) -> [u32; 5] {
         }
     }
     [blank, foreign, damaged, headers, chunks]
-}
-
-/// The number in the table of the layout that fits best, or 13. A block is
-/// gone over three times, while it is in the cache: once is slower.
-pub fn find(dump: &[u8], k: usize) -> u32 {
-    let mut best = 0;
-    let mut found = LAYOUTS.len() as u32;
-    for (number, &(data, spare, tag)) in LAYOUTS.iter().enumerate() {
-        let block = k * (data + spare);
-        if !dump.len().is_multiple_of(block) {
-            continue;
-        }
-        let good = |page: &[u8]| match claim(page, data, tag) {
-            (sequence, Claim::Header | Claim::Data) => Some(sequence),
-            _ => None,
-        };
-        let is_marked = |page: &&[u8]| claim(page, data, tag).1 != Claim::Blank;
-        let (mut score, mut marked) = (0, 0);
-        for block in dump.chunks_exact(block) {
-            let pages = || block.chunks_exact(data + spare);
-            marked += pages().filter(is_marked).count();
-            if let Some(first) = pages().find_map(good) {
-                score += pages().filter(|page| good(page) == Some(first)).count();
-            }
-        }
-        if score > best && 2 * score >= marked {
-            best = score;
-            found = number as u32;
-        }
-    }
-    found
 }
 
 /// One word of each page's tags: what any scan of a mapped dump costs at least.
