@@ -19,11 +19,12 @@ const LONG_CHUNKS: u32 = 50_000;
 /// Sleuth Kit guesses the layout.
 const SOUND: usize = 64;
 
-/// Writes a dump of 2048/64/0 with at most so many MiB.
-pub fn write(path: &Path, mib: usize) -> io::Result<()> {
+/// Writes a dump of 2048/64 with its tags at this offset and at most so many
+/// MiB.
+pub fn write(path: &Path, mib: usize, tag: usize) -> io::Result<()> {
     let file = File::create(path)?;
     let blocks = (mib << 20) / BLOCK;
-    let mut log = Log::new();
+    let mut log = Log::new(tag);
     let mut bytes = vec![0; BLOCK];
     for written in 0..blocks {
         let sequence = 0x1000 + written as u32;
@@ -43,28 +44,32 @@ pub fn write(path: &Path, mib: usize) -> io::Result<()> {
 
 /// A step that visits every one of n places once.
 fn stride(n: usize) -> usize {
-    let shares = |mut a: usize, mut b: usize| {
-        while b != 0 {
-            (a, b) = (b, a % b);
-        }
-        a > 1
-    };
     (n * 5 / 8..)
-        .find(|&step| step > 0 && !shares(step, n))
+        .find(|&step| step > 0 && gcd(step, n) == 1)
         .unwrap_or(1)
+}
+
+/// The greatest common divisor.
+pub fn gcd(mut a: usize, mut b: usize) -> usize {
+    while b != 0 {
+        (a, b) = (b, a % b);
+    }
+    a
 }
 
 /// What has been written so far.
 struct Log {
+    tag: usize,
     seed: u64,
     chunks: Vec<u32>,
     root: bool,
 }
 
 impl Log {
-    fn new() -> Log {
+    fn new(tag: usize) -> Log {
         let chunks = vec![0; SHORT as usize + 1];
         Log {
+            tag,
             seed: 1,
             chunks,
             root: false,
@@ -111,7 +116,7 @@ impl Log {
             _ => [7, 7, 7, 7],
         };
         page[DATA..].fill(0xFF);
-        put(page, DATA, &tags);
+        put(page, DATA + self.tag, &tags);
     }
 }
 

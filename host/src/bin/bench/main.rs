@@ -5,9 +5,14 @@
 //!
 //! The dump is written to a file of the system's temporary folder, mapped,
 //! and read once before anything is timed. The two take turns, each going
-//! first every other time. Shown are best and median of each, the ratio of the
-//! bests, and the median of the ratios of neighbouring turns. `touch` reads
-//! one word of each page: the least that a scan costs.
+//! first as often as the other. Shown are best and median of each, the ratio of
+//! the bests, and the median of the ratios of neighbouring turns.
+//!
+//! `find 0`, `find 2` and `find 30` are the finding on dumps with their tags at
+//! that offset, and those with `all` on as much of the dump as every layout
+//! divides into blocks. `touch` beside each has in place of plain Rust one word
+//! read of each page of the dump's own layout: the least that a scan costs. The
+//! other rows are on the dump with its tags at 0.
 //!
 //! Plain Rust has the same index words, filled in the same order, and tries
 //! each link that it meets. `table` is the rows of the long file, by one walk on
@@ -16,6 +21,7 @@
 
 mod dump;
 mod find;
+mod find_rows;
 mod index;
 mod plain;
 mod sleuthkit;
@@ -49,48 +55,45 @@ fn main() -> ExitCode {
         eprintln!("usage: bench [MIB, at most 1024] [ROUNDS]");
         return ExitCode::from(2);
     };
-    let file = Temporary::new("dump");
-    let out = Temporary::new("out");
-    if let Err(error) = dump::write(&file.0, mib) {
-        eprintln!("cannot write {}: {error}", file.0.display());
-        return ExitCode::from(2);
-    }
-    match Dump::open(file.0.as_os_str(), false) {
-        Ok(dump) => {
-            measure(&dump, rounds);
-            sleuthkit::compare(&file.0, &out.0, &[LONG + 1, LONG]);
-        }
+    match measure(mib, rounds) {
+        Ok(()) => ExitCode::SUCCESS,
         Err(error) => {
-            eprintln!("cannot read {}: {error}", file.0.display());
-            return ExitCode::from(2);
+            eprintln!("{error}");
+            ExitCode::from(2)
         }
     }
-    ExitCode::SUCCESS
 }
 
-fn measure(dump: &[u8], rounds: usize) {
+/// All rows. A dump is gone before the next one is written; the one with its
+/// tags at 0 comes last and serves all other rows.
+fn measure(mib: usize, rounds: usize) -> Result<(), String> {
+    timing::head();
+    for tag in [30, 2] {
+        let file = Temporary::new("dump");
+        find_rows::measure(&generated(&file, mib, tag)?, tag, rounds);
+    }
+    let file = Temporary::new("dump");
+    let out = Temporary::new("out");
+    let dump = generated(&file, mib, 0)?;
+    find_rows::measure(&dump, 0, rounds);
+    pages(&dump, rounds);
+    sleuthkit::compare(&file.0, &out.0, &[LONG + 1, LONG]);
+    Ok(())
+}
+
+/// A dump with its tags at this offset, written to the file and mapped.
+fn generated(file: &Temporary, mib: usize, tag: u32) -> Result<Dump, String> {
+    let path = &file.0;
+    dump::write(path, mib, tag as usize)
+        .map_err(|error| format!("cannot write {}: {error}", path.display()))?;
+    Dump::open(path.as_os_str(), false)
+        .map_err(|error| format!("cannot read {}: {error}", path.display()))
+}
+
+/// The rows of the dump that are not about its layout.
+fn pages(dump: &[u8], rounds: usize) {
     let layout = ffi::find(dump, BLOCK);
     assert_eq!(layout.refusal, 0, "the generated dump has a layout");
-    let pages = ffi::pages(dump, layout.number, BLOCK).pages;
-    println!(
-        "dump: {} bytes, {layout}, {pages} pages, mapped",
-        dump.len()
-    );
-    println!(
-        "{:8} {:>12} {:>12} {:>12} {:>12} {:>7} {:>7}",
-        "", "best", "", "median", "", "ratio", "ratio"
-    );
-    println!(
-        "{:8} {:>12} {:>12} {:>12} {:>12} {:>7} {:>7} {:>7}",
-        "", "library", "plain", "library", "plain", "best", "turns", "rounds"
-    );
-    timing::alone("touch", rounds, || plain::touch(dump, layout.number));
-    timing::compare(
-        "find",
-        rounds,
-        || ffi::find(dump, BLOCK).number,
-        || find::find(dump, BLOCK as usize),
-    );
     timing::compare(
         "counts",
         rounds,
@@ -146,8 +149,9 @@ fn lookups(dump: &[u8], layout: u32, rounds: usize) {
         || plain.objects(),
     );
     contents(&library, &plain, rounds);
-    println!("files: the long one has {} bytes", library.size(LONG).size);
     let pages = ffi::pages(dump, layout, BLOCK).pages;
+    println!("dump: {} bytes, {pages} pages, mapped", dump.len());
+    println!("files: the long one has {} bytes", library.size(LONG).size);
     println!(
         "memory: the index has {} bytes a page; at most {} KiB in all, {} of them mapped",
         anonymous * 1024 / u64::from(pages),

@@ -1,4 +1,4 @@
-//! Times two ways to do the same, turn by turn.
+//! Times several ways to do the same, turn by turn.
 
 use std::fmt::Debug;
 use std::hint::black_box;
@@ -8,7 +8,67 @@ use std::time::{Duration, Instant};
 const ENOUGH: Duration = Duration::from_secs(60);
 const FEWEST: usize = 3;
 
-/// Runs both `rounds` times, holds their answers against each other, and
+/// The times of one way, round by round.
+pub struct Times(Vec<Duration>);
+
+impl Times {
+    pub fn best(&self) -> Duration {
+        self.sorted()[0]
+    }
+
+    pub fn median(&self) -> Duration {
+        self.sorted()[self.0.len() / 2]
+    }
+
+    /// The ratio of the bests.
+    pub fn by_best(&self, other: &Times) -> f64 {
+        ratio(self.best(), other.best())
+    }
+
+    /// The median of the ratios of neighbouring turns.
+    pub fn by_turns(&self, other: &Times) -> f64 {
+        let turns = self.0.iter().zip(&other.0);
+        let mut ratios: Vec<f64> = turns.map(|(&x, &y)| ratio(x, y)).collect();
+        ratios.sort_by(f64::total_cmp);
+        ratios[ratios.len() / 2]
+    }
+
+    fn sorted(&self) -> Vec<Duration> {
+        let mut times = self.0.clone();
+        times.sort();
+        times
+    }
+}
+
+fn ratio(x: Duration, y: Duration) -> f64 {
+    x.as_secs_f64() / y.as_secs_f64()
+}
+
+/// Runs each way `rounds` times, in turn forwards and backwards from another
+/// one on, so that each goes first and comes after every other.
+pub fn turns<const N: usize>(rounds: usize, ways: [&dyn Fn(); N]) -> [Times; N] {
+    let mut times = [const { Times(Vec::new()) }; N];
+    let start = Instant::now();
+    for round in 0..rounds {
+        if round >= FEWEST && start.elapsed() > ENOUGH {
+            break;
+        }
+        for turn in 0..N {
+            let step = if round % 2 == 0 { turn } else { N - 1 - turn };
+            let way = (round / 2 + step) % N;
+            times[way].0.push(time(ways[way]));
+        }
+    }
+    times
+}
+
+fn time(way: &dyn Fn()) -> Duration {
+    let start = Instant::now();
+    way();
+    start.elapsed()
+}
+
+/// Holds the answers of both against each other, runs them turn by turn, and
 /// prints a line of times and ratios.
 pub fn compare<T: PartialEq + Debug>(
     name: &str,
@@ -17,59 +77,39 @@ pub fn compare<T: PartialEq + Debug>(
     plain: impl Fn() -> T,
 ) {
     assert_eq!(library(), plain(), "{name}: the two differ");
-    let mut library_times = Vec::new();
-    let mut plain_times = Vec::new();
-    let start = Instant::now();
-    for round in 0..rounds {
-        if round >= FEWEST && start.elapsed() > ENOUGH {
-            break;
-        }
-        if round % 2 == 0 {
-            library_times.push(time(&library));
-            plain_times.push(time(&plain));
-        } else {
-            plain_times.push(time(&plain));
-            library_times.push(time(&library));
-        }
-    }
-    let ratio = |x: Duration, y: Duration| x.as_secs_f64() / y.as_secs_f64();
-    let turns = library_times.iter().zip(&plain_times);
-    let mut paired: Vec<f64> = turns.map(|(&x, &y)| ratio(x, y)).collect();
-    paired.sort_by(f64::total_cmp);
-    let (a, b) = (best_and_median(library_times), best_and_median(plain_times));
+    let [library, plain] = turns(rounds, [&|| run(&library), &|| run(&plain)]);
+    row(name, &library, &plain);
+}
+
+/// Runs a way whose answer is not looked at.
+pub fn run<T>(way: impl Fn() -> T) {
+    black_box(way());
+}
+
+/// Prints what the columns of a row are.
+pub fn head() {
     println!(
-        "{name:8} {:>12} {:>12} {:>12} {:>12} {:>7.2} {:>7.2} {:>7}",
-        micros(a.0),
-        micros(b.0),
-        micros(a.1),
-        micros(b.1),
-        ratio(a.0, b.0),
-        paired[paired.len() / 2],
-        paired.len()
+        "{:12} {:>12} {:>12} {:>12} {:>12} {:>7} {:>7}",
+        "", "best", "", "median", "", "ratio", "ratio"
+    );
+    println!(
+        "{:12} {:>12} {:>12} {:>12} {:>12} {:>7} {:>7} {:>7}",
+        "", "library", "plain", "library", "plain", "best", "turns", "rounds"
     );
 }
 
-/// Prints the times of something that has nothing to be compared with.
-pub fn alone<T>(name: &str, rounds: usize, work: impl Fn() -> T) {
-    let times = (0..rounds).map(|_| time(&work)).collect();
-    let (best, median) = best_and_median(times);
+/// Prints a line of times and ratios.
+pub fn row(name: &str, library: &Times, other: &Times) {
     println!(
-        "{name:8} {:>12} {:>12} {:>12}",
-        micros(best),
-        "",
-        micros(median)
+        "{name:12} {:>12} {:>12} {:>12} {:>12} {:>7.2} {:>7.2} {:>7}",
+        micros(library.best()),
+        micros(other.best()),
+        micros(library.median()),
+        micros(other.median()),
+        library.by_best(other),
+        library.by_turns(other),
+        library.0.len()
     );
-}
-
-fn time<T>(work: impl Fn() -> T) -> Duration {
-    let start = Instant::now();
-    black_box(work());
-    start.elapsed()
-}
-
-fn best_and_median(mut times: Vec<Duration>) -> (Duration, Duration) {
-    times.sort();
-    (times[0], times[times.len() / 2])
 }
 
 fn micros(time: Duration) -> String {
