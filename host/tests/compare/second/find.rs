@@ -13,19 +13,29 @@ pub fn find(dump: &[u8], k: u64, wrong: Wrong) -> Result<Layout, Refusal> {
         (Refusal::BadLength, bad_length(length)),
     ];
     refuse(&tests, wrong)?;
-    let mut scores: Vec<(Layout, usize)> = Vec::new();
-    for layout in candidates(wrong) {
-        if !broken_block(layout, k, length, wrong) {
-            scores.extend(score(dump, layout, k, wrong).map(|score| (layout, score)));
-        }
+    let mut candidates: Vec<Candidate> = candidates(wrong)
+        .into_iter()
+        .filter(|&layout| !broken_block(layout, k, length, wrong))
+        .map(|layout| Candidate::of(dump, layout, k, wrong))
+        .collect();
+    if wrong != Wrong::HighestChosenBeforeFit {
+        candidates.retain(|candidate| candidate.fits(wrong));
     }
-    let highest = scores.iter().map(|&(_, score)| score).max();
-    let mut best = scores.iter().filter(|&&(_, score)| Some(score) == highest);
-    let winner = match wrong {
+    let highest = highest(&candidates, wrong).filter(|candidate| candidate.fits(wrong));
+    highest
+        .map(|candidate| candidate.layout)
+        .ok_or(Refusal::NoLayout)
+}
+
+/// The candidate with the highest score, and of several the first.
+fn highest(candidates: &[Candidate], wrong: Wrong) -> Option<&Candidate> {
+    let highest = candidates.iter().map(|c| c.rank(wrong)).max();
+    let mut best = candidates.iter().filter(|c| Some(c.rank(wrong)) == highest);
+    match wrong {
         Wrong::LastBestWins => best.next_back(),
+        Wrong::ClearWinnerNeeded if best.clone().count() > 1 => None,
         _ => best.next(),
-    };
-    winner.map(|&(layout, _)| layout).ok_or(Refusal::NoLayout)
+    }
 }
 
 /// The candidates, in the order of the table.
@@ -39,28 +49,73 @@ fn candidates(wrong: Wrong) -> Vec<Layout> {
     candidates
 }
 
-/// The score of a candidate, if it fits: the good pages that bear the sequence
-/// of their block, at least one of them and at least half of all not blank.
-fn score(dump: &[u8], layout: Layout, k: u64, wrong: Wrong) -> Option<usize> {
-    let pages: Vec<usize> = (0..dump.len() / layout.page()).collect();
-    let k = if wrong == Wrong::BlockIgnored { 1 } else { k };
-    let score: usize = pages
-        .chunks(k as usize)
-        .map(|block| block_score(dump, layout, block, wrong))
-        .sum();
-    let not_blank = match wrong {
-        Wrong::BlankCountedNotBlank => pages.len(),
-        _ => pages
-            .iter()
-            .filter(|&&page| !tags(dump, layout, page).blank())
-            .count(),
-    };
-    let half = match wrong {
-        Wrong::MoreThanHalfNeeded => 2 * score > not_blank,
-        Wrong::HalfNotNeeded => true,
-        _ => 2 * score >= not_blank,
-    };
-    (score >= 1 && half).then_some(score)
+/// A candidate, and of each of its blocks the part of the score and how many
+/// pages are not blank.
+struct Candidate {
+    layout: Layout,
+    scores: Vec<usize>,
+    not_blank: Vec<usize>,
+}
+
+impl Candidate {
+    fn of(dump: &[u8], layout: Layout, k: u64, wrong: Wrong) -> Candidate {
+        let pages: Vec<usize> = (0..dump.len() / layout.page()).collect();
+        let k = if wrong == Wrong::BlockIgnored { 1 } else { k };
+        let blocks = || pages.chunks(k as usize);
+        let is_marked = |&&page: &&usize| match wrong {
+            Wrong::BlankCountedNotBlank => true,
+            _ => !tags(dump, layout, page).blank(),
+        };
+        Candidate {
+            layout,
+            scores: blocks()
+                .map(|b| block_score(dump, layout, b, wrong))
+                .collect(),
+            not_blank: blocks()
+                .map(|b| b.iter().filter(is_marked).count())
+                .collect(),
+        }
+    }
+
+    /// The score: of all good pages, those that bear the sequence of their block.
+    fn score(&self) -> usize {
+        self.scores.iter().sum()
+    }
+
+    /// Whether the score is at least one, and at least half of all pages that
+    /// are not blank.
+    fn fits(&self, wrong: Wrong) -> bool {
+        let blocks = self.scores.len();
+        let half = match wrong {
+            Wrong::HalfNotNeeded => true,
+            Wrong::HalfNeededThroughout => (1..=blocks).all(|end| self.half(end, end, wrong)),
+            Wrong::LastBlockNotCounted => self.half(blocks, blocks - 1, wrong),
+            _ => self.half(blocks, blocks, wrong),
+        };
+        self.score() >= 1 && half
+    }
+
+    /// Whether the score of so many blocks is at least half of the pages that
+    /// are not blank in so many.
+    fn half(&self, scored: usize, counted: usize, wrong: Wrong) -> bool {
+        let score: usize = self.scores[..scored].iter().sum();
+        let not_blank: usize = self.not_blank[..counted].iter().sum();
+        match wrong {
+            Wrong::MoreThanHalfNeeded => 2 * score > not_blank,
+            _ => 2 * score >= not_blank,
+        }
+    }
+
+    /// What decides between candidates: the score.
+    fn rank(&self, wrong: Wrong) -> [usize; 2] {
+        let half = self.scores.len().div_ceil(2);
+        match wrong {
+            Wrong::FirstFitWins => [0, 0],
+            Wrong::FirstHalfRanks => [self.scores[..half].iter().sum(), 0],
+            Wrong::TiesByFirstBlock => [self.score(), self.scores[0]],
+            _ => [self.score(), 0],
+        }
+    }
 }
 
 /// A block's part of the score: the sequence is that of its first good page.

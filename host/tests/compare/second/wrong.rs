@@ -68,6 +68,20 @@ wrong_rules! {
     HalfNotNeeded,
     /// The type tests decide what is good.
     FindReadsTypes,
+    /// The first candidate that fits wins, whatever its score.
+    FirstFitWins,
+    /// The highest score is chosen before it is asked whether it fits.
+    HighestChosenBeforeFit,
+    /// Where two have the highest score, none wins.
+    ClearWinnerNeeded,
+    /// Among equal scores the one with more of it in the first block wins.
+    TiesByFirstBlock,
+    /// Between candidates the first half of their blocks decides.
+    FirstHalfRanks,
+    /// Half is needed at the end of every block, not of the last alone.
+    HalfNeededThroughout,
+    /// Pages of the last block are not counted as not blank.
+    LastBlockNotCounted,
 
     // Newest, size and cuts.
     /// Records are ordered by page number alone.
