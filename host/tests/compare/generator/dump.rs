@@ -95,7 +95,8 @@ pub fn dump(rng: &mut Rng) -> Dump {
             _ => noise_page(rng, &mut builder, page, sequence),
         }
     }
-    if !made.calm && rng.chance(40) {
+    let decoys = if k > 64 { 90 } else { 50 };
+    if !made.calm && rng.chance(decoys) {
         decoy::plant(rng, &mut builder, k);
     }
     made.bytes = builder.bytes;
@@ -105,8 +106,12 @@ pub fn dump(rng: &mut Rng) -> Dump {
     made
 }
 
-/// K, and a number of pages that makes whole blocks; large pages stay few.
+/// K, and a number of pages that makes whole blocks; large pages stay few. Now
+/// and then every layout divides the dump.
 fn block_and_pages(rng: &mut Rng, layout: Layout) -> (u64, usize) {
+    if layout.data > 4096 && rng.chance(4) {
+        return (1, common_length() / layout.page());
+    }
     let most = match layout.data {
         512 => 600,
         2048 => 300,
@@ -121,10 +126,18 @@ fn block_and_pages(rng: &mut Rng, layout: Layout) -> (u64, usize) {
         _ => rng.between(257, 600),
     };
     let pages = pages.min(most);
-    let k = rng.pick(&[1, 2, 3, 4, 4, 4, 5, 6, 7, 8, 8, 16, 32, 64, 128, 256]);
+    let k = rng.pick(&[1, 2, 3, 4, 4, 4, 5, 6, 7, 8, 8, 16, 32, 64, 128, 256, 256]);
     let k = if k > most { 4.min(pages) } else { k };
     let blocks = (pages / k).max(1);
     (k, (k * blocks) as usize)
+}
+
+/// The fewest bytes that every layout divides into pages.
+fn common_length() -> usize {
+    table().iter().map(|layout| layout.page()).fold(1, |a, b| {
+        let mut multiples = (1..).map(|n| n * a);
+        multiples.find(|n| n.is_multiple_of(b)).unwrap_or(a)
+    })
 }
 
 /// One to five ids, often equal modulo the number of pages; sometimes about

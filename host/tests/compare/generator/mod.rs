@@ -24,6 +24,8 @@ pub mod shelf;
 #[cfg(test)]
 mod tests;
 
+use std::collections::BTreeSet;
+
 use crate::second::index::Reader;
 use crate::second::script::{answer, index_words, Answer, Request};
 use crate::second::wrong::Wrong;
@@ -60,6 +62,15 @@ impl Case {
         let mut reader = self.reader(wrong);
         let requests = self.requests.iter();
         requests.map(move |r| (answer(&mut reader, r), reader.words.clone()))
+    }
+
+    /// The values of K that it asks to find the layout with.
+    pub fn finds(&self) -> BTreeSet<u64> {
+        let finds = self.requests.iter().filter_map(|request| match *request {
+            Request::Find { k } => Some(k),
+            _ => None,
+        });
+        finds.collect()
     }
 
     /// The requests as a script, to be replayed by hand.

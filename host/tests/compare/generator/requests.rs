@@ -37,7 +37,7 @@ impl Asker<'_> {
     fn whole_dump(&mut self) {
         let k = self.dump.k;
         self.list.push(Request::Find { k });
-        let k = self.k();
+        let k = if self.rng.chance(40) { 1 } else { self.k() };
         self.list.push(Request::Find { k });
         for _ in 0..self.rng.between(3, 9) {
             let layout = self.any_layout();

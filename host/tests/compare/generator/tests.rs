@@ -3,7 +3,9 @@
 use std::collections::BTreeMap;
 
 use super::case;
+use crate::second::find::find;
 use crate::second::wrong::{Wrong, WRONG_RULES};
+use crate::SEEDS;
 
 /// Dumps that every wrong rule must be noticed within.
 const DUMPS: u64 = 1000;
@@ -60,6 +62,29 @@ fn every_answer_and_refusal_occurs() {
     for word in others.split(' ') {
         assert!(shapes.contains_key(word), "{word}");
     }
+}
+
+/// Rules that differ where two scores are equal, and where the last block
+/// decides whether a candidate fits.
+const CLOSE: [Wrong; 2] = [Wrong::ClearWinnerNeeded, Wrong::LastBlockNotCounted];
+
+#[test]
+fn close_finds_occur_with_each_sort_of_k() {
+    let sorts: [fn(u64) -> bool; 3] = [|k| k == 1, |k| k > 1 && k % 2 == 1, |k| k == 256];
+    let mut seen = [[0; CLOSE.len()]; 3];
+    for case in (0..SEEDS).map(case) {
+        for k in case.finds() {
+            let answer = |wrong| find(&case.dump.bytes, k, wrong);
+            let differs = CLOSE.map(|wrong| answer(wrong) != answer(Wrong::None));
+            for (seen, _) in seen.iter_mut().zip(sorts).filter(|(_, sort)| sort(k)) {
+                for (seen, differs) in seen.iter_mut().zip(differs) {
+                    *seen += u32::from(differs);
+                }
+            }
+        }
+    }
+    println!("{seen:?}");
+    assert!(!seen.as_flattened().contains(&0), "{seen:?}");
 }
 
 #[test]
