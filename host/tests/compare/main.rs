@@ -6,6 +6,7 @@
 //! - `library`: the library's answers to the same requests.
 //! - `corpus`: dumps that the YAFFS2 driver wrote.
 //! - `replay`: the vectors that the program of that name is held to.
+//! - `unread`: what stands beside all tags decides no layout.
 //!
 //! `LOHENARR_SEEDS=N` compares N dumps instead of the usual number.
 
@@ -17,6 +18,8 @@ mod library;
 #[cfg(test)]
 mod replay;
 mod second;
+#[cfg(test)]
+mod unread;
 
 use std::env;
 
