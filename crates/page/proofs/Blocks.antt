@@ -1,6 +1,6 @@
 -- Laws of the blocks of a dump, of their sequences and of what they score.
 -- Blocks begin at the multiples of k, so that each page of the block from `block` on has its sequence there.
--- A good page's sequence is not 0, so that a block whose sequence is 0 has no good page and scores nothing.
+-- A good page's sequence is its sequence word, so that a page with another word does not bear it, whatever else its tags say.
 use Prim.Native.Nat.{ℕ, zero, suc, _+_, _-_, _*_, _/_, _%_, _^_, _≤_, _<_, zero-le}
 use mathlib.Core.Bool.{Bool, true, false}
 use mathlib.Core.List.{List, [], _∷_}
@@ -14,20 +14,20 @@ use lib.Dec.{eqb, ltb}
 use lib.ListN.{length}
 use types.Run.{OneOf}
 use denote.Enum.Declared.{tagOf}
-use borrow.Author.Tests.{ltb-false, eqb-true}
+use borrow.Author.Tests.{eqb-true, eq-eqb, ne-eqb}
 use Rattle.page.specs.Choice.{pick}
 use Rattle.page.specs.Search.{count}
 use Rattle.page.specs.Numbers.{badObject, mostChunk}
 use Rattle.page.specs.Layouts.{pageLen}
-use Rattle.page.specs.Lengths.{wholeBlocks, pageCount, pageIn}
-use Rattle.page.specs.Tags.{blankSequence, leastSequence, mostSequence, isTyped, objectIn, headerClaim, dataClaim, claimOf, claimOn, claimAt}
+use Rattle.page.specs.Lengths.{wholeBlocks, pageCount}
+use Rattle.page.specs.Tags.{blankSequence, leastSequence, mostSequence, isTyped, objectIn, headerClaim, dataClaim, claimOf}
 use Rattle.page.specs.Find.{isGood, sequenceOf, isMarked, bearsSequence, firstSequence, blockSequence, isScored, scoreOf, markedAt, markedOf}
 use Rattle.page.specs.declared.layout.Layout.{Layout}
 use Rattle.page.specs.declared.tags.Tags.{Tags}
 use Rattle.page.specs.declared.tags.Claim.{Claim}
 use Rattle.page.specs.declared.tags.Claim.the-variants.{Blank, Foreign, Damaged, Header, Data}
 use Rattle.page.proofs.tags.Claim.{the-type}
-use Rattle.page.proofs.Searching.{pick-cases, count-step, count-none, count-le}
+use Rattle.page.proofs.Searching.{by-test, count-step, count-none, count-le}
 use Rattle.page.proofs.Layouts.{product-pos}
 
 -- a page is not good where neither good case was met
@@ -78,13 +78,6 @@ module _ (test : ℕ → Bool) (from i n : ℕ) (e : count test from + n ≡ cou
   pub tally-le : n ≤ i
   tally-le = omega (arith, count-le test i)
 
--- numbers that do not pass add nothing to a count
-count-idle : (test : ℕ → Bool) (i n : ℕ) → ((j : ℕ) → i ≤ j → j < i + n → test j ≡ false) → count test i ≡ count test (i + n)
-count-idle test i zero f = rw (add-zero i)
-count-idle test i (suc n) f =
-    let e : i + suc n ≡ i + n + 1 = omega arith in
-    rw (e, count-step, f (i + n) (omega arith) (omega arith)) (count-idle test i n (λ j h g. f j h (omega arith)))
-
 -- a page of the block from `block` on has its block's start there
 pub block-start : (k block i : ℕ) → block % k ≡ 0 → block ≤ i → i < block + k → i / k * k ≡ block
 block-start k block i e h g =
@@ -118,57 +111,54 @@ whole-pages l k n h g e =
     (λ some. let p : 0 < pageCount l n % k * pageLen l = product-pos some g in absurd (omega arith))
     (eq-or-lt-of-le low)
 
--- a good page's sequence is not 0
-pub record Numbered (c : Claim) : Type 0 where
-  pub least : isGood c ≡ true → leastSequence ≤ sequenceOf c
+-- a page that is good bears this sequence
+record Bears (s : ℕ) (c : Claim) : Type 0 where
+  own : isGood c ≡ true → sequenceOf c ≡ s
 
-not-good-numbered : (c : Claim) → isGood c ≡ false → Numbered c
-not-good-numbered c e = record { least = λ g. let z : _≡_ {A = ℕ} 0 1 = cc in absurd (omega arith) }
+not-good-bears : (s : ℕ) (c : Claim) → isGood c ≡ false → Bears s c
+not-good-bears s c e = record { own = λ g. let z : _≡_ {A = ℕ} 0 1 = cc in absurd (omega arith) }
 
-by-way : (b : Bool) {x y : Claim} → Numbered x → (b ≡ false → Numbered y) → Numbered (pick b x y)
-by-way true p q = p
-by-way false p q = q refl
+by-way : (s : ℕ) (b : Bool) {x y : Claim} → Bears s x → Bears s y → Bears s (pick b x y)
+by-way s true p q = p
+by-way s false p q = q
 
-module _ (t : Tags) (h : leastSequence ≤ t .sequence) where
-  header-numbered : Numbered (headerClaim t)
+module _ (t : Tags) where
+  damaged : Bears (t .sequence) Damaged
+  damaged = not-good-bears (t .sequence) Damaged refl
+
+  header-bears : Bears (t .sequence) (headerClaim t)
   unfolding headerClaim
-  header-numbered = by-way (badObject (objectIn t)) (not-good-numbered Damaged refl) (λ e. record { least = λ g. h })
+  header-bears = by-way _ (badObject (objectIn t)) damaged (record { own = λ g. refl })
 
-  data-numbered : (p : ℕ) → Numbered (dataClaim p t)
+  data-bears : (p : ℕ) → Bears (t .sequence) (dataClaim p t)
   unfolding dataClaim
-  data-numbered p =
-      let d = not-good-numbered Damaged refl in
-      by-way (badObject (t .object)) d
-      (λ e. by-way (ltb mostChunk (t .chunk)) d (λ e. by-way (eqb (t .count) 0) d (λ e. by-way (ltb p (t .count)) d (λ e. record { least = λ g. h }))))
+  data-bears p =
+      by-way _ (badObject (t .object)) damaged
+      (by-way _ (ltb mostChunk (t .chunk)) damaged (by-way _ (eqb (t .count) 0) damaged (by-way _ (ltb p (t .count)) damaged (record { own = λ g. refl }))))
 
-claim-numbered : (p : ℕ) (t : Tags) → Numbered (claimOf p t)
-unfolding claimOf
-claim-numbered p t =
-    let f = not-good-numbered Foreign refl in
-    by-way (eqb (t .sequence) blankSequence) (not-good-numbered Blank refl)
-    (λ e. by-way (ltb (t .sequence) leastSequence) f
-    (λ low. let h = ltb-false (t .sequence) leastSequence low in
-    by-way (ltb mostSequence (t .sequence)) f
-    (λ e. by-way (isTyped t) (header-numbered t h) (λ e. by-way (eqb (t .chunk) 0) (header-numbered t h) (λ e. data-numbered t h p)))))
+  claim-bears : (p : ℕ) → Bears (t .sequence) (claimOf p t)
+  unfolding claimOf
+  claim-bears p =
+      let foreign = not-good-bears (t .sequence) Foreign refl in
+      by-way _ (eqb (t .sequence) blankSequence) (not-good-bears (t .sequence) Blank refl)
+      (by-way _ (ltb (t .sequence) leastSequence) foreign
+      (by-way _ (ltb mostSequence (t .sequence)) foreign
+      (by-way _ (isTyped t) header-bears (by-way _ (eqb (t .chunk) 0) header-bears (data-bears p)))))
 
-pub page-numbered : (l : Layout) (dump : List ℕ) (i : ℕ) → Numbered (claimAt l dump i)
-unfolding claimAt claimOn
-page-numbered l dump i = by-way (pageIn l (length dump) i) (claim-numbered _ _) (λ e. not-good-numbered Blank refl)
-
-module _ (said : ℕ → Claim) (numbered : (i : ℕ) → Numbered (said i)) where
-  -- a search that finds no sequence has met no good page
-  pub none-good : (i n : ℕ) → firstSequence said i n ≡ 0 → (j : ℕ) → i ≤ j → j < i + n → isGood (said j) ≡ false
-  unfolding firstSequence
-  none-good i zero e j h g = absurd (omega arith)
-  none-good i (suc n) e j h g =
-      pick-cases (isGood (said i)) (sequenceOf (said i)) (firstSequence said (i + 1) n) 0 _ e
-      (λ good z. let b = numbered i .least good in absurd (omega arith))
-      (λ bad z. ⊎-elim (λ q. rw (← q) bad) (λ less. none-good (i + 1) n z j (omega arith) (omega arith)) (eq-or-lt-of-le h))
-
-  -- so that its block scores nothing
-  pub none-scored : (k block : ℕ) → block % k ≡ 0 → firstSequence said block k ≡ 0 → scoreOf said k block + 0 ≡ scoreOf said k (block + k)
+  -- whether a page is good and bears a sequence is settled by its sequence word where that is another, and by the rest where it is that
+  pub bears-other : (p s : ℕ) → (t .sequence ≡ s → ⊥) → bearsSequence s (claimOf p t) ≡ false
   unfolding bearsSequence
-  none-scored k block e z = add-zero _ ∙ count-idle (isScored said k) block k (λ j h g. scored-in-block said k block j e h g ∙ rw (none-good block k z j h g))
+  bears-other p s n =
+      by-test (isGood (claimOf p t)) _
+      (λ g. rw (g, ne-eqb (sequenceOf (claimOf p t)) s (λ e. n (sym (claim-bears p .own g) ∙ e))))
+      (λ g. rw g)
+
+  pub bears-same : (p s : ℕ) → t .sequence ≡ s → bearsSequence s (claimOf p t) ≡ isGood (claimOf p t)
+  unfolding bearsSequence
+  bears-same p s e =
+      by-test (isGood (claimOf p t)) _
+      (λ g. rw (g, eq-eqb (sequenceOf (claimOf p t)) s (claim-bears p .own g ∙ e)))
+      (λ g. rw g)
 
 -- the blocks before `next` are gone through: what their pages score, and how many of them are not blank
 pub record Through (said : ℕ → Claim) (k pages next score marked : ℕ) : Type 0 where

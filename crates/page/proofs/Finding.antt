@@ -21,22 +21,7 @@ use Rattle.page.specs.declared.layout.Named.the-variants as named
 use Rattle.page.specs.declared.refusal.Refusal.the-variants.{BadLayout, BadLength, NoLayout}
 use Rattle.page.proofs.Searching.{pick-cases, by-test}
 use Rattle.page.proofs.Blocks.{Through}
-use Rattle.page.proofs.Leading.{leader, highest-bounds, won-named, won-refused}
-
--- a candidate that does not divide the dump into whole blocks has no score
-pub score-undivided : (dump : List ℕ) (k c : ℕ) → wholeBlocks (layoutAt c) k (length dump) ≡ false → candidateScore dump k c ≡ 0
-unfolding candidateScore
-score-undivided dump k c e = rw e
-
--- one that does has what its blocks score, where it fits, once they all are gone through
-pub score-divided :
-    (dump : List ℕ) (k c next score marked : ℕ) → wholeBlocks (layoutAt c) k (length dump) ≡ true →
-    Through (claimAt (layoutAt c) dump) k (pageCount (layoutAt c) (length dump)) next score marked → pageCount (layoutAt c) (length dump) ≤ next →
-    candidateScore dump k c ≡ pick (scoreFits score marked) score 0
-unfolding candidateScore fittingScore
-score-divided dump k c next score marked e t h =
-    let all = le-antisymm h (t .within) in
-    rw (e, all, t .scored, t .counted)
+use Rattle.page.proofs.Leading.{winning, highest-bounds, won-named, won-refused}
 
 -- what the pages of a candidate score, and whether it fits
 abbrev pub ownScore : List ℕ → ℕ → ℕ → ℕ
@@ -86,8 +71,8 @@ pub found-is : (dump : List ℕ) (k : ℕ) (l : Layout) → findOf dump k ≡ na
 found-is dump k l e =
     let w = past-refusals dump k (named.Layout l) (λ z. let n : _≡_ {A = ℕ} 0 1 = cc in omega arith) (λ z. let n : _≡_ {A = ℕ} 0 1 = cc in omega arith) e in
     let score = candidateScore dump k in
-    let o = leader score 13 in
-    let t = o .leads in
+    let o = winning score in
+    let t = o .won in
     by-test (eqb (o .best) 0) _
     (λ z. let r = won-refused t (eqb-true (o .best) 0 z) in let n : _≡_ {A = ℕ} 0 1 = cc in absurd (omega arith))
     (λ z.
@@ -97,7 +82,7 @@ found-is dump k l e =
     let s = t .here some in
     record {
       number = o .found;
-      listed = t .within some;
+      listed = t .within;
       row = cc;
       fits = fitting dump k (o .found) (omega (arith, s));
       highest = λ c less. let b = highest-bounds score 13 c less in omega (arith, s, t .top);
@@ -108,11 +93,11 @@ found-is dump k l e =
 pub none-found : (dump : List ℕ) (k : ℕ) → findOf dump k ≡ named.Refused NoLayout → (c : ℕ) → c < 13 → candidateScore dump k c ≡ 0
 none-found dump k e c h =
     let w = past-refusals dump k (named.Refused NoLayout) (λ z. let n : _≡_ {A = ℕ} 0 1 = cc in omega arith) (λ z. let n : _≡_ {A = ℕ} 0 1 = cc in omega arith) e in
-    let o = leader (candidateScore dump k) 13 in
+    let o = winning (candidateScore dump k) in
     let b = highest-bounds (candidateScore dump k) 13 c h in
     by-test (eqb (o .best) 0) _
-    (λ z. let q = eqb-true (o .best) 0 z in omega (arith, o .leads .top))
-    (λ z. let q = eqb-false (o .best) 0 z in let r = won-named (o .leads) (omega arith) in let n : _≡_ {A = ℕ} 0 1 = cc in absurd (omega arith))
+    (λ z. let q = eqb-true (o .best) 0 z in omega (arith, o .won .top))
+    (λ z. let q = eqb-false (o .best) 0 z in let r = won-named (o .won) (omega arith) in let n : _≡_ {A = ℕ} 0 1 = cc in absurd (omega arith))
 
 -- pages of the same tag bytes say the same, for two dumps of one length
 same-tags : (l : Layout) (a b : List ℕ) (i : ℕ) → length a ≡ length b → (pageIn l (length a) i ≡ true → tagBytes l (pageAt l a i) ≡ tagBytes l (pageAt l b i)) → claimAt l a i ≡ claimAt l b i

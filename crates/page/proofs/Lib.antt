@@ -9,6 +9,7 @@ pub mod Naming
 pub mod Counting
 pub mod Blocks
 pub mod Leading
+pub mod Leaving
 pub mod Finding
 pub mod Within
 pub mod Marked

@@ -12,4 +12,5 @@ pub mod Kinds
 pub mod Counts
 pub mod Asked
 pub mod Find
+pub mod Leaving
 pub mod Shelf

@@ -1,17 +1,31 @@
 // Finding the layout of a dump: the candidate whose pages bear their block's sequence most often.
+// A guessed candidate is gone through first, and any other is left as soon as it cannot win any more.
 ghost use mathlib.Core.Path.{_≡_};
 ghost use mathlib.Core.Bool.{true};
-ghost use Prim.Native.Nat.{_+_, _%_, _<_, _^_};
+ghost use Prim.Native.Nat.{_+_, _*_, _%_, _<_, _≤_, _^_};
 ghost use lib.ListN.{length};
+ghost use Rattle.page.specs.Layouts.{layouts, roomy};
 ghost use Rattle.page.specs.Lengths.{blockFits, lengthFits};
 ghost use Rattle.page.specs.Tags.{claimAt};
-ghost use Rattle.page.specs.Find.{isMarked, bearsSequence, firstSequence, scoreOf, markedOf, scoreFits, candidateScore, winnerOf, findOf};
+ghost use Rattle.page.specs.Find.{isGood, isMarked, bearsSequence, firstSequence, candidateScore, winnerOf, findOf};
+ghost use Rattle.page.specs.Leaving.{Gained, inTurn, isLost, needOf, pagesUnder};
 use crate::layout::Layout;
 use crate::layout::Named;
 use crate::number::PageNumber;
 use crate::refusal::Refusal;
 use crate::tags::Claim;
+use crate::tags::Tags;
 use crate::tags::claim_at;
+use crate::tags::page_at;
+
+// How many blocks of a candidate are glanced at for a guess.
+const GLANCES: u32 = 8;
+
+// What a block adds to its candidate: how many of its pages bear its sequence, and how many are not blank.
+pub(crate) struct Gain {
+    pub score: u32,
+    pub marked: u32,
+}
 
 // Whether a page is not blank.
 fn is_marked(claim: Claim) -> bool
@@ -23,23 +37,37 @@ fn is_marked(claim: Claim) -> bool
     false
 }
 
-// Whether a page is good and bears this sequence.
-fn bears(claim: Claim, sequence: u32) -> bool
-    ensures { λ r. ⌜ r ≡ bearsSequence sequence claim ⌝ }
+// Whether a page is good.
+fn is_good(claim: Claim) -> bool
+    ensures { λ r. ⌜ r ≡ isGood claim ⌝ }
 {
     match claim {
         Claim::Header {
-            sequence: own,
+            sequence: _,
             object: _,
-        } => own == sequence,
+        } => true,
         Claim::Data {
-            sequence: own,
+            sequence: _,
             object: _,
             chunk: _,
             count: _,
-        } => own == sequence,
+        } => true,
         _ => false,
     }
+}
+
+// Whether page n is good and bears this sequence. The sequence is compared first: under a candidate that is not the dump's it mostly differs.
+fn bears(dump: &[u8], l: Layout, n: PageNumber, sequence: u32) -> bool
+    ensures { λ r. ⌜ r ≡ bearsSequence sequence (claimAt l (now (dump .entry)) (n .0)) ⌝ }
+{
+    if !l.holds(dump.len(), n) {
+        return false;
+    }
+    let t = Tags::of_page(page_at(dump, l, n), l);
+    if t.sequence != sequence {
+        return false;
+    }
+    is_good(t.claim(l.data))
 }
 
 // The sequence of the first good page of a block of k pages, where the search ends; 0 where no page is good.
@@ -72,44 +100,104 @@ fn first_sequence(dump: &[u8], l: Layout, k: u32, block: u32) -> u32
     sequence
 }
 
-// How many pages of a block are not blank.
-fn marked_in(dump: &[u8], l: Layout, k: u32, block: u32) -> u32
-    requires { ⌜ block + k < 2 ^ 32 ⌝ }
-    ensures { λ r. ⌜ markedOf (claimAt l (now (dump .entry))) block + r ≡ markedOf (claimAt l (now (dump .entry))) (block + k) ⌝ }
+// How many pages a dump of this length has in whole blocks of k under layout l; none where it does not divide.
+fn pages_under(l: Layout, k: u32, len: usize) -> u32
+    requires { ⌜ roomy l ≡ true ⌝ }
+    requires { ⌜ blockFits k ≡ true ⌝ }
+    requires { ⌜ lengthFits len ≡ true ⌝ }
+    ensures { λ r. ⌜ r ≡ pagesUnder l k len ⌝ }
 {
+    if !l.divides(len, k) {
+        return 0;
+    }
+    (len / l.page_len()) as u32
+}
+
+// What a block adds to its candidate.
+fn gain_in(dump: &[u8], l: Layout, k: u32, block: u32) -> Gain
+    requires { ⌜ block % k ≡ 0 ⌝ }
+    requires { ⌜ block + k < 2 ^ 32 ⌝ }
+    ensures { λ r. ⌜ Gained (claimAt l (now (dump .entry))) k block r ⌝ }
+{
+    let sequence = first_sequence(dump, l, k, block);
+    let mut score: u32 = 0;
     let mut marked: u32 = 0;
     for i in block..block + k {
         if is_marked(claim_at(dump, l, PageNumber(i))) {
             marked += 1;
         }
-    }
-    marked
-}
-
-// How many pages of a block are good and bear its sequence.
-fn scored_in(dump: &[u8], l: Layout, k: u32, block: u32, sequence: u32) -> u32
-    requires { ⌜ (block % k ≡ 0) × (block + k < 2 ^ 32) ⌝ }
-    requires { ⌜ sequence ≡ firstSequence (claimAt l (now dump)) block k ⌝ }
-    ensures { λ r. ⌜ scoreOf (claimAt l (now (dump .entry))) k block + r ≡ scoreOf (claimAt l (now (dump .entry))) k (block + k) ⌝ }
-{
-    let mut score: u32 = 0;
-    for i in block..block + k {
-        if bears(claim_at(dump, l, PageNumber(i)), sequence) {
+        if bears(dump, l, PageNumber(i), sequence) {
             score += 1;
         }
+    }
+    Gain { score, marked }
+}
+
+// Whether a candidate with so many pages left cannot reach the score that it needs any more, or cannot fit any more.
+fn is_lost(score: u32, marked: u32, left: u32, need: u32) -> bool
+    requires { ⌜ 2 * score + left < 2 ^ 32 ⌝ }
+    ensures { λ r. ⌜ r ≡ isLost score marked left need ⌝ }
+{
+    if score + left < need {
+        return true;
+    }
+    2 * score + left < marked
+}
+
+// The score that candidate n needs to lead before candidate `found`, which has the best so far.
+fn need_of(n: u32, found: u32, best: u32) -> u32
+    requires { ⌜ best < 2 ^ 31 ⌝ }
+    ensures { λ r. ⌜ r ≡ needOf n found best ⌝ }
+{
+    if n < found { best } else { best + 1 }
+}
+
+// The candidate of a turn: the one that was guessed and the first of the table have changed places.
+fn in_turn(guess: u32, turn: u32) -> u32
+    ensures { λ r. ⌜ r ≡ inTurn guess turn ⌝ }
+{
+    if turn == 0 {
+        return guess;
+    }
+    if turn == guess { 0 } else { turn }
+}
+
+// How many pages score in a few blocks of candidate n, spread over the dump.
+fn glance(dump: &[u8], k: u32, n: u32) -> u32
+    requires { ⌜ n < layouts ⌝ }
+    requires { ⌜ blockFits k ≡ true ⌝ }
+    requires { ⌜ lengthFits (length (now dump)) ≡ true ⌝ }
+{
+    let l = Layout::row(n);
+    let pages = pages_under(l, k, dump.len());
+    if pages == 0 {
+        return 0;
+    }
+    let stride = pages / GLANCES / k * k;
+    let mut score: u32 = 0;
+    for i in 0..GLANCES {
+        score += gain_in(dump, l, k, stride * i).score;
     }
     score
 }
 
-// Whether a candidate with this score, and so many pages that are not blank, fits.
-fn score_fits(score: u32, marked: u32) -> bool
-    requires { ⌜ score < 2 ^ 31 ⌝ }
-    ensures { λ r. ⌜ r ≡ scoreFits score marked ⌝ }
+// The candidate that looks best at a glance. Any would do: the better the guess, the sooner the others are lost.
+fn guess(dump: &[u8], k: u32) -> u32
+    requires { ⌜ blockFits k ≡ true ⌝ }
+    requires { ⌜ lengthFits (length (now dump)) ≡ true ⌝ }
+    ensures { λ r. ⌜ r < layouts ⌝ }
 {
-    if score < 1 {
-        return false;
+    let mut most: u32 = 0;
+    let mut first: u32 = 0;
+    for n in 0..Layout::COUNT {
+        let score = glance(dump, k, n);
+        if score <= most {
+            continue;
+        }
+        most = score;
+        first = n;
     }
-    marked <= 2 * score
+    first
 }
 
 // The candidate with the highest score, the first in the table of those that have it.
@@ -118,32 +206,28 @@ fn best_of(dump: &[u8], k: u32) -> Named
     requires { ⌜ lengthFits (length (now dump)) ≡ true ⌝ }
     ensures { λ r. ⌜ r ≡ winnerOf (candidateScore (now (dump .entry)) k) ⌝ }
 {
+    let first = guess(dump, k);
     let mut best: u32 = 0;
     let mut found: u32 = 0;
-    'candidates: for n in 0..Layout::COUNT {
+    'candidates: for turn in 0..Layout::COUNT {
+        let n = in_turn(first, turn);
         let l = Layout::row(n);
-        if !l.divides(dump.len(), k) {
-            continue 'candidates;
-        }
-        let pages = (dump.len() / l.page_len()) as u32;
+        let pages = pages_under(l, k, dump.len());
+        let need = need_of(n, found, best);
         let mut score: u32 = 0;
         let mut marked: u32 = 0;
         let mut next: u32 = 0;
-        'blocks: while next < pages {
-            let block = next;
-            next += k;
-            marked += marked_in(dump, l, k, block);
-            let sequence = first_sequence(dump, l, k, block);
-            if sequence == 0 {
-                continue 'blocks;
+        'blocks: loop {
+            if is_lost(score, marked, pages - next, need) {
+                continue 'candidates;
             }
-            score += scored_in(dump, l, k, block, sequence);
-        }
-        if !score_fits(score, marked) {
-            continue 'candidates;
-        }
-        if score <= best {
-            continue 'candidates;
+            if next == pages {
+                break 'blocks;
+            }
+            let g = gain_in(dump, l, k, next);
+            next += k;
+            score += g.score;
+            marked += g.marked;
         }
         best = score;
         found = n;
