@@ -98,18 +98,3 @@ none-found dump k e c h =
     by-test (eqb (o .best) 0) _
     (λ z. let q = eqb-true (o .best) 0 z in omega (arith, o .won .top))
     (λ z. let q = eqb-false (o .best) 0 z in let r = won-named (o .won) (omega arith) in let n : _≡_ {A = ℕ} 0 1 = cc in absurd (omega arith))
-
--- pages of the same tag bytes say the same, for two dumps of one length
-same-tags : (l : Layout) (a b : List ℕ) (i : ℕ) → length a ≡ length b → (pageIn l (length a) i ≡ true → tagBytes l (pageAt l a i) ≡ tagBytes l (pageAt l b i)) → claimAt l a i ≡ claimAt l b i
-unfolding claimAt claimOn
-same-tags l a b i e f = by-test (pageIn l (length a) i) _ (λ t. rw (← e, t, f t)) (λ t. rw (← e, t))
-
--- finding reads tags alone: two dumps of one length with the same tag bytes have the same answer
-pub finding-reads-tags :
-    (a b : List ℕ) (k : ℕ) → length a ≡ length b →
-    ((c i : ℕ) → pageIn (layoutAt c) (length a) i ≡ true → tagBytes (layoutAt c) (pageAt (layoutAt c) a i) ≡ tagBytes (layoutAt c) (pageAt (layoutAt c) b i)) →
-    findOf a k ≡ findOf b k
-unfolding findOf candidateScore
-finding-reads-tags a b k e f =
-    let s : candidateScore a k ≡ candidateScore b k = fun-ext (λ c. rw (e, fun-ext (λ i. same-tags (layoutAt c) a b i e (f c i)))) in
-    rw (e, s)

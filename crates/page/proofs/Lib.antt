@@ -11,5 +11,6 @@ pub mod Blocks
 pub mod Leading
 pub mod Leaving
 pub mod Finding
+pub mod Reading
 pub mod Within
 pub mod Marked

@@ -17,7 +17,7 @@ numbered-layout n l e =
     pick-cases (leb 13 n) _ _ _ _ e (λ _ q. let z : _≡_ {A = ℕ} 0 1 = cc in absurd (omega arith)) (λ _ q. cc)
 
 -- past the table's end every column reads 0
-beyond : (n : ℕ) → 13 ≤ n → layoutAt n ≡ layoutOf 0 0 0
+pub beyond : (n : ℕ) → 13 ≤ n → layoutAt n ≡ layoutOf 0 0 0
 unfolding layoutAt dataSizes spareSizes tagOffsets
 beyond n h =
     rw (List·getD-eq-default dataSizes 0 {n = n} h, List·getD-eq-default spareSizes 0 {n = n} h, List·getD-eq-default tagOffsets 0 {n = n} h)

@@ -14,9 +14,8 @@ use crate::layout::Named;
 use crate::number::PageNumber;
 use crate::refusal::Refusal;
 use crate::tags::Claim;
-use crate::tags::Tags;
 use crate::tags::claim_at;
-use crate::tags::page_at;
+use crate::tags::tags_at;
 
 // How many blocks of a candidate are glanced at for a guess.
 const GLANCES: u32 = 8;
@@ -63,7 +62,7 @@ fn bears(dump: &[u8], l: Layout, n: PageNumber, sequence: u32) -> bool
     if !l.holds(dump.len(), n) {
         return false;
     }
-    let t = Tags::of_page(page_at(dump, l, n), l);
+    let t = tags_at(dump, l, n);
     if t.sequence != sequence {
         return false;
     }

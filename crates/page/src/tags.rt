@@ -157,6 +157,14 @@ pub(crate) fn page_at(dump: &[u8], l: Layout, n: PageNumber) -> &[u8]
     &dump[a..e]
 }
 
+// The tags of page n, which lies in the dump.
+pub(crate) fn tags_at(dump: &[u8], l: Layout, n: PageNumber) -> Tags
+    requires { ⌜ pageIn l (length (now dump)) (n .0) ≡ true ⌝ }
+    ensures { λ r. ⌜ r ≡ tagsOf (tagBytes l (pageAt l (now (dump .entry)) (n .0))) ⌝ }
+{
+    Tags::of_page(page_at(dump, l, n), l)
+}
+
 // What the tags of page n say; a page that is not in the dump says nothing, as a blank one.
 pub fn claim_at(dump: &[u8], l: Layout, n: PageNumber) -> Claim
     ensures { λ r. ⌜ r ≡ claimAt l (now (dump .entry)) (n .0) ⌝ }
@@ -164,5 +172,5 @@ pub fn claim_at(dump: &[u8], l: Layout, n: PageNumber) -> Claim
     if !l.holds(dump.len(), n) {
         return Claim::Blank;
     }
-    Tags::of_page(page_at(dump, l, n), l).claim(l.data)
+    tags_at(dump, l, n).claim(l.data)
 }

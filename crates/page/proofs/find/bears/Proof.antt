@@ -1,4 +1,4 @@
--- A page that lies in the dump has room and is as long as its layout says; its sequence word settles the answer, or leaves it to the other tests.
+-- The sequence word of a page settles whether it bears the sequence, or leaves it to the other tests.
 use mathlib.Core.Bool.{true}
 use mathlib.Core.Path.{_≡_, sym, _∙_, ap}
 use lib.ListN.{length}
@@ -7,8 +7,6 @@ use borrow.Author.Tests.{not-true, not-false}
 use Rattle.page.specs.Lengths.{pageIn}
 use Rattle.page.specs.Tags.{claimOn, claimAt}
 use Rattle.page.specs.Find.{isGood, bearsSequence}
-use Rattle.page.proofs.Lengths.{page-within}
-use Rattle.page.proofs.Pages.{page-length}
 use Rattle.page.proofs.Blocks.{bears-other, bears-same}
 use Rattle.page.proofs.find.bears.Statement.{statement}
 use Rattle.page.proofs.find.bears.Tie as tie
@@ -22,26 +20,20 @@ returns : tie.Need-returns
 unfolding claimAt bearsSequence
 returns c = rw (← c .before .holds .ensures, not-true (c .before .holds .result) (c .if1 .taken))
 
-of-page-requires : tie.Need-of-page-requires
-of-page-requires c κs =
-    let s = c .before .before .before .before .args in
-    let h = lies (c .before) in
-    (page-within (s .l) (length (s .dump .now)) (s .n .0) h .room, ap length (c .page-at .ensures) ∙ page-length (s .l) (s .dump .now) (s .n .0) h)
-
 returns-2 : tie.Need-returns-2
 unfolding claimAt claimOn
 returns-2 c =
-    let p = c .before .before .before in
-    let a = p .before .before .before .before .args in
-    rw (lies (p .before), ← p .page-at .ensures, ← c .before .before .of-page .ensures) (sym (bears-other (c .before .before .of-page .result) (a .l .«data») (a .sequence) (c .if2 .taken)))
+    let t = c .before .before in
+    let a = t .before .before .before .before .args in
+    rw (lies (t .before), ← t .tags-at .ensures) (sym (bears-other (t .tags-at .result) (a .l .«data») (a .sequence) (c .if2 .taken)))
 
 returns-3 : tie.Need-returns-3
 unfolding claimAt claimOn
 returns-3 c =
     let t = c .before .before .before .before in
-    let p = t .before in
-    let a = p .before .before .before .before .args in
-    rw (lies (p .before), ← p .page-at .ensures, ← t .of-page .ensures) (c .is-good .ensures ∙ ap isGood (c .before .claim .ensures) ∙ sym (bears-same (t .of-page .result) (a .l .«data») (a .sequence) (c .before .before .if2 .left)))
+    let a = t .before .before .before .before .args in
+    rw (lies (t .before), ← t .tags-at .ensures)
+    (c .is-good .ensures ∙ ap isGood (c .before .claim .ensures) ∙ sym (bears-same (t .tags-at .result) (a .l .«data») (a .sequence) (c .before .before .if2 .left)))
 
 pub bears-spec : {M : Type 1} → statement M
-bears-spec = tie.close (tie.spec (search needs) returns (λ c κs. lies c) of-page-requires returns-2 (search needs) (search needs) returns-3)
+bears-spec = tie.close (tie.spec (search needs) returns (λ c κs. lies c) returns-2 (search needs) (search needs) returns-3)

@@ -1,13 +1,11 @@
--- A page that lies in the dump has room and is as long as its layout says.
+-- A page that is in the dump says what its tags say, and one that is not says nothing.
 use mathlib.Core.Bool.{true}
-use mathlib.Core.Path.{_≡_, _∙_, ap}
+use mathlib.Core.Path.{_≡_}
 use lib.ListN.{length}
 use borrow.Author.Needs.{needs}
 use borrow.Author.Tests.{not-true, not-false}
 use Rattle.page.specs.Lengths.{pageIn}
 use Rattle.page.specs.Tags.{claimOn, claimAt}
-use Rattle.page.proofs.Lengths.{page-within}
-use Rattle.page.proofs.Pages.{page-length}
 use Rattle.page.proofs.tags.claim_at.Statement.{statement}
 use Rattle.page.proofs.tags.claim_at.Tie as tie
 
@@ -20,20 +18,9 @@ returns : tie.Need-returns
 unfolding claimAt
 returns c = rw (← c .before .holds .ensures, not-true (c .before .holds .result) (c .if1 .taken))
 
-page-at-requires : tie.Need-page-at-requires
-page-at-requires c κs = lies c
-
-of-page-requires : tie.Need-of-page-requires
-of-page-requires c κs =
-    let s = c .before .before .before .before .args in
-    let h = lies (c .before) in
-    (page-within (s .l) (length (s .dump .now)) (s .n .0) h .room, ap length (c .page-at .ensures) ∙ page-length (s .l) (s .dump .now) (s .n .0) h)
-
 returns-2 : tie.Need-returns-2
 unfolding claimAt claimOn
-returns-2 c =
-    let p = c .before .before in
-    rw (lies (p .before), ← p .page-at .ensures, ← c .before .of-page .ensures) (c .claim .ensures)
+returns-2 c = let t = c .before in rw (lies (t .before), ← t .tags-at .ensures) (c .claim .ensures)
 
 pub claim-at-spec : {M : Type 1} → statement M
-claim-at-spec = tie.close (tie.spec (search needs) returns page-at-requires of-page-requires (search needs) returns-2)
+claim-at-spec = tie.close (tie.spec (search needs) returns (λ c κs. lies c) (search needs) returns-2)

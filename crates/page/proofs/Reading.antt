@@ -1,0 +1,171 @@
+-- What the finding of the layout reads (document 02, item 3): tag bytes of the candidates that divide the dump, and no other byte.
+-- A candidate's score goes by what the tags of its pages say, these by their 16 bytes, and a candidate that does not divide the dump has none.
+use Prim.Native.Nat.{ℕ, zero, suc, _+_, _*_, _%_, _≤_, _<_, zero-le}
+use mathlib.Core.Bool.{Bool, true, false, not, _&&_}
+use mathlib.Core.List.{List}
+use mathlib.Core.Path.{_≡_, refl, sym, ap, _∙_, fun-ext}
+use mathlib.Core.Logic.{⊎-elim}
+use native.Mathlib.Nat.{add-assoc, eq-or-lt-of-le, le-of-suc-le-suc, mul-add-mod-self-right, mod-eq-of-lt}
+use native.Mathlib.Omega.{arith}
+use lib.Dec.{eqb, leb, ltb}
+use lib.ListN.{length, getD, set, take, drop, length-take, length-drop, length-set}
+use lib.Seq.{ext-getD, getD-take, getD-drop, getD-set-other, drop-drop}
+use borrow.Author.Tests.{leb-true, leb-false, ltb-true, ltb-false, le-leb, lt-leb, lt-ltb, not-true, not-false}
+use Rattle.page.specs.Choice.{pick}
+use Rattle.page.specs.Search.{count, more}
+use Rattle.page.specs.Layouts.{layouts, layoutOf, layoutAt, tagLength, pageLen, tagPlace, roomy}
+use Rattle.page.specs.Lengths.{blockFits, lengthFits, wholeBlocks, pageIn}
+use Rattle.page.specs.Pages.{pageAt}
+use Rattle.page.specs.Tags.{tagBytes, claimOn, claimAt}
+use Rattle.page.specs.Find.{candidateScore, findOf}
+use Rattle.page.specs.Reading.{inSpare, inTags, tagsOfCandidate, isRead}
+use Rattle.page.specs.declared.layout.Layout.{Layout}
+use Rattle.page.proofs.Searching.{by-test, count-step}
+use Rattle.page.proofs.Layouts.{and-left, and-right, roomy-facts}
+use Rattle.page.proofs.Lengths.{page-within}
+use Rattle.page.proofs.Naming.{beyond}
+use Rattle.page.proofs.Texts.{part-of-part}
+
+-- no page lies in a dump under a number that the table lacks
+unlisted : (c n i : ℕ) → layouts ≤ c → pageIn (layoutAt c) n i ≡ false
+unfolding pageIn roomy
+unlisted c n i h = rw (beyond c h)
+
+-- a page that is not in the dump says nothing, whatever the dump
+outside-same : (l : Layout) (a b : List ℕ) (i : ℕ) → length a ≡ length b → pageIn l (length a) i ≡ false → claimAt l a i ≡ claimAt l b i
+unfolding claimAt
+outside-same l a b i e h = rw (← e, h)
+
+-- two dumps of one length whose tags say the same under every candidate that divides them
+pub record SameClaims (a b : List ℕ) (k : ℕ) : Type 0 where
+  pub long : length a ≡ length b
+  pub claims :
+      blockFits k ≡ true → lengthFits (length a) ≡ true → (c i : ℕ) → c < layouts → wholeBlocks (layoutAt c) k (length a) ≡ true → pageIn (layoutAt c) (length a) i ≡ true →
+      claimAt (layoutAt c) a i ≡ claimAt (layoutAt c) b i
+
+module _ {a b : List ℕ} {k : ℕ} (s : SameClaims a b k) where
+  scores-same : blockFits k ≡ true → lengthFits (length a) ≡ true → (c : ℕ) → candidateScore a k c ≡ candidateScore b k c
+  unfolding candidateScore
+  scores-same f g c =
+      by-test (wholeBlocks (layoutAt c) k (length a)) _
+      (λ w. rw (← s .long, w, fun-ext (said w)))
+      (λ w. rw (← s .long, w))
+    where
+      said : wholeBlocks (layoutAt c) k (length a) ≡ true → (i : ℕ) → claimAt (layoutAt c) a i ≡ claimAt (layoutAt c) b i
+      said w i =
+          by-test (pageIn (layoutAt c) (length a) i) _
+          (λ p. by-test (ltb c layouts) _
+          (λ h. s .claims f g c i (ltb-true c layouts h) w p)
+          (λ h. outside-same (layoutAt c) a b i (s .long) (unlisted c (length a) i (ltb-false c layouts h))))
+          (λ p. outside-same (layoutAt c) a b i (s .long) p)
+
+  -- have the same answer
+  pub finding-by-claims : findOf a k ≡ findOf b k
+  unfolding findOf
+  finding-by-claims =
+      by-test (blockFits k) _
+      (λ f. by-test (lengthFits (length a)) _
+      (λ g. let e : candidateScore a k ≡ candidateScore b k = fun-ext (scores-same f g) in rw (← s .long, f, g, e))
+      (λ g. rw (← s .long, f, g)))
+      (λ f. rw f)
+
+-- the tag bytes of a page, where they lie in the dump
+tag-part : (l : Layout) (dump : List ℕ) (i : ℕ) → pageIn l (length dump) i ≡ true → tagBytes l (pageAt l dump i) ≡ take tagLength (drop (i * pageLen l + tagPlace l) dump)
+unfolding tagBytes pageAt
+tag-part l dump i h =
+    let r = roomy-facts l (page-within l (length dump) i h .room) in
+    rw (drop-drop) (part-of-part dump (i * pageLen l) (pageLen l) (tagPlace l) tagLength (omega (arith, r)))
+
+-- each is a tag byte
+tag-byte : (l : Layout) (n i j : ℕ) → pageIn l n i ≡ true → j < tagLength → inTags l (i * pageLen l + tagPlace l + j) ≡ true
+unfolding inTags
+tag-byte l n i j h g =
+    let r = roomy-facts l (page-within l n i h .room) in
+    let e : (i * pageLen l + tagPlace l + j) % pageLen l ≡ tagPlace l + j =
+    rw (add-assoc (i * pageLen l) (tagPlace l) j) (mul-add-mod-self-right i (pageLen l) (tagPlace l + j) ∙ mod-eq-of-lt (omega (arith, r))) in
+    rw (e, le-leb (tagPlace l) (tagPlace l + j) (omega arith), lt-ltb (tagPlace l + j) (tagPlace l + tagLength) (omega arith))
+
+-- a number that passes is counted
+more-some : (b : Bool) (m : ℕ) → 1 ≤ m → 1 ≤ more b m
+more-some true m h = omega arith
+more-some false m h = h
+
+count-some : (test : ℕ → Bool) (n c : ℕ) → c < n → test c ≡ true → 1 ≤ count test n
+unfolding count
+count-some test zero c h t = absurd (omega arith)
+count-some test (suc n) c h t =
+    ⊎-elim
+    (λ e. let here : test n ≡ true = rw (← e) t in rw here (omega arith))
+    (λ less. more-some (test n) (count test n) (count-some test n c less t))
+    (eq-or-lt-of-le (le-of-suc-le-suc h))
+
+-- a tag byte of a candidate that divides the dump is read
+tag-read :
+    (k n at c : ℕ) → blockFits k ≡ true → lengthFits n ≡ true → c < layouts → wholeBlocks (layoutAt c) k n ≡ true → inTags (layoutAt c) at ≡ true → isRead k n at ≡ true
+unfolding isRead
+tag-read k n at c f g h w t =
+    let here : tagsOfCandidate k n at c ≡ true = rw (w, t) in
+    rw (f, g, le-leb 1 (count (tagsOfCandidate k n at) layouts) (count-some (tagsOfCandidate k n at) layouts c h here))
+
+-- two dumps of one length that agree on every byte that is read
+pub record SameRead (a b : List ℕ) (k : ℕ) : Type 0 where
+  pub long : length a ≡ length b
+  pub bytes : (at : ℕ) → at < length a → isRead k (length a) at ≡ true → getD a at 0 ≡ getD b at 0
+
+module _ {a b : List ℕ} {k : ℕ} (s : SameRead a b k) where
+  -- have the same tag bytes under every candidate that divides them
+  tags-same :
+      blockFits k ≡ true → lengthFits (length a) ≡ true → (c i : ℕ) → c < layouts → wholeBlocks (layoutAt c) k (length a) ≡ true → pageIn (layoutAt c) (length a) i ≡ true →
+      tagBytes (layoutAt c) (pageAt (layoutAt c) a i) ≡ tagBytes (layoutAt c) (pageAt (layoutAt c) b i)
+  tags-same f g c i h w p =
+      let l = layoutAt c in
+      let place = i * pageLen l + tagPlace l in
+      let ends = page-within l (length a) i p in
+      let r = roomy-facts l (ends .room) in
+      tag-part l a i p
+      ∙ ext-getD 0 (take tagLength (drop place a)) (take tagLength (drop place b)) (simp (length-take, length-drop, s .long))
+      (λ j q.
+      let m : j < tagLength = omega (arith, simp length-take at q) in
+      rw (getD-take, getD-drop, getD-take, getD-drop)
+      (s .bytes (place + j) (omega (arith, ends .ends, r)) (tag-read k (length a) (place + j) c f g h w (tag-byte l (length a) i j p m))))
+      ∙ sym (tag-part l b i (rw (s .long) at p))
+
+  claims-same : SameClaims a b k
+  unfolding claimAt claimOn
+  claims-same = record { long = s .long; claims = λ f g c i h w p. rw (← s .long, p, tags-same f g c i h w p) }
+
+  -- and so the same answer
+  pub finding-reads-tags : findOf a k ≡ findOf b k
+  finding-reads-tags = finding-by-claims claims-same
+
+-- so that one byte that is not read may be any other
+pub byte-unread : (dump : List ℕ) (k at v : ℕ) → isRead k (length dump) at ≡ false → findOf (set dump at v) k ≡ findOf dump k
+byte-unread dump k at v h =
+    let other : (j : ℕ) → isRead k (length dump) j ≡ true → j ≡ at → ⊥ = λ j r e. let z : true ≡ false = sym (rw e at r) ∙ h in let n : _≡_ {A = ℕ} 0 1 = cc in absurd (omega arith) in
+    sym (finding-reads-tags (record { long = sym (length-set dump at v); bytes = λ j _ r. sym (getD-set-other dump at j v 0 (other j r)) }))
+
+-- nothing is counted where nothing passes
+count-no : (test : ℕ → Bool) (n : ℕ) → ((c : ℕ) → c < n → test c ≡ false) → count test n ≡ 0
+unfolding count
+count-no test zero f = refl
+count-no test (suc n) f = rw (f n (omega arith)) (count-no test n (λ c h. f c (omega arith)))
+
+-- tags lie in the spare
+tags-spare : (l : Layout) (at : ℕ) → inSpare l at ≡ false → inTags l at ≡ false
+unfolding inSpare inTags
+tags-spare l at h =
+    let less : at % pageLen l < l .«data» = leb-false (l .«data») (at % pageLen l) h in
+    rw (lt-leb (tagPlace l) (at % pageLen l) (omega arith))
+
+none-read : (k n at : ℕ) → ((c : ℕ) → c < layouts → wholeBlocks (layoutAt c) k n ≡ true → inSpare (layoutAt c) at ≡ false) → isRead k n at ≡ false
+unfolding isRead
+none-read k n at f =
+    let none : count (tagsOfCandidate k n at) layouts ≡ 0 = count-no (tagsOfCandidate k n at) layouts
+    (λ c h. by-test (wholeBlocks (layoutAt c) k n) _ (λ w. rw (w, tags-spare (layoutAt c) at (f c h w))) (λ w. rw w)) in
+    rw (none, lt-leb 1 0 (omega arith)) (by-test (blockFits k) _ (λ a. rw a (by-test (lengthFits n) _ (λ b. rw b) (λ b. rw b))) (λ a. rw a))
+
+-- so may one that lies in no spare of a candidate that divides the dump
+pub outside-spares :
+    (dump : List ℕ) (k at v : ℕ) → ((c : ℕ) → c < layouts → wholeBlocks (layoutAt c) k (length dump) ≡ true → inSpare (layoutAt c) at ≡ false) →
+    findOf (set dump at v) k ≡ findOf dump k
+outside-spares dump k at v f = byte-unread dump k at v (none-read k (length dump) at f)
