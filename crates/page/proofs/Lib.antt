@@ -14,3 +14,4 @@ pub mod Finding
 pub mod Reading
 pub mod Within
 pub mod Marked
+pub mod Needed

@@ -13,5 +13,5 @@ pub mod Counts
 pub mod Asked
 pub mod Find
 pub mod Leaving
-pub mod Reading
 pub mod Shelf
+pub mod Reading

@@ -1,10 +1,12 @@
 -- Which bytes of a dump the finding of its layout reads (document 02, item 3).
 use Prim.Native.Nat.{ℕ, _+_, _%_}
 use mathlib.Core.Bool.{Bool, _&&_}
+use mathlib.Core.List.{List, [], _∷_, _++_}
 use lib.Dec.{leb, ltb}
 use Rattle.page.specs.Search.{count}
 use Rattle.page.specs.Layouts.{layouts, layoutAt, tagLength, pageLen, tagPlace}
 use Rattle.page.specs.Lengths.{blockFits, lengthFits, wholeBlocks}
+use Rattle.page.specs.Shelf.{tagged, erased}
 use Rattle.page.specs.declared.layout.Layout.{Layout}
 
 -- whether byte `at` of a dump of this layout lies in the spare of its page
@@ -23,3 +25,36 @@ tagsOfCandidate k n at c = wholeBlocks (layoutAt c) k n && inTags (layoutAt c) a
 -- divides them
 unfoldable pub isRead : ℕ → ℕ → ℕ → Bool
 isRead k n at = blockFits k && lengthFits n && leb 1 (count (tagsOfCandidate k n at) layouts)
+
+-- a dump of one page of 512/16 with these tags, and another value for one of their bytes
+pub record TagCase : Type 0 where
+  pub byte : ℕ
+  pub tags : List ℕ
+  pub value : ℕ
+
+abbrev pub onByte : ℕ → List ℕ → ℕ → TagCase
+onByte j t v = record { byte = j; tags = t; value = v }
+
+abbrev pub tagDump : TagCase → List ℕ
+tagDump c = erased 512 ++ c .tags
+
+-- each of the 16 tag bytes, on a dump whose layout is found, beside a value of it with which none is
+unfoldable pub tagCases : List TagCase
+tagCases =
+    onByte 0 (tagged 0xEFFFFF00 1 1 1) 1 ∷
+    onByte 1 (tagged 0x1000 1 1 1) 0 ∷
+    onByte 2 (tagged 0x10000 1 1 1) 0 ∷
+    onByte 3 (tagged 0x1000000 1 1 1) 0 ∷
+    onByte 4 (tagged 0x1000 1 1 1) 0 ∷
+    onByte 5 (tagged 0x1000 0x100 1 1) 0 ∷
+    onByte 6 (tagged 0x1000 0x10000 1 1) 0 ∷
+    onByte 7 (tagged 0x1000 0x1000000 1 1) 0 ∷
+    onByte 8 (tagged 0x1000 1 0 0) 1 ∷
+    onByte 9 (tagged 0x1000 1 0 0) 1 ∷
+    onByte 10 (tagged 0x1000 1 0 0) 1 ∷
+    onByte 11 (tagged 0x1000 1 0 0) 1 ∷
+    onByte 12 (tagged 0x1000 1 1 1) 0 ∷
+    onByte 13 (tagged 0x1000 1 1 0x100) 0 ∷
+    onByte 14 (tagged 0x1000 1 1 1) 1 ∷
+    onByte 15 (tagged 0x1000 1 1 1) 1 ∷
+    []
