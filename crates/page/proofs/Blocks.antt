@@ -1,17 +1,16 @@
 -- Laws of the blocks of a dump, of their sequences and of what they score.
 -- Blocks begin at the multiples of k, so that each page of the block from `block` on has its sequence there.
 -- A good page's sequence is its sequence word, so that a page with another word does not bear it, whatever else its tags say.
-use Prim.Native.Nat.{ℕ, zero, suc, _+_, _-_, _*_, _/_, _%_, _^_, _≤_, _<_, zero-le}
+use Prim.Native.Nat.{ℕ, suc, _+_, _-_, _*_, _/_, _%_, _^_, _≤_, _<_, zero-le}
 use mathlib.Core.Bool.{Bool, true, false}
-use mathlib.Core.List.{List, [], _∷_}
+use mathlib.Core.List.{[], _∷_}
 use mathlib.Core.Path.{_≡_, refl, sym, _∙_}
 use mathlib.Core.Logic.{⊎-elim}
-use native.Mathlib.Nat.{suc-mul, mul-le-mul-right, div-add-mod', div-eq-of-lt-le, div-lt-iff-lt-mul, eq-or-lt-of-le, add-zero, zero-mod, add-mod-right}
+use native.Mathlib.Nat.{suc-mul, mul-le-mul-right, div-add-mod', div-eq-of-lt-le, div-lt-iff-lt-mul, eq-or-lt-of-le, zero-mod, add-mod-right}
 use native.Mathlib.Numerals.{add-one}
 use native.Mathlib.Omega.{arith}
 use lib.Arith.{mod-mul}
 use lib.Dec.{eqb, ltb}
-use lib.ListN.{length}
 use types.Run.{OneOf}
 use denote.Enum.Declared.{tagOf}
 use borrow.Author.Tests.{eqb-true, eq-eqb, ne-eqb}
@@ -184,10 +183,6 @@ through-none said k pages h g e =
     }
 
 module _ {said : ℕ → Claim} {k pages next score marked : ℕ} (t : Through said k pages next score marked) where
-  -- no more pages are scored than there are
-  pub through-score : score ≤ pages
-  through-score = omega (arith, t, count-le (isScored said k) next)
-
   -- the next block ends within the pages
   pub through-ends : next < pages → next + k ≤ pages
   through-ends h = block-ends k next pages (t .some) (t .starts) (t .even) h
@@ -206,7 +201,3 @@ module _ {said : ℕ → Claim} {k pages next score marked : ℕ} (t : Through s
         scored = omega (arith, t .scored);
         counted = omega (arith, t .counted);
       }
-
-  -- its pages that are not blank can be counted
-  pub through-marked : (m : ℕ) → next < pages → markedOf said next + m ≡ markedOf said (next + k) → marked + m ≤ pages
-  through-marked m h b = omega (arith, t .counted, count-le (markedAt said) (next + k), through-ends h)

@@ -1,26 +1,21 @@
--- Laws of finding the layout: a found layout fits and divides the dump, no candidate has a higher score and none before it as high a one,
--- and the answer rests on what the tags say alone.
+-- Laws of finding the layout: a found layout fits and divides the dump, no candidate has a higher score and none before it as high a one.
 use Prim.Native.Nat.{ℕ, _≤_, _<_}
-use mathlib.Core.Bool.{Bool, true, false, not}
+use mathlib.Core.Bool.{Bool, true, not}
 use mathlib.Core.List.{List}
-use mathlib.Core.Path.{_≡_, refl, sym, fun-ext}
-use native.Mathlib.Nat.{le-antisymm}
+use mathlib.Core.Path.{_≡_, refl, sym}
 use native.Mathlib.Omega.{arith}
 use lib.Dec.{eqb}
 use lib.ListN.{length}
 use borrow.Author.Tests.{eqb-true, eqb-false}
-use Rattle.page.specs.Choice.{pick}
-use Rattle.page.specs.Layouts.{layoutAt}
-use Rattle.page.specs.Lengths.{blockFits, lengthFits, wholeBlocks, pageCount, pageIn}
-use Rattle.page.specs.Pages.{pageAt}
-use Rattle.page.specs.Tags.{tagBytes, claimOn, claimAt}
+use Rattle.page.specs.Layouts.{layouts, layoutAt}
+use Rattle.page.specs.Lengths.{blockFits, lengthFits, wholeBlocks, pageCount}
+use Rattle.page.specs.Tags.{claimAt}
 use Rattle.page.specs.Find.{scoreOf, markedOf, scoreFits, fittingScore, candidateScore, winnerOf, findOf}
 use Rattle.page.specs.declared.layout.Layout.{Layout}
 use Rattle.page.specs.declared.layout.Named.{Named}
 use Rattle.page.specs.declared.layout.Named.the-variants as named
 use Rattle.page.specs.declared.refusal.Refusal.the-variants.{BadLayout, BadLength, NoLayout}
 use Rattle.page.proofs.Searching.{pick-cases, by-test}
-use Rattle.page.proofs.Blocks.{Through}
 use Rattle.page.proofs.Leading.{winning, highest-bounds, won-named, won-refused}
 
 -- what the pages of a candidate score, and whether it fits
@@ -61,10 +56,10 @@ past-refusals dump k r f g e =
 -- a found layout is that of a candidate that fits; none has a higher score, and none before it as high a one
 pub record Found (dump : List ℕ) (k : ℕ) (l : Layout) : Type 0 where
   pub number : ℕ
-  pub listed : number < 13
+  pub listed : number < layouts
   pub row : layoutAt number ≡ l
   pub fits : Fitting dump k number
-  pub highest : (c : ℕ) → c < 13 → candidateScore dump k c ≤ candidateScore dump k number
+  pub highest : (c : ℕ) → c < layouts → candidateScore dump k c ≤ candidateScore dump k number
   pub first : (c : ℕ) → c < number → candidateScore dump k c < candidateScore dump k number
 
 pub found-is : (dump : List ℕ) (k : ℕ) (l : Layout) → findOf dump k ≡ named.Layout l → Found dump k l
@@ -85,16 +80,16 @@ found-is dump k l e =
       listed = t .within;
       row = cc;
       fits = fitting dump k (o .found) (omega (arith, s));
-      highest = λ c less. let b = highest-bounds score 13 c less in omega (arith, s, t .top);
+      highest = λ c less. let b = highest-bounds score layouts c less in omega (arith, s, t .top);
       first = λ c less. let b = t .before c less in omega (arith, s);
     })
 
 -- where NoLayout is given, no candidate has a score
-pub none-found : (dump : List ℕ) (k : ℕ) → findOf dump k ≡ named.Refused NoLayout → (c : ℕ) → c < 13 → candidateScore dump k c ≡ 0
+pub none-found : (dump : List ℕ) (k : ℕ) → findOf dump k ≡ named.Refused NoLayout → (c : ℕ) → c < layouts → candidateScore dump k c ≡ 0
 none-found dump k e c h =
     let w = past-refusals dump k (named.Refused NoLayout) (λ z. let n : _≡_ {A = ℕ} 0 1 = cc in omega arith) (λ z. let n : _≡_ {A = ℕ} 0 1 = cc in omega arith) e in
     let o = winning (candidateScore dump k) in
-    let b = highest-bounds (candidateScore dump k) 13 c h in
+    let b = highest-bounds (candidateScore dump k) layouts c h in
     by-test (eqb (o .best) 0) _
     (λ z. let q = eqb-true (o .best) 0 z in omega (arith, o .won .top))
     (λ z. let q = eqb-false (o .best) 0 z in let r = won-named (o .won) (omega arith) in let n : _≡_ {A = ℕ} 0 1 = cc in absurd (omega arith))

@@ -1,15 +1,15 @@
 -- Laws of the highest score. Candidates are gone through in some order, and one of them leads: none so far has a higher score, and none so far
 -- that stands before it in the table as high a one. Table order settles equal scores, so a candidate needs one more than the best to lead before
 -- an earlier one, and as much to lead before a later one. Once all have had their turn the leader has won.
-use Prim.Native.Nat.{ℕ, zero, suc, _+_, _≤_, _<_, max, zero-le}
+use Prim.Native.Nat.{ℕ, zero, suc, _+_, _≤_, _<_, zero-le}
 use mathlib.Core.Bool.{Bool, true, false}
-use mathlib.Core.Path.{_≡_, refl, sym, ap, _∙_}
+use mathlib.Core.Path.{_≡_, refl, _∙_}
 use mathlib.Core.Logic.{⊎-elim}
 use native.Mathlib.Nat.{le-antisymm, le-of-suc-le-suc, eq-or-lt-of-le, le-trans, le-max-left, le-max-right, max-le}
 use native.Mathlib.Numerals.{add-one}
 use native.Mathlib.Omega.{arith}
 use lib.Dec.{eqb, ltb}
-use borrow.Author.Tests.{ltb-true, ltb-false, lt-ltb, le-ltb, eqb-true, eqb-false, eq-eqb, ne-eqb}
+use borrow.Author.Tests.{ltb-true, ltb-false, lt-ltb, le-ltb, eqb-true, eq-eqb, ne-eqb}
 use Rattle.page.specs.Search.{firstFrom}
 use Rattle.page.specs.Layouts.{layouts, layoutAt}
 use Rattle.page.specs.Find.{highest, winner, winnerOf}
@@ -56,6 +56,12 @@ module _ (n found best : ℕ) where
   unfolding needOf
   need-late h = rw (le-ltb n found h)
 
+  need-between : (best ≤ needOf n found best) × (needOf n found best ≤ best + 1)
+  need-between =
+      by-test (ltb n found) _
+      (λ t. rw (need-early (ltb-true _ _ t)) (omega arith, omega arith))
+      (λ t. rw (need-late (ltb-false _ _ t)) (omega arith, omega arith))
+
 -- the candidate that leads after some turns
 pub record Leads (score order : ℕ → ℕ) (turns best found : ℕ) : Type 0 where
   pub within : found < layouts
@@ -94,15 +100,9 @@ module _ {score order : ℕ → ℕ} {turns best found : ℕ} (l : Leads score o
         within = l .within;
         some = l .some;
         here = l .here;
-        most = λ t g. turn-more (λ i. score (order i) ≤ best) turns t g low (l .most t);
+        most = λ t g. turn-more (λ i. score (order i) ≤ best) turns t g (omega (arith, need-between (order turns) found best .1)) (l .most t);
         before = λ t g. turn-more (λ i. order i < found → score (order i) < best) turns t g (λ early. rw (need-early (order turns) found best early) at h) (l .before t);
       }
-    where
-      low : score (order turns) ≤ best
-      low =
-          by-test (ltb (order turns) found) _
-          (λ t. omega (arith, need-early (order turns) found best (ltb-true _ _ t)))
-          (λ t. omega (arith, need-late (order turns) found best (ltb-false _ _ t)))
 
   -- one that does leads
   pub leads-now : order turns < layouts → needOf (order turns) found best ≤ score (order turns) → Leads score order (turns + 1) (score (order turns)) (order turns)
@@ -116,10 +116,7 @@ module _ {score order : ℕ → ℕ} {turns best found : ℕ} (l : Leads score o
       }
     where
       least : best ≤ score (order turns)
-      least =
-          by-test (ltb (order turns) found) _
-          (λ t. omega (arith, need-early (order turns) found best (ltb-true _ _ t)))
-          (λ t. omega (arith, need-late (order turns) found best (ltb-false _ _ t)))
+      least = omega (arith, need-between (order turns) found best .0)
 
       earlier : (t : ℕ) → t < turns → order t < order turns → score (order t) < score (order turns)
       earlier t a b =
@@ -185,9 +182,9 @@ module _ {score : ℕ → ℕ} {best found : ℕ} (w : Won score best found) whe
   pub found-wins : 0 < best → winner score ≡ found
   unfolding winner
   found-wins some =
-      first-is _ 0 13 found zero-le (w .within)
+      first-is _ 0 layouts found zero-le (w .within)
       (eq-eqb _ _ (w .here some ∙ w .top))
-      (λ c less. ne-eqb (score c) (highest score 13) (λ e. let b = w .before c less in omega (arith, e, w .top)))
+      (λ c less. ne-eqb (score c) (highest score layouts) (λ e. let b = w .before c less in omega (arith, e, w .top)))
 
   -- it is the answer, if it has a score
   pub won-named : 0 < best → winnerOf score ≡ named.Layout (layoutAt found)

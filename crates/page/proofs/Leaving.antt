@@ -1,20 +1,19 @@
 -- Laws of a candidate that is left before its end. Each page left adds at most one to the score, and where it does it is one more that is not
 -- blank. So a candidate that is lost does not reach what it needs, and one that is gone through and not lost does.
 use Prim.Native.Nat.{ℕ, zero, suc, _+_, _-_, _*_, _%_, _^_, _≤_, _<_, zero-le}
-use mathlib.Core.Bool.{Bool, true, false, _&&_}
+use mathlib.Core.Bool.{Bool, true, false}
 use mathlib.Core.List.{List}
 use mathlib.Core.Path.{_≡_, refl, sym, _∙_}
 use native.Mathlib.Nat.{add-zero, zero-mod, div-le-self}
 use native.Mathlib.Omega.{arith}
-use lib.Dec.{eqb, ltb, leb}
+use lib.Dec.{ltb, leb}
 use lib.ListN.{length}
 use borrow.Author.Tests.{ltb-true, ltb-false, leb-false, le-leb, lt-leb}
-use Rattle.page.specs.Choice.{pick}
 use Rattle.page.specs.Search.{count, more}
 use Rattle.page.specs.Layouts.{layoutAt, pageLen}
-use Rattle.page.specs.Lengths.{lengthFits, wholeBlocks, pageCount}
+use Rattle.page.specs.Lengths.{lengthFits, wholeBlocks}
 use Rattle.page.specs.Tags.{claimAt}
-use Rattle.page.specs.Find.{isGood, isMarked, sequenceOf, bearsSequence, blockSequence, isScored, scoreOf, markedAt, markedOf, scoreFits, fittingScore, candidateScore}
+use Rattle.page.specs.Find.{isMarked, bearsSequence, blockSequence, isScored, scoreOf, markedAt, markedOf, scoreFits, fittingScore, candidateScore}
 use Rattle.page.specs.Leaving.{pagesUnder, Gained, isLost}
 use Rattle.page.specs.declared.find.Gain.{Gain}
 use Rattle.page.specs.declared.layout.Layout.{Layout}

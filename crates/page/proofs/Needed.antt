@@ -1,6 +1,6 @@
 -- None of the 16 tag bytes could be left out of what finding reads: for each there is a dump whose layout is found, and with another value of
 -- that byte alone is not. Computed from the definitions, in one table.
-use Prim.Native.Nat.{ℕ, _+_}
+use Prim.Native.Nat.{_+_}
 use mathlib.Core.List.{map}
 use mathlib.Core.Path.{_≡_, refl}
 use lib.ListN.{set, replicate}

@@ -1,27 +1,26 @@
 -- What the finding of the layout reads (document 02, item 3): tag bytes of the candidates that divide the dump, and no other byte.
 -- A candidate's score goes by what the tags of its pages say, these by their 16 bytes, and a candidate that does not divide the dump has none.
-use Prim.Native.Nat.{ℕ, zero, suc, _+_, _*_, _%_, _≤_, _<_, zero-le}
-use mathlib.Core.Bool.{Bool, true, false, not, _&&_}
+use Prim.Native.Nat.{ℕ, zero, suc, _+_, _*_, _%_, _≤_, _<_}
+use mathlib.Core.Bool.{Bool, true, false}
 use mathlib.Core.List.{List}
-use mathlib.Core.Path.{_≡_, refl, sym, ap, _∙_, fun-ext}
+use mathlib.Core.Path.{_≡_, refl, sym, _∙_, fun-ext}
 use mathlib.Core.Logic.{⊎-elim}
 use native.Mathlib.Nat.{add-assoc, eq-or-lt-of-le, le-of-suc-le-suc, mul-add-mod-self-right, mod-eq-of-lt}
 use native.Mathlib.Omega.{arith}
-use lib.Dec.{eqb, leb, ltb}
+use lib.Dec.{ltb}
 use lib.ListN.{length, getD, set, take, drop, length-take, length-drop, length-set}
 use lib.Seq.{ext-getD, getD-take, getD-drop, getD-set-other, drop-drop}
-use borrow.Author.Tests.{leb-true, leb-false, ltb-true, ltb-false, le-leb, lt-leb, lt-ltb, not-true, not-false}
-use Rattle.page.specs.Choice.{pick}
+use borrow.Author.Tests.{leb-false, ltb-true, ltb-false, le-leb, lt-leb, lt-ltb}
 use Rattle.page.specs.Search.{count, more}
-use Rattle.page.specs.Layouts.{layouts, layoutOf, layoutAt, tagLength, pageLen, tagPlace, roomy}
+use Rattle.page.specs.Layouts.{layouts, layoutAt, tagLength, pageLen, tagPlace, roomy}
 use Rattle.page.specs.Lengths.{blockFits, lengthFits, wholeBlocks, pageIn}
 use Rattle.page.specs.Pages.{pageAt}
 use Rattle.page.specs.Tags.{tagBytes, claimOn, claimAt}
 use Rattle.page.specs.Find.{candidateScore, findOf}
 use Rattle.page.specs.Reading.{inSpare, inTags, tagsOfCandidate, isRead}
 use Rattle.page.specs.declared.layout.Layout.{Layout}
-use Rattle.page.proofs.Searching.{by-test, count-step}
-use Rattle.page.proofs.Layouts.{and-left, and-right, roomy-facts}
+use Rattle.page.proofs.Searching.{by-test}
+use Rattle.page.proofs.Layouts.{roomy-facts}
 use Rattle.page.proofs.Lengths.{page-within}
 use Rattle.page.proofs.Naming.{beyond}
 use Rattle.page.proofs.Texts.{part-of-part}

@@ -2,7 +2,7 @@
 // A guessed candidate is gone through first, and any other is left as soon as it cannot win any more.
 ghost use mathlib.Core.Path.{_≡_};
 ghost use mathlib.Core.Bool.{true};
-ghost use Prim.Native.Nat.{_+_, _*_, _%_, _<_, _≤_, _^_};
+ghost use Prim.Native.Nat.{_+_, _*_, _%_, _<_, _^_};
 ghost use lib.ListN.{length};
 ghost use Rattle.page.specs.Layouts.{layouts, roomy};
 ghost use Rattle.page.specs.Lengths.{blockFits, lengthFits};

@@ -1,14 +1,13 @@
 -- The inner loop goes through a candidate's blocks while it is not lost; the outer one keeps the candidate that leads. A candidate that is lost
 -- changes nothing, and one that has been gone through without being lost leads.
-use Prim.Native.Nat.{ℕ, _+_, _-_, _^_, _<_, _≤_}
+use Prim.Native.Nat.{_+_, _-_, _^_, _<_, _≤_}
 use mathlib.Core.Bool.{true}
-use mathlib.Core.Path.{_≡_, sym, ap, _∙_}
+use mathlib.Core.Path.{_≡_, sym, _∙_}
 use native.Mathlib.Omega.{arith}
-use lib.ListN.{length}
 use borrow.Author.Needs.{needs}
 use Rattle.page.specs.Layouts.{layouts, roomy}
 use Rattle.page.specs.Find.{candidateScore}
-use Rattle.page.specs.Leaving.{inTurn, needOf}
+use Rattle.page.specs.Leaving.{inTurn}
 use Rattle.page.proofs.Layouts.{row-roomy, roomy-facts}
 use Rattle.page.proofs.Lengths.{block-some}
 use Rattle.page.proofs.Blocks.{through-ends}

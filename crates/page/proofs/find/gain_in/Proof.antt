@@ -6,7 +6,6 @@ use native.Mathlib.Omega.{arith}
 use borrow.Author.Needs.{needs}
 use Rattle.page.specs.Tags.{claimAt}
 use Rattle.page.specs.Find.{isScored, scoreOf, markedAt, markedOf}
-use Rattle.page.specs.Leaving.{Gained}
 use Rattle.page.proofs.Blocks.{tally-yes, tally-no, tally-le, scored-in-block}
 use Rattle.page.proofs.find.gain_in.Statement.{statement}
 use Rattle.page.proofs.find.gain_in.Tie as tie

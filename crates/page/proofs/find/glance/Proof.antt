@@ -1,7 +1,5 @@
 -- Each block that is glanced at begins at a multiple of k, no later than the dump ends, and scores no more than its pages.
-use Prim.Native.Nat.{ℕ, _+_, _*_, _/_, _-_, _^_, _<_, _≤_}
-use mathlib.Core.Bool.{true}
-use mathlib.Core.Path.{_≡_, _∙_}
+use Prim.Native.Nat.{ℕ, _*_, _/_, _-_, _^_, _<_, _≤_}
 use native.Mathlib.Nat.{div-mul-le-self, mul-le-mul-left, mul-mod-left, mul-right-comm}
 use native.Mathlib.Omega.{arith}
 use lib.ListN.{length}

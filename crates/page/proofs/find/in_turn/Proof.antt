@@ -1,5 +1,4 @@
 -- The tests come in the definition's order.
-use borrow.Author.Needs.{needs}
 use Rattle.page.proofs.Tests.{cases}
 use Rattle.page.specs.Leaving.{inTurn}
 use Rattle.page.proofs.find.in_turn.Statement.{statement}

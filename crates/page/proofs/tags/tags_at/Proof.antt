@@ -1,7 +1,6 @@
 -- A page that lies in the dump has room and is as long as its layout says.
 use mathlib.Core.Path.{_∙_, ap}
 use lib.ListN.{length}
-use borrow.Author.Needs.{needs}
 use Rattle.page.proofs.Lengths.{page-within}
 use Rattle.page.proofs.Pages.{page-length}
 use Rattle.page.proofs.tags.tags_at.Statement.{statement}
