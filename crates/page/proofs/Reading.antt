@@ -8,7 +8,7 @@ use mathlib.Core.Logic.{⊎-elim}
 use native.Mathlib.Nat.{add-assoc, eq-or-lt-of-le, le-of-suc-le-suc, mul-add-mod-self-right, mod-eq-of-lt}
 use native.Mathlib.Omega.{arith}
 use lib.Dec.{ltb}
-use lib.ListN.{length, getD, set, take, drop, length-take, length-drop, length-set}
+use lib.ListN.{length, set, take, drop, length-take, length-drop, length-set}
 use lib.Seq.{ext-getD, getD-take, getD-drop, getD-set-other, drop-drop}
 use borrow.Author.Tests.{leb-false, ltb-true, ltb-false, le-leb, lt-leb, lt-ltb}
 use Rattle.page.specs.Search.{count, more}
@@ -17,7 +17,7 @@ use Rattle.page.specs.Lengths.{blockFits, lengthFits, wholeBlocks, pageI
 use Rattle.page.specs.Pages.{pageAt}
 use Rattle.page.specs.Tags.{tagBytes, claimOn, claimAt}
 use Rattle.page.specs.Find.{candidateScore, findOf}
-use Rattle.page.specs.Reading.{inSpare, inTags, tagsOfCandidate, isRead}
+use Rattle.page.specs.Reading.{inSpare, inTags, tagsOfCandidate, isRead, SameClaims, SameRead}
 use Rattle.page.specs.declared.layout.Layout.{Layout}
 use Rattle.page.proofs.Searching.{by-test}
 use Rattle.page.proofs.Layouts.{roomy-facts}
@@ -35,13 +35,7 @@ outside-same : (l : Layout) (a b : List ℕ) (i : ℕ) → length a ≡ length b
 unfolding claimAt
 outside-same l a b i e h = rw (← e, h)
 
--- two dumps of one length whose tags say the same under every candidate that divides them
-pub record SameClaims (a b : List ℕ) (k : ℕ) : Type 0 where
-  pub long : length a ≡ length b
-  pub claims :
-      blockFits k ≡ true → lengthFits (length a) ≡ true → (c i : ℕ) → c < layouts → wholeBlocks (layoutAt c) k (length a) ≡ true → pageIn (layoutAt c) (length a) i ≡ true →
-      claimAt (layoutAt c) a i ≡ claimAt (layoutAt c) b i
-
+-- two dumps whose tags say the same have the same scores
 module _ {a b : List ℕ} {k : ℕ} (s : SameClaims a b k) where
   scores-same : blockFits k ≡ true → lengthFits (length a) ≡ true → (c : ℕ) → candidateScore a k c ≡ candidateScore b k c
   unfolding candidateScore
@@ -58,7 +52,7 @@ module _ {a b : List ℕ} {k : ℕ} (s : SameClaims a b k) where
           (λ h. outside-same (layoutAt c) a b i (s .long) (unlisted c (length a) i (ltb-false c layouts h))))
           (λ p. outside-same (layoutAt c) a b i (s .long) p)
 
-  -- have the same answer
+  -- and so the same answer
   pub finding-by-claims : findOf a k ≡ findOf b k
   unfolding findOf
   finding-by-claims =
@@ -106,13 +100,8 @@ tag-read k n at c f g h w t =
     let here : tagsOfCandidate k n at c ≡ true = rw (w, t) in
     rw (f, g, le-leb 1 (count (tagsOfCandidate k n at) layouts) (count-some (tagsOfCandidate k n at) layouts c h here))
 
--- two dumps of one length that agree on every byte that is read
-pub record SameRead (a b : List ℕ) (k : ℕ) : Type 0 where
-  pub long : length a ≡ length b
-  pub bytes : (at : ℕ) → at < length a → isRead k (length a) at ≡ true → getD a at 0 ≡ getD b at 0
-
+-- two dumps that agree on every byte that is read have the same tag bytes under every candidate that divides them
 module _ {a b : List ℕ} {k : ℕ} (s : SameRead a b k) where
-  -- have the same tag bytes under every candidate that divides them
   tags-same :
       blockFits k ≡ true → lengthFits (length a) ≡ true → (c i : ℕ) → c < layouts → wholeBlocks (layoutAt c) k (length a) ≡ true → pageIn (layoutAt c) (length a) i ≡ true →
       tagBytes (layoutAt c) (pageAt (layoutAt c) a i) ≡ tagBytes (layoutAt c) (pageAt (layoutAt c) b i)

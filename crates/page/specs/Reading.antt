@@ -1,11 +1,14 @@
 -- Which bytes of a dump the finding of its layout reads (document 02, item 3).
-use Prim.Native.Nat.{ℕ, _+_, _%_}
-use mathlib.Core.Bool.{Bool, _&&_}
+use Prim.Native.Nat.{ℕ, _+_, _%_, _<_}
+use mathlib.Core.Bool.{Bool, true, _&&_}
+use mathlib.Core.Path.{_≡_}
 use mathlib.Core.List.{List, [], _∷_, _++_}
+use lib.ListN.{length, getD}
 use lib.Dec.{leb, ltb}
 use Rattle.page.specs.Search.{count}
 use Rattle.page.specs.Layouts.{layouts, layoutAt, tagLength, pageLen, tagPlace}
-use Rattle.page.specs.Lengths.{blockFits, lengthFits, wholeBlocks}
+use Rattle.page.specs.Lengths.{blockFits, lengthFits, wholeBlocks, pageIn}
+use Rattle.page.specs.Tags.{claimAt}
 use Rattle.page.specs.Shelf.{tagged, erased}
 use Rattle.page.specs.declared.layout.Layout.{Layout}
 
@@ -25,6 +28,18 @@ tagsOfCandidate k n at c = wholeBlocks (layoutAt c) k n && inTags (layoutAt c) a
 -- divides them
 unfoldable pub isRead : ℕ → ℕ → ℕ → Bool
 isRead k n at = blockFits k && lengthFits n && leb 1 (count (tagsOfCandidate k n at) layouts)
+
+-- two dumps of one length that agree on every byte that is read
+pub record SameRead (a b : List ℕ) (k : ℕ) : Type 0 where
+  pub long : length a ≡ length b
+  pub bytes : (at : ℕ) → at < length a → isRead k (length a) at ≡ true → getD a at 0 ≡ getD b at 0
+
+-- two dumps of one length whose tags say the same under every candidate that divides them
+pub record SameClaims (a b : List ℕ) (k : ℕ) : Type 0 where
+  pub long : length a ≡ length b
+  pub claims :
+      blockFits k ≡ true → lengthFits (length a) ≡ true → (c i : ℕ) → c < layouts → wholeBlocks (layoutAt c) k (length a) ≡ true → pageIn (layoutAt c) (length a) i ≡ true →
+      claimAt (layoutAt c) a i ≡ claimAt (layoutAt c) b i
 
 -- a dump of one page of 512/16 with these tags, and another value for one of their bytes
 pub record TagCase : Type 0 where
