@@ -65,7 +65,7 @@ scored-marked : (said : ℕ → Claim) (k i : ℕ) → isScored said k i ≡ tru
 unfolding isScored
 scored-marked said k i e = bears-marked (blockSequence said k i) (said i) e
 
--- so few pages can be counted
+-- a dump of an accepted length has few pages under any layout
 pub pages-few : (l : Layout) (k n : ℕ) → lengthFits n ≡ true → pagesUnder l k n < 2 ^ 31
 unfolding pagesUnder
 pages-few l k n h =
@@ -73,7 +73,7 @@ pages-few l k n h =
     (λ t. rw t (omega (arith, length-most n h, div-le-self n (pageLen l))))
     (λ t. rw t (omega arith))
 
--- and come out even
+-- and they come out even
 pages-even : (l : Layout) (k n : ℕ) → 0 < k → 0 < pageLen l → pagesUnder l k n % k ≡ 0
 unfolding pagesUnder
 pages-even l k n h g = by-test (wholeBlocks l k n) _ (λ t. rw t (whole-pages l k n h g t)) (λ t. rw t (zero-mod k))
