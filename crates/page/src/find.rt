@@ -216,6 +216,7 @@ fn best_of(dump: &[u8], k: u32) -> Named
         let mut score: u32 = 0;
         let mut marked: u32 = 0;
         let mut next: u32 = 0;
+        // with no page left, a candidate that is not lost fits and has the score that it needs
         'blocks: loop {
             if is_lost(score, marked, pages - next, need) {
                 continue 'candidates;
