@@ -3,9 +3,8 @@
  *
  * A dump is lent as a pointer and a length, and is only read; a buffer is lent
  * to be written. Every call takes any bytes and any numbers, ends, and keeps
- * nothing; one that is refused writes nothing. A layout is given by its
- * number in the table, 0 to 12; any other number is refused as BadLayout. k is
- * the number of pages in a block.
+ * nothing; one that is refused writes nothing. How a dump is read
+ * is given as its geometry.
  *
  * An answer begins with the number of the refusal, 0 where nothing is refused;
  * its other fields count only then. */
@@ -18,6 +17,13 @@
 #ifdef __cplusplus
 extern "C" {
 #endif
+
+/* How a dump is read: the number of its layout in the table, 0 to 12 (any other
+ * is refused as BadLayout), and how many pages a block has. */
+typedef struct {
+    uint32_t layout;
+    uint32_t block;
+} lohenarr_geometry;
 
 /* A layout with its number in the table; beside a refusal the number is 13. */
 typedef struct {
@@ -159,47 +165,52 @@ lohenarr_layout_answer lohenarr_layout_sized(uint32_t data, uint32_t spare, uint
 /* The layout of a dump. */
 lohenarr_layout_answer lohenarr_find(const uint8_t *dump, size_t len, uint32_t k);
 
+/* The score of finding the layout, for a dump read so: how many good pages bear
+ * their block's sequence. 0 where that is below need, where the candidate does
+ * not fit, and where the dump is refused. */
+uint32_t lohenarr_score(const uint8_t *dump, size_t len, lohenarr_geometry geometry, uint32_t need);
+
 /* The page count of a dump. */
-lohenarr_pages_answer lohenarr_pages(const uint8_t *dump, size_t len, uint32_t layout, uint32_t k);
+lohenarr_pages_answer lohenarr_pages(const uint8_t *dump, size_t len, lohenarr_geometry geometry);
 
 /* How many pages of a dump are of each kind. */
-lohenarr_counts_answer lohenarr_counts(const uint8_t *dump, size_t len, uint32_t layout, uint32_t k);
+lohenarr_counts_answer lohenarr_counts(const uint8_t *dump, size_t len, lohenarr_geometry geometry);
 
 /* The kind of a page, numbered from 0. */
-lohenarr_kind_answer lohenarr_kind(const uint8_t *dump, size_t len, uint32_t layout, uint32_t k, uint32_t page);
+lohenarr_kind_answer lohenarr_kind(const uint8_t *dump, size_t len, lohenarr_geometry geometry, uint32_t page);
 
 /* The header fields of a page that are numbers. */
-lohenarr_header_answer lohenarr_header(const uint8_t *dump, size_t len, uint32_t layout, uint32_t k, uint32_t page);
+lohenarr_header_answer lohenarr_header(const uint8_t *dump, size_t len, lohenarr_geometry geometry, uint32_t page);
 
 /* The name in a header, 256 bytes. */
-lohenarr_part_answer lohenarr_header_name(const uint8_t *dump, size_t len, uint32_t layout, uint32_t k, uint32_t page);
+lohenarr_part_answer lohenarr_header_name(const uint8_t *dump, size_t len, lohenarr_geometry geometry, uint32_t page);
 
 /* The alias in a header, 128 bytes. */
-lohenarr_part_answer lohenarr_header_alias(const uint8_t *dump, size_t len, uint32_t layout, uint32_t k, uint32_t page);
+lohenarr_part_answer lohenarr_header_alias(const uint8_t *dump, size_t len, lohenarr_geometry geometry, uint32_t page);
 
 /* The reserved bytes of a header, 8 bytes. */
-lohenarr_part_answer lohenarr_header_reserved(const uint8_t *dump, size_t len, uint32_t layout, uint32_t k, uint32_t page);
+lohenarr_part_answer lohenarr_header_reserved(const uint8_t *dump, size_t len, lohenarr_geometry geometry, uint32_t page);
 
 /* The size of an object, from the dump alone. */
-lohenarr_size_answer lohenarr_dump_size(const uint8_t *dump, size_t len, uint32_t layout, uint32_t k, uint32_t object);
+lohenarr_size_answer lohenarr_dump_size(const uint8_t *dump, size_t len, lohenarr_geometry geometry, uint32_t object);
 
 /* Chunk n of an object, numbered from 1, from the dump alone. */
-lohenarr_chunk_answer lohenarr_dump_chunk(const uint8_t *dump, size_t len, uint32_t layout, uint32_t k, uint32_t object, uint32_t n);
+lohenarr_chunk_answer lohenarr_dump_chunk(const uint8_t *dump, size_t len, lohenarr_geometry geometry, uint32_t object, uint32_t n);
 
 /* Chunk n of an object, read into a buffer: the valid bytes, then zeros up to the shown length. */
-lohenarr_chunk_answer lohenarr_dump_read(const uint8_t *dump, size_t len, uint32_t layout, uint32_t k, uint32_t object, uint32_t n, uint8_t *buffer, size_t buffer_len);
+lohenarr_chunk_answer lohenarr_dump_read(const uint8_t *dump, size_t len, lohenarr_geometry geometry, uint32_t object, uint32_t n, uint8_t *buffer, size_t buffer_len);
 
 /* The valid bytes of chunk n of an object, as a part of the dump. */
-lohenarr_place_answer lohenarr_dump_part(const uint8_t *dump, size_t len, uint32_t layout, uint32_t k, uint32_t object, uint32_t n);
+lohenarr_place_answer lohenarr_dump_part(const uint8_t *dump, size_t len, lohenarr_geometry geometry, uint32_t object, uint32_t n);
 
 /* The ids of the live objects, written in ascending order, from the dump alone. */
-lohenarr_list_answer lohenarr_dump_list(const uint8_t *dump, size_t len, uint32_t layout, uint32_t k, uint32_t *words, size_t words_len);
+lohenarr_list_answer lohenarr_dump_list(const uint8_t *dump, size_t len, lohenarr_geometry geometry, uint32_t *words, size_t words_len);
 
 /* How many objects are live. */
-lohenarr_tally_answer lohenarr_dump_live(const uint8_t *dump, size_t len, uint32_t layout, uint32_t k);
+lohenarr_tally_answer lohenarr_dump_live(const uint8_t *dump, size_t len, lohenarr_geometry geometry);
 
 /* How many objects have records. */
-lohenarr_tally_answer lohenarr_dump_objects(const uint8_t *dump, size_t len, uint32_t layout, uint32_t k);
+lohenarr_tally_answer lohenarr_dump_objects(const uint8_t *dump, size_t len, lohenarr_geometry geometry);
 
 /* How many words an index of so many pages has at least. */
 size_t lohenarr_cells(uint32_t pages);
@@ -209,36 +220,36 @@ size_t lohenarr_cells(uint32_t pages);
  * Every call on it is given the same dump and layout.
  *
  * Makes an index empty, whatever its words held: the refusal's number, or 0. */
-uint32_t lohenarr_start(const uint8_t *dump, size_t len, uint32_t layout, uint32_t k, uint32_t *cells, size_t cells_len);
+uint32_t lohenarr_start(const uint8_t *dump, size_t len, lohenarr_geometry geometry, uint32_t *cells, size_t cells_len);
 
 /* Adds a page to an index: the refusal's number, or 0. */
-uint32_t lohenarr_add(const uint8_t *dump, size_t len, uint32_t layout, uint32_t k, uint32_t *cells, size_t cells_len, uint32_t page);
+uint32_t lohenarr_add(const uint8_t *dump, size_t len, lohenarr_geometry geometry, uint32_t *cells, size_t cells_len, uint32_t page);
 
 /* Adds the pages from one to before another to an index, one after the other,
  * until one is refused. */
-lohenarr_run_answer lohenarr_add_run(const uint8_t *dump, size_t len, uint32_t layout, uint32_t k, uint32_t *cells, size_t cells_len, uint32_t from, uint32_t to);
+lohenarr_run_answer lohenarr_add_run(const uint8_t *dump, size_t len, lohenarr_geometry geometry, uint32_t *cells, size_t cells_len, uint32_t from, uint32_t to);
 
 /* The lookups by an index answer as if pages that were not added were blank. */
-lohenarr_size_answer lohenarr_size(const uint8_t *dump, size_t len, uint32_t layout, uint32_t k, const uint32_t *cells, size_t cells_len, uint32_t object);
-lohenarr_chunk_answer lohenarr_chunk(const uint8_t *dump, size_t len, uint32_t layout, uint32_t k, const uint32_t *cells, size_t cells_len, uint32_t object, uint32_t n);
-lohenarr_chunk_answer lohenarr_read(const uint8_t *dump, size_t len, uint32_t layout, uint32_t k, const uint32_t *cells, size_t cells_len, uint32_t object, uint32_t n, uint8_t *buffer, size_t buffer_len);
-lohenarr_place_answer lohenarr_part(const uint8_t *dump, size_t len, uint32_t layout, uint32_t k, const uint32_t *cells, size_t cells_len, uint32_t object, uint32_t n);
+lohenarr_size_answer lohenarr_size(const uint8_t *dump, size_t len, lohenarr_geometry geometry, const uint32_t *cells, size_t cells_len, uint32_t object);
+lohenarr_chunk_answer lohenarr_chunk(const uint8_t *dump, size_t len, lohenarr_geometry geometry, const uint32_t *cells, size_t cells_len, uint32_t object, uint32_t n);
+lohenarr_chunk_answer lohenarr_read(const uint8_t *dump, size_t len, lohenarr_geometry geometry, const uint32_t *cells, size_t cells_len, uint32_t object, uint32_t n, uint8_t *buffer, size_t buffer_len);
+lohenarr_place_answer lohenarr_part(const uint8_t *dump, size_t len, lohenarr_geometry geometry, const uint32_t *cells, size_t cells_len, uint32_t object, uint32_t n);
 
 /* The ids of the live objects, written in ascending order, by an index. */
-lohenarr_list_answer lohenarr_list(const uint8_t *dump, size_t len, uint32_t layout, uint32_t k, const uint32_t *cells, size_t cells_len, uint32_t *words, size_t words_len);
+lohenarr_list_answer lohenarr_list(const uint8_t *dump, size_t len, lohenarr_geometry geometry, const uint32_t *cells, size_t cells_len, uint32_t *words, size_t words_len);
 
 /* How many objects have an added record, by an index. */
-lohenarr_tally_answer lohenarr_objects(const uint8_t *dump, size_t len, uint32_t layout, uint32_t k, const uint32_t *cells, size_t cells_len);
+lohenarr_tally_answer lohenarr_objects(const uint8_t *dump, size_t len, lohenarr_geometry geometry, const uint32_t *cells, size_t cells_len);
 
 /* The chunks of a file from 1 on, by one walk over its records: a row of two
  * words for each. The first says where the copy is: 0 for a hole, 1 where
  * the index is damaged before a copy is met, and else the page and 2. The second
  * is how many of its bytes are valid; behind them a chunk is zeros, up to a
  * page's data or the file's end. Words past the rows stay as they were. */
-lohenarr_table_answer lohenarr_table(const uint8_t *dump, size_t len, uint32_t layout, uint32_t k, const uint32_t *cells, size_t cells_len, uint32_t object, uint32_t *words, size_t words_len);
+lohenarr_table_answer lohenarr_table(const uint8_t *dump, size_t len, lohenarr_geometry geometry, const uint32_t *cells, size_t cells_len, uint32_t object, uint32_t *words, size_t words_len);
 
 /* The valid bytes of the copy that a row of a table names, as a part of the dump. */
-lohenarr_place_answer lohenarr_row(const uint8_t *dump, size_t len, uint32_t layout, uint32_t place, uint32_t valid);
+lohenarr_place_answer lohenarr_row(const uint8_t *dump, size_t len, lohenarr_geometry geometry, uint32_t place, uint32_t valid);
 
 #ifdef __cplusplus
 }

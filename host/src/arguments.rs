@@ -1,156 +1,195 @@
-//! What was typed: a command, its dump, its arguments and its options.
+//! What is typed: a command, its dump, its arguments and its options.
 
-use std::ffi::{OsStr, OsString};
-use std::fmt;
+use std::ffi::OsString;
 
-use crate::failure::Failure;
-use crate::ffi;
+use clap::{Args, CommandFactory, Parser, Subcommand};
+use clap_complete::Shell;
 
-/// A number or a layout: as the library takes it, and as it was typed.
-#[derive(Clone, Debug)]
-pub struct Typed {
-    pub number: u32,
-    text: String,
-}
+use crate::script::request::FORMS;
+use crate::typed::Typed;
+use crate::usage;
 
-impl Typed {
-    /// What stands where nothing was asked for.
-    pub const NOTHING: &'static Typed = &Typed {
-        number: 0,
-        text: String::new(),
-    };
-
-    /// The number that goes by this name.
-    pub fn number(name: &str, word: &OsStr) -> Result<Typed, Failure> {
-        Typed::read(name, word, "a number, decimal or with 0x", number)
-    }
-
-    fn layout(name: &str, word: &OsStr) -> Result<Typed, Failure> {
-        Typed::read(name, word, "P/S/T or a number in the table", layout)
-    }
-
-    fn read(
-        name: &str,
-        word: &OsStr,
-        what: &str,
-        read: impl Fn(&str) -> Option<u32>,
-    ) -> Result<Typed, Failure> {
-        let text = word.to_str().unwrap_or_default();
-        let wrong = || Failure::Usage(format!("{name} is {what}; {} is not", word.display()));
-        Ok(Typed {
-            number: read(text).ok_or_else(wrong)?,
-            text: text.to_string(),
-        })
-    }
-}
-
-impl From<u32> for Typed {
-    fn from(number: u32) -> Typed {
-        let text = number.to_string();
-        Typed { number, text }
-    }
-}
-
-impl fmt::Display for Typed {
-    fn fmt(&self, f: &mut fmt::Formatter<'_>) -> fmt::Result {
-        self.text.fmt(f)
-    }
-}
-
-/// The number in the table of a layout that is named by it or as P/S/T; one
-/// that the table lacks is not in it.
-pub fn layout(text: &str) -> Option<u32> {
-    let parts: Option<Vec<u32>> = text.split('/').map(number).collect();
-    match parts?[..] {
-        [number] => Some(number),
-        [p, s, t] => Some(ffi::layout_sized(p, s, t).number),
-        _ => None,
-    }
-}
-
-/// A number, decimal or with 0x. One beyond 32 bits is taken as the largest
-/// of these, which every call refuses alike.
-pub fn number(text: &str) -> Option<u32> {
-    long(text).map(|n| u32::try_from(n).unwrap_or(u32::MAX))
-}
-
-/// A number of 64 bits, or the largest of these for one beyond them.
-pub fn long(text: &str) -> Option<u64> {
-    let (digits, radix) = match text.strip_prefix("0x") {
-        Some(digits) => (digits, 16),
-        None => (text, 10),
-    };
-    if digits.is_empty() {
-        return None;
-    }
-    digits.chars().try_fold(0u64, |n, c| {
-        let digit = c.to_digit(radix)?;
-        Some(
-            n.saturating_mul(u64::from(radix))
-                .saturating_add(u64::from(digit)),
-        )
-    })
-}
-
-/// The options, and the words that are none.
-#[derive(Debug, Default)]
+/// Reads raw NAND dumps under YAFFS2.
+#[derive(Debug, Parser)]
+#[command(name = "lohenarr", version, propagate_version = true, after_help = NOTES)]
 pub struct Arguments {
-    pub words: Vec<OsString>,
+    #[command(subcommand)]
+    pub command: Command,
+}
+
+const NOTES: &str = "\
+A command is followed by DUMP, a file that is opened read-only, or - for standard
+input. Numbers are decimal, or hexadecimal with 0x. A refusal prints refusal=N and
+ends with status 1; bad usage and files that fail end with status 2.
+`lohenarr help COMMAND` has the options of a command.
+";
+
+#[derive(Debug, Subcommand)]
+pub enum Command {
+    /// Layout, page kinds and objects, in ten lines
+    Report {
+        #[command(flatten)]
+        on: On,
+    },
+    /// The layout
+    Find {
+        #[command(flatten)]
+        source: Source,
+        #[command(flatten)]
+        block: Block,
+        #[command(flatten)]
+        form: Form,
+    },
+    /// A line for each page
+    Pages {
+        #[command(flatten)]
+        on: On,
+    },
+    /// The fields of a header page
+    Header {
+        #[command(flatten)]
+        on: On,
+        /// The page's number, from 0 on
+        #[arg(value_parser = Typed::number, allow_negative_numbers = true)]
+        page: Typed,
+    },
+    /// The live objects
+    List {
+        #[command(flatten)]
+        on: On,
+    },
+    /// The size of a file
+    Size {
+        #[command(flatten)]
+        on: On,
+        #[command(flatten)]
+        of: Object,
+    },
+    /// Where a chunk of a file stands
+    Chunk {
+        #[command(flatten)]
+        on: On,
+        #[command(flatten)]
+        of: Object,
+        /// The chunk's number, from 1 on
+        #[arg(value_parser = Typed::number, allow_negative_numbers = true)]
+        n: Typed,
+    },
+    /// The bytes of a file, holes as zeros
+    Read {
+        #[command(flatten)]
+        on: On,
+        #[command(flatten)]
+        of: Object,
+        /// A new file for the bytes, in which holes are left sparse; size and
+        /// SHA-256 are printed. - is standard output
+        #[arg(short, long, value_name = "FILE")]
+        out: Option<OsString>,
+    },
+    /// Which pages hold a file, or every live file
+    Extract {
+        #[command(flatten)]
+        on: On,
+        /// The object's id; every live file if left out
+        #[arg(value_parser = Typed::number, allow_negative_numbers = true)]
+        object: Option<Typed>,
+    },
+    /// An answer for each request of a script
+    #[command(after_help = FORMS)]
+    Script {
+        #[command(flatten)]
+        source: Source,
+        /// A file with a request on each line; standard input if left out
+        #[arg(default_value = "-", hide_default_value = true)]
+        script: OsString,
+    },
+    /// A script that completes what is typed, for a shell
+    Completions { shell: Shell },
+}
+
+/// A dump, how it is cut, and how the answer is printed.
+#[derive(Debug, Args)]
+pub struct On {
+    #[command(flatten)]
+    pub source: Source,
+    /// The layout, by its sizes or its number in the table; found if left out
+    #[arg(long, value_name = "P/S/T", value_parser = Typed::layout)]
     pub layout: Option<Typed>,
-    pub block: Option<Typed>,
+    #[command(flatten)]
+    pub block: Block,
+    #[command(flatten)]
+    pub form: Form,
+}
+
+#[derive(Debug, Args)]
+pub struct Source {
+    /// The dump: a file, opened read-only, or - for standard input
+    pub dump: OsString,
+    /// Read the dump into memory instead of mapping it
+    #[arg(long)]
     pub copy: bool,
-    pub help: bool,
-    pub version: bool,
-    pub out: Option<OsString>,
+}
+
+#[derive(Debug, Args)]
+pub struct Block {
+    /// The pages of a block, 1 to 256; found if left out
+    #[arg(short, long, value_name = "K", value_parser = Typed::number, allow_negative_numbers = true)]
+    pub block: Option<Typed>,
+}
+
+#[derive(Clone, Copy, Debug, Args)]
+pub struct Form {
+    /// Print a JSON object on each line
+    #[arg(long)]
+    pub json: bool,
+}
+
+#[derive(Debug, Args)]
+pub struct Object {
+    /// The object's id
+    #[arg(value_parser = Typed::number, allow_negative_numbers = true)]
+    pub object: Typed,
+}
+
+/// What is to be done.
+pub enum Parsed {
+    Run(Arguments),
+    /// Help or version, to be printed.
+    Tell(String),
 }
 
 impl Arguments {
-    /// K: 64 if it is left out.
-    pub fn block(&self) -> Typed {
-        self.block.clone().unwrap_or(Typed::from(64))
-    }
-
-    pub fn parse(mut typed: impl Iterator<Item = OsString>) -> Result<Arguments, Failure> {
-        let mut arguments = Arguments::default();
-        while let Some(word) = typed.next() {
-            let option = word.to_str().unwrap_or_default();
-            let mut value = || typed.next().ok_or_else(|| wants_value(option));
-            match option {
-                "--layout" => {
-                    let layout = Typed::layout(option, &value()?)?;
-                    once(option, &mut arguments.layout, layout)?;
-                }
-                "--block" => {
-                    let block = Typed::number(option, &value()?)?;
-                    once(option, &mut arguments.block, block)?;
-                }
-                "--out" => once(option, &mut arguments.out, value()?)?,
-                "--copy" => arguments.copy = true,
-                "--help" => arguments.help = true,
-                "--version" => arguments.version = true,
-                _ if option.starts_with("--") => return Err(no_option(option)),
-                _ => arguments.words.push(word),
-            }
+    /// Reads the words behind the program's name, or says in a sentence what
+    /// is wrong with them.
+    pub fn parse(words: impl IntoIterator<Item = OsString>) -> Result<Parsed, String> {
+        let words: Vec<OsString> = words.into_iter().collect();
+        let named = [OsString::from("lohenarr")].into_iter();
+        match Arguments::try_parse_from(named.chain(words.iter().cloned())) {
+            Ok(arguments) => Ok(Parsed::Run(arguments)),
+            Err(error) => usage::told(&error, &Arguments::command(), words.first()),
         }
-        Ok(arguments)
     }
 }
 
-fn wants_value(option: &str) -> Failure {
-    Failure::Usage(format!("{option} wants a value behind it"))
-}
+impl Arguments {
+    /// How the answer is printed.
+    pub fn json(&self) -> bool {
+        match &self.command {
+            Command::Find { form, .. } => form.json,
+            Command::Report { on }
+            | Command::Pages { on }
+            | Command::Header { on, .. }
+            | Command::List { on }
+            | Command::Size { on, .. }
+            | Command::Chunk { on, .. }
+            | Command::Read { on, .. }
+            | Command::Extract { on, .. } => on.form.json,
+            Command::Script { .. } | Command::Completions { .. } => false,
+        }
+    }
 
-fn no_option(option: &str) -> Failure {
-    Failure::Usage(match option.split_once('=') {
-        Some((name, value)) => format!("the value of {name} stands behind a space: {name} {value}"),
-        None => format!("there is no option {option}"),
-    })
-}
-
-/// Keeps the value of an option that is given for the first time.
-fn once<T>(option: &str, place: &mut Option<T>, value: T) -> Result<(), Failure> {
-    match place.replace(value) {
-        Some(_) => Err(Failure::Usage(format!("{option} is given twice"))),
-        None => Ok(()),
+    /// Whether what is printed is evidence, and nothing else may be among it.
+    pub fn prints_evidence(&self) -> bool {
+        matches!(self.command, Command::Read { .. })
     }
 }

@@ -2,6 +2,7 @@
 
 use std::io;
 
+#[derive(Debug)]
 pub enum Failure {
     /// The library refused: the number, and what it means here.
     Refused(u32, String),
@@ -9,16 +10,11 @@ pub enum Failure {
     Usage(String),
     /// A file that cannot be read or written.
     File(String),
-    /// Nobody reads the output any more.
-    ClosedPipe,
 }
 
 impl From<io::Error> for Failure {
     /// An error of writing the answer.
     fn from(error: io::Error) -> Failure {
-        match error.kind() {
-            io::ErrorKind::BrokenPipe => Failure::ClosedPipe,
-            _ => Failure::File(format!("cannot write the answer: {error}")),
-        }
+        Failure::File(format!("cannot write the answer: {error}"))
     }
 }

@@ -36,6 +36,15 @@ answers! {
     ListAnswer TallyAnswer TableAnswer RunAnswer
 }
 
+/// How a dump is cut into pages and blocks: a layout by its number in the table,
+/// and K, the pages of a block.
+#[repr(C)]
+#[derive(Clone, Copy, Debug, PartialEq, Eq)]
+pub struct Geometry {
+    pub layout: u32,
+    pub block: u32,
+}
+
 /// A layout with its number in the table; beside a refusal the number is 13.
 #[repr(C)]
 #[derive(Clone, Copy, Debug, PartialEq, Eq)]
@@ -227,32 +236,33 @@ extern "C" {
     fn lohenarr_layout(number: u32) -> LayoutAnswer;
     fn lohenarr_layout_sized(data: u32, spare: u32, tag: u32) -> LayoutAnswer;
     fn lohenarr_find(dump: *const u8, len: usize, k: u32) -> LayoutAnswer;
-    fn lohenarr_pages(dump: *const u8, len: usize, layout: u32, k: u32) -> PagesAnswer;
-    fn lohenarr_counts(dump: *const u8, len: usize, layout: u32, k: u32) -> CountsAnswer;
-    fn lohenarr_kind(dump: *const u8, len: usize, layout: u32, k: u32, page: u32) -> KindAnswer;
-    fn lohenarr_header(dump: *const u8, len: usize, layout: u32, k: u32, page: u32) -> HeaderAnswer;
-    fn lohenarr_header_name(dump: *const u8, len: usize, layout: u32, k: u32, page: u32) -> PartAnswer;
-    fn lohenarr_header_alias(dump: *const u8, len: usize, layout: u32, k: u32, page: u32) -> PartAnswer;
-    fn lohenarr_header_reserved(dump: *const u8, len: usize, layout: u32, k: u32, page: u32) -> PartAnswer;
-    fn lohenarr_dump_size(dump: *const u8, len: usize, layout: u32, k: u32, object: u32) -> SizeAnswer;
-    fn lohenarr_dump_chunk(dump: *const u8, len: usize, layout: u32, k: u32, object: u32, n: u32) -> ChunkAnswer;
-    fn lohenarr_dump_read(dump: *const u8, len: usize, layout: u32, k: u32, object: u32, n: u32, buffer: *mut u8, buffer_len: usize) -> ChunkAnswer;
-    fn lohenarr_dump_part(dump: *const u8, len: usize, layout: u32, k: u32, object: u32, n: u32) -> PlaceAnswer;
-    fn lohenarr_dump_list(dump: *const u8, len: usize, layout: u32, k: u32, words: *mut u32, words_len: usize) -> ListAnswer;
-    fn lohenarr_dump_live(dump: *const u8, len: usize, layout: u32, k: u32) -> TallyAnswer;
-    fn lohenarr_dump_objects(dump: *const u8, len: usize, layout: u32, k: u32) -> TallyAnswer;
+    fn lohenarr_score(dump: *const u8, len: usize, geometry: Geometry, need: u32) -> u32;
+    fn lohenarr_pages(dump: *const u8, len: usize, geometry: Geometry) -> PagesAnswer;
+    fn lohenarr_counts(dump: *const u8, len: usize, geometry: Geometry) -> CountsAnswer;
+    fn lohenarr_kind(dump: *const u8, len: usize, geometry: Geometry, page: u32) -> KindAnswer;
+    fn lohenarr_header(dump: *const u8, len: usize, geometry: Geometry, page: u32) -> HeaderAnswer;
+    fn lohenarr_header_name(dump: *const u8, len: usize, geometry: Geometry, page: u32) -> PartAnswer;
+    fn lohenarr_header_alias(dump: *const u8, len: usize, geometry: Geometry, page: u32) -> PartAnswer;
+    fn lohenarr_header_reserved(dump: *const u8, len: usize, geometry: Geometry, page: u32) -> PartAnswer;
+    fn lohenarr_dump_size(dump: *const u8, len: usize, geometry: Geometry, object: u32) -> SizeAnswer;
+    fn lohenarr_dump_chunk(dump: *const u8, len: usize, geometry: Geometry, object: u32, n: u32) -> ChunkAnswer;
+    fn lohenarr_dump_read(dump: *const u8, len: usize, geometry: Geometry, object: u32, n: u32, buffer: *mut u8, buffer_len: usize) -> ChunkAnswer;
+    fn lohenarr_dump_part(dump: *const u8, len: usize, geometry: Geometry, object: u32, n: u32) -> PlaceAnswer;
+    fn lohenarr_dump_list(dump: *const u8, len: usize, geometry: Geometry, words: *mut u32, words_len: usize) -> ListAnswer;
+    fn lohenarr_dump_live(dump: *const u8, len: usize, geometry: Geometry) -> TallyAnswer;
+    fn lohenarr_dump_objects(dump: *const u8, len: usize, geometry: Geometry) -> TallyAnswer;
     fn lohenarr_cells(pages: u32) -> usize;
-    fn lohenarr_start(dump: *const u8, len: usize, layout: u32, k: u32, cells: *mut u32, cells_len: usize) -> u32;
-    fn lohenarr_add(dump: *const u8, len: usize, layout: u32, k: u32, cells: *mut u32, cells_len: usize, page: u32) -> u32;
-    fn lohenarr_add_run(dump: *const u8, len: usize, layout: u32, k: u32, cells: *mut u32, cells_len: usize, from: u32, to: u32) -> RunAnswer;
-    fn lohenarr_size(dump: *const u8, len: usize, layout: u32, k: u32, cells: *const u32, cells_len: usize, object: u32) -> SizeAnswer;
-    fn lohenarr_chunk(dump: *const u8, len: usize, layout: u32, k: u32, cells: *const u32, cells_len: usize, object: u32, n: u32) -> ChunkAnswer;
-    fn lohenarr_read(dump: *const u8, len: usize, layout: u32, k: u32, cells: *const u32, cells_len: usize, object: u32, n: u32, buffer: *mut u8, buffer_len: usize) -> ChunkAnswer;
-    fn lohenarr_part(dump: *const u8, len: usize, layout: u32, k: u32, cells: *const u32, cells_len: usize, object: u32, n: u32) -> PlaceAnswer;
-    fn lohenarr_list(dump: *const u8, len: usize, layout: u32, k: u32, cells: *const u32, cells_len: usize, words: *mut u32, words_len: usize) -> ListAnswer;
-    fn lohenarr_objects(dump: *const u8, len: usize, layout: u32, k: u32, cells: *const u32, cells_len: usize) -> TallyAnswer;
-    fn lohenarr_table(dump: *const u8, len: usize, layout: u32, k: u32, cells: *const u32, cells_len: usize, object: u32, words: *mut u32, words_len: usize) -> TableAnswer;
-    fn lohenarr_row(dump: *const u8, len: usize, layout: u32, place: u32, valid: u32) -> PlaceAnswer;
+    fn lohenarr_start(dump: *const u8, len: usize, geometry: Geometry, cells: *mut u32, cells_len: usize) -> u32;
+    fn lohenarr_add(dump: *const u8, len: usize, geometry: Geometry, cells: *mut u32, cells_len: usize, page: u32) -> u32;
+    fn lohenarr_add_run(dump: *const u8, len: usize, geometry: Geometry, cells: *mut u32, cells_len: usize, from: u32, to: u32) -> RunAnswer;
+    fn lohenarr_size(dump: *const u8, len: usize, geometry: Geometry, cells: *const u32, cells_len: usize, object: u32) -> SizeAnswer;
+    fn lohenarr_chunk(dump: *const u8, len: usize, geometry: Geometry, cells: *const u32, cells_len: usize, object: u32, n: u32) -> ChunkAnswer;
+    fn lohenarr_read(dump: *const u8, len: usize, geometry: Geometry, cells: *const u32, cells_len: usize, object: u32, n: u32, buffer: *mut u8, buffer_len: usize) -> ChunkAnswer;
+    fn lohenarr_part(dump: *const u8, len: usize, geometry: Geometry, cells: *const u32, cells_len: usize, object: u32, n: u32) -> PlaceAnswer;
+    fn lohenarr_list(dump: *const u8, len: usize, geometry: Geometry, cells: *const u32, cells_len: usize, words: *mut u32, words_len: usize) -> ListAnswer;
+    fn lohenarr_objects(dump: *const u8, len: usize, geometry: Geometry, cells: *const u32, cells_len: usize) -> TallyAnswer;
+    fn lohenarr_table(dump: *const u8, len: usize, geometry: Geometry, cells: *const u32, cells_len: usize, object: u32, words: *mut u32, words_len: usize) -> TableAnswer;
+    fn lohenarr_row(dump: *const u8, len: usize, geometry: Geometry, place: u32, valid: u32) -> PlaceAnswer;
 }
 
 /// The most bytes that a dump has.
@@ -270,88 +280,88 @@ pub fn layout_sized(data: u32, spare: u32, tag: u32) -> LayoutAnswer {
     unsafe { lohenarr_layout_sized(data, spare, tag) }
 }
 
-/// The layout of a dump in blocks of k pages.
-pub fn find(dump: &[u8], k: u32) -> LayoutAnswer {
-    unsafe { lohenarr_find(dump.as_ptr(), dump.len(), k) }
+/// The layout of a dump in blocks of so many pages.
+pub fn find(dump: &[u8], block: u32) -> LayoutAnswer {
+    unsafe { lohenarr_find(dump.as_ptr(), dump.len(), block) }
+}
+
+/// The score of finding the layout, for a dump read so: how many good pages bear
+/// their block's sequence. 0 where that is below `need`, where the candidate does
+/// not fit, and where the dump is refused.
+pub fn score(dump: &[u8], on: Geometry, need: u32) -> u32 {
+    unsafe { lohenarr_score(dump.as_ptr(), dump.len(), on, need) }
 }
 
 /// The page count of a dump.
-pub fn pages(dump: &[u8], layout: u32, k: u32) -> PagesAnswer {
-    unsafe { lohenarr_pages(dump.as_ptr(), dump.len(), layout, k) }
+pub fn pages(dump: &[u8], on: Geometry) -> PagesAnswer {
+    unsafe { lohenarr_pages(dump.as_ptr(), dump.len(), on) }
 }
 
 /// How many pages of a dump are of each kind.
-pub fn counts(dump: &[u8], layout: u32, k: u32) -> CountsAnswer {
-    unsafe { lohenarr_counts(dump.as_ptr(), dump.len(), layout, k) }
+pub fn counts(dump: &[u8], on: Geometry) -> CountsAnswer {
+    unsafe { lohenarr_counts(dump.as_ptr(), dump.len(), on) }
 }
 
 /// The kind of a page.
-pub fn kind(dump: &[u8], layout: u32, k: u32, page: u32) -> KindAnswer {
-    unsafe { lohenarr_kind(dump.as_ptr(), dump.len(), layout, k, page) }
+pub fn kind(dump: &[u8], on: Geometry, page: u32) -> KindAnswer {
+    unsafe { lohenarr_kind(dump.as_ptr(), dump.len(), on, page) }
 }
 
 /// The header fields of a page that are numbers.
-pub fn header(dump: &[u8], layout: u32, k: u32, page: u32) -> HeaderAnswer {
-    unsafe { lohenarr_header(dump.as_ptr(), dump.len(), layout, k, page) }
+pub fn header(dump: &[u8], on: Geometry, page: u32) -> HeaderAnswer {
+    unsafe { lohenarr_header(dump.as_ptr(), dump.len(), on, page) }
 }
 
 /// The name in a header, as a part of the dump.
-pub fn header_name(dump: &[u8], layout: u32, k: u32, page: u32) -> PartAnswer {
-    unsafe { lohenarr_header_name(dump.as_ptr(), dump.len(), layout, k, page) }
+pub fn header_name(dump: &[u8], on: Geometry, page: u32) -> PartAnswer {
+    unsafe { lohenarr_header_name(dump.as_ptr(), dump.len(), on, page) }
 }
 
 /// The alias in a header, as a part of the dump.
-pub fn header_alias(dump: &[u8], layout: u32, k: u32, page: u32) -> PartAnswer {
-    unsafe { lohenarr_header_alias(dump.as_ptr(), dump.len(), layout, k, page) }
+pub fn header_alias(dump: &[u8], on: Geometry, page: u32) -> PartAnswer {
+    unsafe { lohenarr_header_alias(dump.as_ptr(), dump.len(), on, page) }
 }
 
 /// The reserved bytes of a header, as a part of the dump.
-pub fn header_reserved(dump: &[u8], layout: u32, k: u32, page: u32) -> PartAnswer {
-    unsafe { lohenarr_header_reserved(dump.as_ptr(), dump.len(), layout, k, page) }
+pub fn header_reserved(dump: &[u8], on: Geometry, page: u32) -> PartAnswer {
+    unsafe { lohenarr_header_reserved(dump.as_ptr(), dump.len(), on, page) }
 }
 
 /// The size of an object, from the dump alone.
-pub fn dump_size(dump: &[u8], layout: u32, k: u32, object: u32) -> SizeAnswer {
-    unsafe { lohenarr_dump_size(dump.as_ptr(), dump.len(), layout, k, object) }
+pub fn dump_size(dump: &[u8], on: Geometry, object: u32) -> SizeAnswer {
+    unsafe { lohenarr_dump_size(dump.as_ptr(), dump.len(), on, object) }
 }
 
 /// A chunk of an object, from the dump alone.
-pub fn dump_chunk(dump: &[u8], layout: u32, k: u32, object: u32, n: u32) -> ChunkAnswer {
-    unsafe { lohenarr_dump_chunk(dump.as_ptr(), dump.len(), layout, k, object, n) }
+pub fn dump_chunk(dump: &[u8], on: Geometry, object: u32, n: u32) -> ChunkAnswer {
+    unsafe { lohenarr_dump_chunk(dump.as_ptr(), dump.len(), on, object, n) }
 }
 
 /// A chunk of an object read into a buffer, from the dump alone.
-pub fn dump_read(
-    dump: &[u8],
-    layout: u32,
-    k: u32,
-    object: u32,
-    n: u32,
-    buffer: &mut [u8],
-) -> ChunkAnswer {
+pub fn dump_read(dump: &[u8], on: Geometry, object: u32, n: u32, buffer: &mut [u8]) -> ChunkAnswer {
     let (to, room) = (buffer.as_mut_ptr(), buffer.len());
-    unsafe { lohenarr_dump_read(dump.as_ptr(), dump.len(), layout, k, object, n, to, room) }
+    unsafe { lohenarr_dump_read(dump.as_ptr(), dump.len(), on, object, n, to, room) }
 }
 
 /// The valid bytes of a chunk, as a part of the dump, from the dump alone.
-pub fn dump_part(dump: &[u8], layout: u32, k: u32, object: u32, n: u32) -> PlaceAnswer {
-    unsafe { lohenarr_dump_part(dump.as_ptr(), dump.len(), layout, k, object, n) }
+pub fn dump_part(dump: &[u8], on: Geometry, object: u32, n: u32) -> PlaceAnswer {
+    unsafe { lohenarr_dump_part(dump.as_ptr(), dump.len(), on, object, n) }
 }
 
 /// The ids of the live objects, ascending, from the dump alone.
-pub fn dump_list(dump: &[u8], layout: u32, k: u32, words: &mut [u32]) -> ListAnswer {
+pub fn dump_list(dump: &[u8], on: Geometry, words: &mut [u32]) -> ListAnswer {
     let (to, room) = (words.as_mut_ptr(), words.len());
-    unsafe { lohenarr_dump_list(dump.as_ptr(), dump.len(), layout, k, to, room) }
+    unsafe { lohenarr_dump_list(dump.as_ptr(), dump.len(), on, to, room) }
 }
 
 /// How many objects are live.
-pub fn dump_live(dump: &[u8], layout: u32, k: u32) -> TallyAnswer {
-    unsafe { lohenarr_dump_live(dump.as_ptr(), dump.len(), layout, k) }
+pub fn dump_live(dump: &[u8], on: Geometry) -> TallyAnswer {
+    unsafe { lohenarr_dump_live(dump.as_ptr(), dump.len(), on) }
 }
 
 /// How many objects have records.
-pub fn dump_objects(dump: &[u8], layout: u32, k: u32) -> TallyAnswer {
-    unsafe { lohenarr_dump_objects(dump.as_ptr(), dump.len(), layout, k) }
+pub fn dump_objects(dump: &[u8], on: Geometry) -> TallyAnswer {
+    unsafe { lohenarr_dump_objects(dump.as_ptr(), dump.len(), on) }
 }
 
 /// How many words an index of so many pages has.
@@ -360,73 +370,73 @@ pub fn cells(pages: u32) -> usize {
 }
 
 /// Makes an index empty: the number of the refusal, or 0.
-pub fn start(dump: &[u8], layout: u32, k: u32, cells: &mut [u32]) -> u32 {
+pub fn start(dump: &[u8], on: Geometry, cells: &mut [u32]) -> u32 {
     let (at, words) = (cells.as_mut_ptr(), cells.len());
-    unsafe { lohenarr_start(dump.as_ptr(), dump.len(), layout, k, at, words) }
+    unsafe { lohenarr_start(dump.as_ptr(), dump.len(), on, at, words) }
 }
 
 /// Adds a page to an index: the number of the refusal, or 0.
-pub fn add(dump: &[u8], layout: u32, k: u32, cells: &mut [u32], page: u32) -> u32 {
+pub fn add(dump: &[u8], on: Geometry, cells: &mut [u32], page: u32) -> u32 {
     let (at, words) = (cells.as_mut_ptr(), cells.len());
-    unsafe { lohenarr_add(dump.as_ptr(), dump.len(), layout, k, at, words, page) }
+    unsafe { lohenarr_add(dump.as_ptr(), dump.len(), on, at, words, page) }
 }
 
 /// Adds the pages from one to before another to an index, until one is refused.
 #[rustfmt::skip]
-pub fn add_run(dump: &[u8], layout: u32, k: u32, cells: &mut [u32], from: u32, to: u32) -> RunAnswer {
+pub fn add_run(dump: &[u8], on: Geometry, cells: &mut [u32], from: u32, to: u32) -> RunAnswer {
     let (at, words) = (cells.as_mut_ptr(), cells.len());
-    unsafe { lohenarr_add_run(dump.as_ptr(), dump.len(), layout, k, at, words, from, to) }
+    unsafe { lohenarr_add_run(dump.as_ptr(), dump.len(), on, at, words, from, to) }
 }
 
 /// The size of an object, by the index.
-pub fn size(dump: &[u8], layout: u32, k: u32, cells: &[u32], object: u32) -> SizeAnswer {
+pub fn size(dump: &[u8], on: Geometry, cells: &[u32], object: u32) -> SizeAnswer {
     let (at, words) = (cells.as_ptr(), cells.len());
-    unsafe { lohenarr_size(dump.as_ptr(), dump.len(), layout, k, at, words, object) }
+    unsafe { lohenarr_size(dump.as_ptr(), dump.len(), on, at, words, object) }
 }
 
 /// A chunk of an object, by the index.
-pub fn chunk(dump: &[u8], layout: u32, k: u32, cells: &[u32], object: u32, n: u32) -> ChunkAnswer {
+pub fn chunk(dump: &[u8], on: Geometry, cells: &[u32], object: u32, n: u32) -> ChunkAnswer {
     let (at, words) = (cells.as_ptr(), cells.len());
-    unsafe { lohenarr_chunk(dump.as_ptr(), dump.len(), layout, k, at, words, object, n) }
+    unsafe { lohenarr_chunk(dump.as_ptr(), dump.len(), on, at, words, object, n) }
 }
 
 /// A chunk of an object read into a buffer, by the index.
 #[rustfmt::skip]
-pub fn read(dump: &[u8], layout: u32, k: u32, cells: &[u32], object: u32, n: u32, buffer: &mut [u8]) -> ChunkAnswer {
+pub fn read(dump: &[u8], on: Geometry, cells: &[u32], object: u32, n: u32, buffer: &mut [u8]) -> ChunkAnswer {
     let (at, words) = (cells.as_ptr(), cells.len());
     let (to, room) = (buffer.as_mut_ptr(), buffer.len());
-    unsafe { lohenarr_read(dump.as_ptr(), dump.len(), layout, k, at, words, object, n, to, room) }
+    unsafe { lohenarr_read(dump.as_ptr(), dump.len(), on, at, words, object, n, to, room) }
 }
 
 /// The valid bytes of a chunk, as a part of the dump, by the index.
-pub fn part(dump: &[u8], layout: u32, k: u32, cells: &[u32], object: u32, n: u32) -> PlaceAnswer {
+pub fn part(dump: &[u8], on: Geometry, cells: &[u32], object: u32, n: u32) -> PlaceAnswer {
     let (at, words) = (cells.as_ptr(), cells.len());
-    unsafe { lohenarr_part(dump.as_ptr(), dump.len(), layout, k, at, words, object, n) }
+    unsafe { lohenarr_part(dump.as_ptr(), dump.len(), on, at, words, object, n) }
 }
 
 /// The ids of the live objects, ascending, by the index.
-pub fn list(dump: &[u8], layout: u32, k: u32, cells: &[u32], words: &mut [u32]) -> ListAnswer {
+pub fn list(dump: &[u8], on: Geometry, cells: &[u32], words: &mut [u32]) -> ListAnswer {
     let (at, count) = (cells.as_ptr(), cells.len());
     let (to, room) = (words.as_mut_ptr(), words.len());
-    unsafe { lohenarr_list(dump.as_ptr(), dump.len(), layout, k, at, count, to, room) }
+    unsafe { lohenarr_list(dump.as_ptr(), dump.len(), on, at, count, to, room) }
 }
 
 /// How many objects have an added record, by the index.
-pub fn objects(dump: &[u8], layout: u32, k: u32, cells: &[u32]) -> TallyAnswer {
+pub fn objects(dump: &[u8], on: Geometry, cells: &[u32]) -> TallyAnswer {
     let (at, words) = (cells.as_ptr(), cells.len());
-    unsafe { lohenarr_objects(dump.as_ptr(), dump.len(), layout, k, at, words) }
+    unsafe { lohenarr_objects(dump.as_ptr(), dump.len(), on, at, words) }
 }
 
 /// The chunks of a file, two words for each, by the index.
 #[rustfmt::skip]
-pub fn table(dump: &[u8], layout: u32, k: u32, cells: &[u32], object: u32, words: &mut [u32]) -> TableAnswer {
+pub fn table(dump: &[u8], on: Geometry, cells: &[u32], object: u32, words: &mut [u32]) -> TableAnswer {
     let (at, count) = (cells.as_ptr(), cells.len());
     let (to, room) = (words.as_mut_ptr(), words.len());
-    unsafe { lohenarr_table(dump.as_ptr(), dump.len(), layout, k, at, count, object, to, room) }
+    unsafe { lohenarr_table(dump.as_ptr(), dump.len(), on, at, count, object, to, room) }
 }
 
 /// The valid bytes of the copy that a row of a table names, as a part of the
 /// dump.
-pub fn row(dump: &[u8], layout: u32, place: u32, valid: u32) -> PlaceAnswer {
-    unsafe { lohenarr_row(dump.as_ptr(), dump.len(), layout, place, valid) }
+pub fn row(dump: &[u8], on: Geometry, place: u32, valid: u32) -> PlaceAnswer {
+    unsafe { lohenarr_row(dump.as_ptr(), dump.len(), on, place, valid) }
 }

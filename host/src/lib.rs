@@ -2,24 +2,39 @@
 //! proved library, and prints what that answers. No rule about dumps is
 //! decided here.
 //!
-//! - `ffi`: the library's calls, declared and wrapped; `unsafe` is here and in `map` alone.
-//! - `map`: a dump as a slice of bytes.
-//! - `arguments`: what was typed.
+//! - `ffi`: the library's calls, declared and wrapped.
+//! - `dump`: a dump as a slice of bytes.
+//! - `arguments`, `typed`, `usage`: what was typed, and what is wrong with it.
+//! - `block`: K where nobody names it.
 //! - `refusal`: the names of the refusals, and what each means.
+//! - `looks`: what a file looks like that is no dump.
 //! - `failure`: why a command ends without its answer.
 //! - `objects`: the objects of a dump and their chunks, as the commands ask for them.
 //! - `table`: the chunks of a file and its bytes.
+//! - `fields`: answers as lines or as JSON.
 //! - `commands`: a file for each command.
 //! - `script`: the requests of a script and their answers.
-//! - `crc`: CRC-32, by which a script's answers show bytes.
+//! - `new_file`: a file that appears under its name once it is whole.
+//! - `progress`: how far a command is.
+//! - `signals`, `standard`: signals, and standard input and output.
+//!
+//! `unsafe` is in `ffi`, `dump`, `signals` and `standard` alone.
 
 pub mod arguments;
+pub mod block;
 pub mod commands;
-pub mod crc;
+pub mod dump;
 pub mod failure;
 pub mod ffi;
-pub mod map;
+pub mod fields;
+mod looks;
+mod new_file;
 pub mod objects;
+mod progress;
 pub mod refusal;
 pub mod script;
+pub mod signals;
+pub mod standard;
 pub mod table;
+mod typed;
+mod usage;

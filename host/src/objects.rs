@@ -2,9 +2,9 @@
 
 use std::ops::Range;
 
-use crate::ffi::{self, Answer, ChunkAnswer, KindAnswer, SizeAnswer, TallyAnswer};
+use crate::ffi::{self, Answer, ChunkAnswer, Geometry, SizeAnswer, TallyAnswer};
 use crate::refusal::SHORT_BUFFER;
-use crate::table::Table;
+use crate::table::{Piece, Table};
 
 /// Words that are mostly enough for a listing and for a table, so that one call
 /// is.
@@ -14,42 +14,46 @@ const SOME_ROWS: usize = 1024;
 /// A dump with the index of all its pages.
 pub struct Objects<'d> {
     dump: &'d [u8],
-    layout: u32,
-    k: u32,
+    on: Geometry,
     cells: Vec<u32>,
 }
 
 impl<'d> Objects<'d> {
     /// Makes the index, or gives the number of the refusal.
-    pub fn of(dump: &'d [u8], layout: u32, k: u32) -> Result<Objects<'d>, u32> {
-        let pages = ffi::pages(dump, layout, k).given()?.pages;
+    pub fn of(dump: &'d [u8], on: Geometry) -> Result<Objects<'d>, u32> {
+        Objects::telling(dump, on, |_| ())
+    }
+
+    /// The same; tells of each run of pages that is added how many they are.
+    pub fn telling(
+        dump: &'d [u8],
+        on: Geometry,
+        mut tell: impl FnMut(u32),
+    ) -> Result<Objects<'d>, u32> {
+        let pages = ffi::pages(dump, on).given()?.pages;
         let mut cells = vec![0; ffi::cells(pages)];
-        done(ffi::start(dump, layout, k, &mut cells))?;
-        for block in by_sequence(dump, layout, k, pages) {
-            ffi::add_run(dump, layout, k, &mut cells, block.start, block.end).given()?;
+        done(ffi::start(dump, on, &mut cells))?;
+        for (_, run) in by_sequence(dump, on) {
+            ffi::add_run(dump, on, &mut cells, run.start, run.end).given()?;
+            tell(run.end - run.start);
         }
-        Ok(Objects {
-            dump,
-            layout,
-            k,
-            cells,
-        })
+        Ok(Objects { dump, on, cells })
     }
 
     pub fn size(&self, object: u32) -> SizeAnswer {
-        ffi::size(self.dump, self.layout, self.k, &self.cells, object)
+        ffi::size(self.dump, self.on, &self.cells, object)
     }
 
     pub fn chunk(&self, object: u32, n: u32) -> ChunkAnswer {
-        ffi::chunk(self.dump, self.layout, self.k, &self.cells, object, n)
+        ffi::chunk(self.dump, self.on, &self.cells, object, n)
     }
 
     /// The table of a live file, or the number of the refusal.
     pub fn table(&self, object: u32) -> Result<Table, u32> {
-        let (dump, layout, k, cells) = (self.dump, self.layout, self.k, &self.cells);
+        let (dump, on, cells) = (self.dump, self.on, &self.cells);
         let (answer, words) = filled(
             SOME_ROWS,
-            |words| ffi::table(dump, layout, k, cells, object, words),
+            |words| ffi::table(dump, on, cells, object, words),
             |answer| answer.need,
         )?;
         Table::of(answer, words)
@@ -59,17 +63,17 @@ impl<'d> Objects<'d> {
     pub fn hand_on<E>(
         &self,
         table: &Table,
-        take: impl FnMut(&'d [u8]) -> Result<(), E>,
+        take: impl FnMut(Piece<'d>) -> Result<(), E>,
     ) -> Result<(), E> {
-        table.hand_on(self.dump, self.layout, take)
+        table.hand_on(self.dump, self.on, take)
     }
 
     /// The ids of the live objects, ascending, or the number of the refusal.
     pub fn list(&self) -> Result<Vec<u32>, u32> {
-        let (dump, layout, k, cells) = (self.dump, self.layout, self.k, &self.cells);
+        let (dump, on, cells) = (self.dump, self.on, &self.cells);
         let (answer, mut ids) = filled(
             SOME_IDS,
-            |words| ffi::list(dump, layout, k, cells, words),
+            |words| ffi::list(dump, on, cells, words),
             |answer| answer.need,
         )?;
         ids.truncate(answer.count as usize);
@@ -78,7 +82,7 @@ impl<'d> Objects<'d> {
 
     /// How many objects there are, live or not.
     pub fn count(&self) -> TallyAnswer {
-        ffi::objects(self.dump, self.layout, self.k, &self.cells)
+        ffi::objects(self.dump, self.on, &self.cells)
     }
 }
 
@@ -106,16 +110,24 @@ fn done(refusal: u32) -> Result<(), u32> {
     }
 }
 
-/// The pages of each block, the blocks in the order of the sequences of their
-/// first records. Any order is right; in this one an addition hardly walks.
-fn by_sequence(dump: &[u8], layout: u32, k: u32, pages: u32) -> impl Iterator<Item = Range<u32>> {
-    let block = move |number: u32| number * k..(number + 1) * k;
-    let kinds = |number| block(number).map(|page| ffi::kind(dump, layout, k, page));
-    let record = |kind: &KindAnswer| matches!(kind.kind, KindAnswer::HEADER | KindAnswer::DATA);
-    let sequence = |number| kinds(number).find(record).map(|kind| kind.sequence);
-    let mut blocks: Vec<_> = (0..pages / k).map(|n| (sequence(n), n)).collect();
-    blocks.sort_unstable();
-    blocks.into_iter().map(move |(_, number)| block(number))
+/// Runs of pages whose tags begin with one word, which is a record's sequence, in
+/// the order of these words and of pages. Any order is right, so that no rule is
+/// decided here; in this one each record is newer than all that were added
+/// before, and no addition walks, whatever the dump and K.
+fn by_sequence(dump: &[u8], on: Geometry) -> Vec<(u32, Range<u32>)> {
+    let layout = ffi::layout(on.layout);
+    let page_len = (layout.data + layout.spare) as usize;
+    let tags = (layout.data + layout.tag) as usize;
+    let mut runs: Vec<(u32, Range<u32>)> = Vec::new();
+    for (number, page) in (0..).zip(dump.chunks_exact(page_len)) {
+        let word = u32::from_le_bytes([0, 1, 2, 3].map(|byte| page[tags + byte]));
+        match runs.last_mut() {
+            Some((same, run)) if *same == word => run.end = number + 1,
+            _ => runs.push((word, number..number + 1)),
+        }
+    }
+    runs.sort_unstable_by_key(|(word, run)| (*word, run.start));
+    runs
 }
 
 #[cfg(test)]
@@ -123,12 +135,17 @@ mod tests {
     use super::*;
     use crate::refusal::INDEX_DAMAGED;
 
+    const W: Geometry = Geometry {
+        layout: 6,
+        block: 4,
+    };
+
     /// The link below the newest header of W's file leads outside: the size is
     /// known, and the table is refused.
     #[test]
     fn a_table_of_damaged_cells_is_refused() {
         let dump = include_bytes!("../tests/data/W");
-        let mut objects = Objects::of(dump, 6, 4).unwrap();
+        let mut objects = Objects::of(dump, W).unwrap();
         let chunks = |objects: &Objects| objects.table(257).map(|table| table.rows().count());
         assert_eq!(chunks(&objects), Ok(3));
         let link_of_page_4 = ffi::cells(4);
@@ -136,6 +153,21 @@ mod tests {
         assert_eq!(objects.size(257).size, 1034);
         assert_eq!(chunks(&objects), Err(INDEX_DAMAGED));
     }
+
+    /// W with its second block first, in one block of 8 pages: the older records
+    /// are added first all the same.
+    #[test]
+    fn older_records_are_added_first() {
+        let w = include_bytes!("../tests/data/W");
+        let (first, second) = w.split_at(w.len() / 2);
+        let turned = [second, first].concat();
+        let on = Geometry { block: 8, ..W };
+        let runs = by_sequence(&turned, on);
+        assert_eq!(runs, [(4097, 4..8), (4098, 0..3), (u32::MAX, 3..4)]);
+        let objects = Objects::of(&turned, on).unwrap();
+        assert_eq!(objects.size(257).size, 1034);
+    }
+
     /// A run of no pages is refused as one of some would be, and is done where
     /// the words are enough.
     #[test]
@@ -143,7 +175,7 @@ mod tests {
         let dump = include_bytes!("../tests/data/W");
         let mut cells = vec![0; ffi::cells(8)];
         let short = cells.len() - 1;
-        let run = |cells: &mut [u32], from, to| ffi::add_run(dump, 6, 4, cells, from, to).refusal;
+        let run = |cells: &mut [u32], from, to| ffi::add_run(dump, W, cells, from, to).refusal;
         for to in [2, 3, 4] {
             assert_eq!(run(&mut cells[..short], 3, to), 12, "ShortIndex");
         }

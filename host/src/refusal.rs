@@ -1,7 +1,8 @@
 //! The names of the refusals, and what each means for whoever asked.
 
-use crate::arguments::Typed;
-use crate::ffi::{self, Answer as _, KindAnswer, LayoutAnswer};
+use crate::ffi::{self, Answer as _, Geometry, KindAnswer, LayoutAnswer};
+use crate::looks;
+use crate::typed::Typed;
 
 /// The table's names, from refusal 1 on.
 const NAMES: [&str; 16] = [
@@ -48,21 +49,36 @@ pub struct Asked<'a> {
 }
 
 impl<'a> Asked<'a> {
+    /// What is asked of a dump before a layout is taken.
+    pub fn dump(dump: &'a [u8], named: Option<&'a Typed>, block: &'a Typed) -> Self {
+        Asked {
+            dump,
+            named,
+            layout: None,
+            block,
+            page: Typed::NOTHING,
+            object: Typed::NOTHING,
+            chunk: Typed::NOTHING,
+        }
+    }
+
     /// The same asked of an object.
     pub fn of(self, object: &'a Typed) -> Self {
         Asked { object, ..self }
     }
 
-    /// The number of the layout that was taken.
-    fn layout(self) -> u32 {
-        self.layout.map_or(u32::MAX, |layout| layout.number)
+    /// The layout that was taken, and K.
+    fn geometry(self) -> Geometry {
+        Geometry {
+            layout: self.layout.map_or(u32::MAX, |layout| layout.number),
+            block: self.block.number,
+        }
     }
 }
 
 /// One sentence on why a request was refused.
 pub fn meaning(refusal: u32, asked: Asked<'_>) -> String {
     let Asked {
-        block,
         page,
         object,
         chunk,
@@ -71,9 +87,7 @@ pub fn meaning(refusal: u32, asked: Asked<'_>) -> String {
     match name(refusal) {
         "BadLayout" => bad_layout(asked),
         "BadLength" => bad_length(asked),
-        "NoLayout" => {
-            format!("no layout fits the dump in blocks of {block} pages; try another --block")
-        }
+        "NoLayout" => no_layout(asked),
         "BadObject" => format!("no object has the id {object}: they go from 1 to 0x0FFFFFFF"),
         "BadChunk" => format!("no chunk has the number {chunk}: they go from 1 to 0xFFFFF"),
         "NoObject" => format!("no page of the dump is a record of object {object}"),
@@ -87,17 +101,51 @@ pub fn meaning(refusal: u32, asked: Asked<'_>) -> String {
     }
 }
 
+/// The layouts of the table.
+fn table() -> impl Iterator<Item = LayoutAnswer> {
+    (0..).map_while(|number| ffi::layout(number).given().ok())
+}
+
+/// Layouts, one behind the other.
+fn listed(layouts: impl Iterator<Item = LayoutAnswer>) -> String {
+    let layouts: Vec<_> = layouts.map(|layout| layout.to_string()).collect();
+    layouts.join(", ")
+}
+
 fn bad_layout(asked: Asked<'_>) -> String {
-    let listed = |number| ffi::layout(number).given().ok();
     match asked.named {
-        Some(named) if listed(named.number).is_none() => {
-            let table: Vec<_> = (0..).map_while(listed).map(|l| l.to_string()).collect();
-            format!(
-                "the table has no layout {named}; it has {}",
-                table.join(", ")
-            )
+        Some(named) if ffi::layout(named.number).given().is_err() => {
+            let table = listed(table());
+            format!("the table has no layout {named}; it has {table}")
         }
         _ => format!("no block has {} pages: they go from 1 to 256", asked.block),
+    }
+}
+
+/// Either the length is wrong, for every K or for this one, or the tags are.
+fn no_layout(asked: Asked<'_>) -> String {
+    let Asked { dump, block, .. } = asked;
+    let dividing = |block| {
+        let divides = move |layout: &LayoutAnswer| {
+            let layout = layout.number;
+            ffi::pages(dump, Geometry { layout, block }).given().is_ok()
+        };
+        listed(table().filter(divides))
+    };
+    let length = dump.len();
+    let with_k = dividing(block.number);
+    let reason = if dividing(1).is_empty() {
+        format!("{length} bytes are no whole pages of any layout, so that no K divides them")
+    } else if with_k.is_empty() {
+        format!("{length} bytes are no whole blocks of {block} pages of any layout; try another --block")
+    } else {
+        format!(
+            "no tags make sense under the layouts that divide the dump with K = {block}: {with_k}"
+        )
+    };
+    match looks::like(dump) {
+        Some(name) => format!("{reason}; the dump looks like {name}"),
+        None => reason,
     }
 }
 
@@ -118,13 +166,12 @@ fn bad_length(asked: Asked<'_>) -> String {
 
 fn past_end(asked: Asked<'_>) -> String {
     let Asked { object, chunk, .. } = asked;
-    let k = asked.block.number;
-    let size = ffi::dump_size(asked.dump, asked.layout(), k, object.number).size;
+    let size = ffi::dump_size(asked.dump, asked.geometry(), object.number).size;
     format!("object {object} ends at byte {size}, before chunk {chunk}")
 }
 
 fn bad_page(asked: Asked<'_>) -> String {
-    let pages = ffi::pages(asked.dump, asked.layout(), asked.block.number).pages;
+    let pages = ffi::pages(asked.dump, asked.geometry()).pages;
     format!(
         "the dump has {pages} pages, from 0 on, and no page {}",
         asked.page
@@ -132,8 +179,7 @@ fn bad_page(asked: Asked<'_>) -> String {
 }
 
 fn kind_of(asked: Asked<'_>) -> &'static str {
-    let (k, page) = (asked.block.number, asked.page.number);
-    kind_name(ffi::kind(asked.dump, asked.layout(), k, page).kind)
+    kind_name(ffi::kind(asked.dump, asked.geometry(), asked.page.number).kind)
 }
 
 /// The name of a page kind.

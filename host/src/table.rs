@@ -1,7 +1,7 @@
 //! The table of a file: its size, and for each chunk where its copy is and how
 //! many bytes of it are valid, as the library writes them.
 
-use crate::ffi::{self, TableAnswer};
+use crate::ffi::{self, Geometry, TableAnswer};
 use crate::refusal::INDEX_DAMAGED;
 
 /// How many words a row has.
@@ -12,8 +12,38 @@ const WORDS: usize = 2;
 const DAMAGED: u32 = 1;
 const FIRST_PAGE: u32 = 2;
 
-/// What a file has where no copy is, a piece at a time.
+/// What a file has where no copy is, as much as is handled at once.
 static ZEROS: [u8; 1 << 16] = [0; 1 << 16];
+
+/// A piece of a file: bytes of the dump, or so many zeros.
+#[derive(Clone, Copy, Debug)]
+pub enum Piece<'d> {
+    Bytes(&'d [u8]),
+    Zeros(u64),
+}
+
+impl<'d> Piece<'d> {
+    pub fn length(self) -> u64 {
+        match self {
+            Piece::Bytes(bytes) => bytes.len() as u64,
+            Piece::Zeros(count) => count,
+        }
+    }
+
+    /// The bytes of the piece, those of zeros a part at a time.
+    pub fn parts(self) -> impl Iterator<Item = &'d [u8]> {
+        let (bytes, mut zeros) = match self {
+            Piece::Bytes(bytes) => (Some(bytes), 0),
+            Piece::Zeros(count) => (None, count),
+        };
+        let zeros = std::iter::from_fn(move || {
+            let some = zeros.min(ZEROS.len() as u64);
+            zeros -= some;
+            (some > 0).then_some(&ZEROS[..some as usize])
+        });
+        bytes.into_iter().chain(zeros)
+    }
+}
 
 pub struct Table {
     pub size: u64,
@@ -66,38 +96,34 @@ impl Table {
     pub fn hand_on<'d, E>(
         &self,
         dump: &'d [u8],
-        layout: u32,
-        mut take: impl FnMut(&'d [u8]) -> Result<(), E>,
+        on: Geometry,
+        mut take: impl FnMut(Piece<'d>) -> Result<(), E>,
     ) -> Result<(), E> {
-        let data = u64::from(ffi::layout(layout).data);
+        let data = u64::from(ffi::layout(on.layout).data);
         let mut done = 0;
         for row in self.rows().filter(|row| row.page().is_some()) {
             let at = u64::from(row.n - 1) * data;
-            zeros(at - done, &mut take)?;
-            let bytes = ffi::row(dump, layout, row.place, row.valid).of(dump);
+            if at > done {
+                take(Piece::Zeros(at - done))?;
+            }
+            let bytes = ffi::row(dump, on, row.place, row.valid).of(dump);
             if !bytes.is_empty() {
-                take(bytes)?;
+                take(Piece::Bytes(bytes))?;
             }
             done = at + bytes.len() as u64;
         }
-        zeros(self.size - done, &mut take)
+        match self.size - done {
+            0 => Ok(()),
+            left => take(Piece::Zeros(left)),
+        }
     }
-}
-
-/// Hands on so many zeros.
-fn zeros<'z, E>(mut count: u64, take: &mut impl FnMut(&'z [u8]) -> Result<(), E>) -> Result<(), E> {
-    while count > 0 {
-        let some = count.min(ZEROS.len() as u64);
-        take(&ZEROS[..some as usize])?;
-        count -= some;
-    }
-    Ok(())
 }
 
 #[cfg(test)]
 mod tests {
     use std::convert::Infallible;
 
+    use crate::ffi::Geometry;
     use crate::objects::Objects;
 
     /// A header alone that says 4 GiB: there are no more rows than numbers for
@@ -106,12 +132,18 @@ mod tests {
     fn a_file_longer_than_chunks_have_numbers() {
         let mut page = include_bytes!("../tests/data/W")[..528].to_vec();
         page[0x124..0x128].fill(0xFF);
-        let objects = Objects::of(&page, 6, 1).unwrap();
+        let on = Geometry {
+            layout: 6,
+            block: 1,
+        };
+        let objects = Objects::of(&page, on).unwrap();
         let table = objects.table(257).unwrap();
         assert_eq!(table.rows().count(), 0xF_FFFF);
         let mut length = 0;
         let counted = objects.hand_on(&table, |piece| {
-            length += piece.len() as u64;
+            length += piece.length();
+            let parts = piece.parts().map(|part| part.len() as u64);
+            assert_eq!(parts.sum::<u64>(), piece.length());
             Ok::<_, Infallible>(())
         });
         assert_eq!((counted, length), (Ok(()), u64::from(u32::MAX)));

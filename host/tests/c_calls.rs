@@ -31,6 +31,7 @@ fn compiled() -> PathBuf {
 /// The lines that the C program prints of fields and sizes, as Rust has them.
 fn places() -> String {
     let fields = [
+        ("geometry.block", offset_of!(Geometry, block)),
         ("layout_answer.tag", offset_of!(LayoutAnswer, tag)),
         ("kind_answer.count", offset_of!(KindAnswer, count)),
         ("header_answer.rdev", offset_of!(HeaderAnswer, rdev)),
@@ -73,6 +74,7 @@ fn places() -> String {
 fn c_calls_the_library() {
     let answers = "\
 layout 0: 6 512/16/0
+score 7 0
 counts 0: 1 0 0 3 4
 header 0: 612 0
 name 0: 1594+256

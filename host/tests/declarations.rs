@@ -60,7 +60,10 @@ fn rust_field(field: &str) -> Vec<String> {
         "*mut u8" => vec![format!("mut bytes {name}")],
         "*const u32" => vec![format!("words {name}")],
         "*mut u32" => vec![format!("mut words {name}")],
-        kind => vec![format!("{kind} {name}")],
+        kind => match kind.starts_with(|c: char| c.is_ascii_uppercase()) {
+            true => vec![format!("{} {name}", c_name(kind))],
+            false => vec![format!("{kind} {name}")],
+        },
     }
 }
 
@@ -128,6 +131,7 @@ fn c_field(field: &str) -> String {
         ("uint8_t", true) => "mut bytes",
         ("const uint32_t", true) => "words",
         ("uint32_t", true) => "mut words",
+        (kind, false) if kind.starts_with("lohenarr_") => kind,
         _ => panic!("unknown type of {field}"),
     };
     format!("{kind} {}", name.trim_start_matches('*'))

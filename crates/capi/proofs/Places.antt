@@ -11,7 +11,7 @@ use Rattle.page.specs.Layouts.{pageLen}
 use Rattle.page.specs.Lengths.{pageIn}
 use Rattle.page.specs.Headers.{textPlace, textLength}
 use Rattle.page.specs.Asked.{headedOf, textAt}
-use Rattle.page.specs.declared.layout.Layout.{Layout}
+use Rattle.page.specs.declared.geometry.Geometry.{Geometry}
 use Rattle.page.specs.declared.fields.Text.{Text}
 use Rattle.page.specs.declared.header.Headed.{Headed}
 use Rattle.page.specs.declared.header.Headed.the-variants as headed
@@ -26,30 +26,30 @@ use Rattle.chunk.proofs.Cases.{valid-there, valid-none, part-copy, part-hole, p
 use Rattle.capi.specs.Headers.{partAnswer, textAnswer}
 use Rattle.capi.specs.Lookups.{placeOf, placeAnswer}
 
-module _ (f : Text) (l : Layout) (k : ℕ) (dump : List ℕ) (i : ℕ) where
+module _ (f : Text) (g : Geometry) (dump : List ℕ) (i : ℕ) where
   part-here :
       (h : Headed) →
-      headedOf l k dump i ≡ h →
-      let r = partAnswer h (i * pageLen l + textPlace f) (textLength f) in take (r .length) (drop (r .offset) dump) ≡ textAt f l k dump i
-  part-here (headed.Refused r) e = sym (refused-text f l k dump i r e)
-  part-here (headed.Fields g) e = sym (headed-text f l k dump i g e)
+      headedOf g dump i ≡ h →
+      let r = partAnswer h (i * pageLen (g .layout) + textPlace f) (textLength f) in take (r .length) (drop (r .offset) dump) ≡ textAt f g dump i
+  part-here (headed.Refused r) e = sym (refused-text f g dump i r e)
+  part-here (headed.Fields v) e = sym (headed-text f g dump i v e)
 
-  pub text-here : take (textAnswer f l k dump i .length) (drop (textAnswer f l k dump i .offset) dump) ≡ textAt f l k dump i
+  pub text-here : take (textAnswer f g dump i .length) (drop (textAnswer f g dump i .offset) dump) ≡ textAt f g dump i
   unfolding textAnswer
-  text-here = part-here (headedOf l k dump i) refl
+  text-here = part-here (headedOf g dump i) refl
 
-module _ (l : Layout) (dump : List ℕ) where
-  pub valid-here : (p valid : ℕ) → let r = placeOf l (length dump) p valid in take (r .length) (drop (r .offset) dump) ≡ validPart l dump p valid
+module _ (g : Geometry) (dump : List ℕ) where
+  pub valid-here : (p valid : ℕ) → let r = placeOf g (length dump) p valid in take (r .length) (drop (r .offset) dump) ≡ validPart g dump p valid
   valid-here p valid =
-      by-test (pageIn l (length dump) p && leb valid (l .«data»)) _
+      by-test (pageIn g (length dump) p && leb valid (g .layout .«data»)) _
       (λ t.
-      let h : valid ≤ l .«data» = leb-true _ _ (and-right (pageIn l (length dump) p) _ t) in
-      rw (t, valid-there l dump p valid t) (sym (page-front l dump p valid (omega arith))))
-      (λ t. rw (t, valid-none l dump p valid t))
+      let h : valid ≤ g .layout .«data» = leb-true _ _ (and-right (pageIn g (length dump) p) _ t) in
+      rw (t, valid-there g dump p valid t) (sym (page-front g dump p valid (omega arith))))
+      (λ t. rw (t, valid-none g dump p valid t))
 
   -- the valid bytes of a chunk
-  pub chunk-here : (a : Looked) → take (placeAnswer l (length dump) a .length) (drop (placeAnswer l (length dump) a .offset) dump) ≡ partBy l dump a
+  pub chunk-here : (a : Looked) → take (placeAnswer g (length dump) a .length) (drop (placeAnswer g (length dump) a .offset) dump) ≡ partBy g dump a
   unfolding placeAnswer
-  chunk-here (looked.Refused r v n) = sym (part-refused l dump r v n)
-  chunk-here (looked.Hole s v) = sym (part-hole l dump s v)
-  chunk-here (looked.Copy p a s v) = valid-here (p .0) a ∙ sym (part-copy l dump p a s v)
+  chunk-here (looked.Refused r v n) = sym (part-refused g dump r v n)
+  chunk-here (looked.Hole s v) = sym (part-hole g dump s v)
+  chunk-here (looked.Copy p a s v) = valid-here (p .0) a ∙ sym (part-copy g dump p a s v)

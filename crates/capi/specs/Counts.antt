@@ -1,5 +1,4 @@
 -- The five counts, as the exports give them.
-use Prim.Native.Nat.{ℕ}
 use Rattle.page.specs.Refusals.{refusalNumber}
 use Rattle.page.specs.declared.count.Counted.{Counted}
 use Rattle.page.specs.declared.count.Counted.the-variants as counted

@@ -5,7 +5,7 @@ use Rattle.page.specs.Refusals.{refusalNumber}
 use Rattle.page.specs.Layouts.{pageLen}
 use Rattle.page.specs.Headers.{textPlace, textLength}
 use Rattle.page.specs.Asked.{headedOf}
-use Rattle.page.specs.declared.layout.Layout.{Layout}
+use Rattle.page.specs.declared.geometry.Geometry.{Geometry}
 use Rattle.page.specs.declared.fields.Fields.{Fields}
 use Rattle.page.specs.declared.fields.Text.{Text}
 use Rattle.page.specs.declared.header.Headed.{Headed}
@@ -73,5 +73,5 @@ partAnswer (headed.Refused r) offset length = record { refusal = refusalNumber r
 partAnswer (headed.Fields f) offset length = record { refusal = 0; offset = offset; length = length }
 
 -- where the field f of page i that is bytes stands in the dump
-unfoldable pub textAnswer : Text → Layout → ℕ → List ℕ → ℕ → PartAnswer
-textAnswer f l k dump i = partAnswer (headedOf l k dump i) (i * pageLen l + textPlace f) (textLength f)
+unfoldable pub textAnswer : Text → Geometry → List ℕ → ℕ → PartAnswer
+textAnswer f g dump i = partAnswer (headedOf g dump i) (i * pageLen (g .layout) + textPlace f) (textLength f)

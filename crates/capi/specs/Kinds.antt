@@ -28,29 +28,29 @@ abbrev pub kindFields : Kind → KindAnswer
 kindFields Blank = bareKind 0 1
 kindFields Foreign = bareKind 0 2
 kindFields Damaged = bareKind 0 3
-kindFields (Header s o t p z m) = record {
+kindFields (Header h) = record {
   refusal = 0;
   kind = 4;
-  sequence = s;
-  object = o .0;
-  «page_type» = t;
-  parent = p .0;
-  size = z;
-  shrink = cond m 1 0;
+  sequence = h .sequence;
+  object = h .object .0;
+  «page_type» = h .«page_type»;
+  parent = h .parent .0;
+  size = h .size;
+  shrink = cond (h .shrink) 1 0;
   chunk = 0;
   count = 0;
 }
-kindFields (Data s o c n) = record {
+kindFields (Data d) = record {
   refusal = 0;
   kind = 5;
-  sequence = s;
-  object = o .0;
+  sequence = d .sequence;
+  object = d .object .0;
   «page_type» = 0;
   parent = 0;
   size = 0;
   shrink = 0;
-  chunk = c .0;
-  count = n;
+  chunk = d .chunk .0;
+  count = d .count;
 }
 
 abbrev pub kindAnswer : Told → KindAnswer

@@ -6,7 +6,7 @@ use Rattle.page.specs.Choice.{pick}
 use Rattle.page.specs.Refusals.{refusalNumber}
 use Rattle.page.specs.Layouts.{pageLen}
 use Rattle.page.specs.Lengths.{pageIn}
-use Rattle.page.specs.declared.layout.Layout.{Layout}
+use Rattle.page.specs.declared.geometry.Geometry.{Geometry}
 use Rattle.chunk.specs.declared.answer.Sized.{Sized}
 use Rattle.chunk.specs.declared.answer.Sized.the-variants as sized
 use Rattle.chunk.specs.declared.answer.Looked.{Looked}
@@ -68,18 +68,18 @@ abbrev pub noPlace : PlaceAnswer
 noPlace = record { offset = 0; length = 0 }
 
 -- where the first bytes of page p stand in a dump of n bytes; nowhere where the page is not in the dump or has not so many
-abbrev pub placeOf : Layout → ℕ → ℕ → ℕ → PlaceAnswer
-placeOf l n p valid = pick (pageIn l n p && leb valid (l .«data»)) (record { offset = p * pageLen l; length = valid }) noPlace
+abbrev pub placeOf : Geometry → ℕ → ℕ → ℕ → PlaceAnswer
+placeOf g n p valid = pick (pageIn g n p && leb valid (g .layout .«data»)) (record { offset = p * pageLen (g .layout); length = valid }) noPlace
 
 -- where the valid bytes of a chunk stand; nowhere for a hole or a refusal
-unfoldable pub placeAnswer : Layout → ℕ → Looked → PlaceAnswer
-placeAnswer l n (looked.Refused r v m) = noPlace
-placeAnswer l n (looked.Hole s v) = noPlace
-placeAnswer l n (looked.Copy p a s v) = placeOf l n (p .0) a
+unfoldable pub placeAnswer : Geometry → ℕ → Looked → PlaceAnswer
+placeAnswer g n (looked.Refused r v m) = noPlace
+placeAnswer g n (looked.Hole s v) = noPlace
+placeAnswer g n (looked.Copy p a s v) = placeOf g n (p .0) a
 
 -- where the part that a row of a table names stands
-abbrev pub rowPlace : Layout → ℕ → ℕ → ℕ → PlaceAnswer
-rowPlace l n place valid = pick (ltb place 2) noPlace (placeOf l n (place - 2) valid)
+abbrev pub rowPlace : Geometry → ℕ → ℕ → ℕ → PlaceAnswer
+rowPlace g n place valid = pick (ltb place 2) noPlace (placeOf g n (place - 2) valid)
 
 abbrev pub listAnswer : Listed → ListAnswer
 listAnswer (listed.Refused r n) = record { refusal = refusalNumber r; need = n; count = 0 }

@@ -2,7 +2,7 @@
 // added.
 ghost use mathlib.Core.Path.{_≡_};
 ghost use lib.ListN.{length, take, drop};
-ghost use Rattle.page.specs.Layouts.{layoutAt};
+ghost use Rattle.capi.specs.Layouts.{geometryAt};
 ghost use Rattle.chunk.specs.Answers.{sizeOn, chunkOn, readBy, bufferBy, partBy};
 ghost use Rattle.chunk.specs.Lists.{listOn, liveOn, wordsBy, liveCountOn, objectCountOn};
 ghost use Rattle.capi.specs.Lookups.{sizeAnswer, chunkAnswer, placeAnswer, listAnswer, tallyAnswer};
@@ -16,7 +16,8 @@ use crate::answer::list_answer;
 use crate::answer::place_answer;
 use crate::answer::size_answer;
 use crate::answer::tally_answer;
-use crate::layout::layout_at;
+use crate::layout::Geometry;
+use crate::layout::geometry_at;
 use chunk::list::list;
 use chunk::list::live_count;
 use chunk::list::object_count;
@@ -28,24 +29,28 @@ use page::number::ObjectId;
 
 // The size of an object.
 #[no_mangle]
-pub extern "C" fn lohenarr_dump_size(dump: &[u8], layout: u32, k: u32, object: u32) -> SizeAnswer
-    ensures { λ r. ⌜ r ≡ sizeAnswer (sizeOn (layoutAt layout) k (now (dump .entry)) object) ⌝ }
+pub extern "C" fn lohenarr_dump_size(dump: &[u8], geometry: Geometry, object: u32) -> SizeAnswer
+    ensures { λ r. ⌜ r ≡ sizeAnswer (sizeOn (geometryAt geometry) (now (dump .entry)) object) ⌝ }
 {
-    size_answer(size(dump, layout_at(layout), k, ObjectId(object)))
+    size_answer(size(dump, geometry_at(geometry), ObjectId(object)))
 }
 
 // A chunk of an object.
 #[no_mangle]
 pub extern "C" fn lohenarr_dump_chunk(
     dump: &[u8],
-    layout: u32,
-    k: u32,
+    geometry: Geometry,
     object: u32,
     n: u32,
 ) -> ChunkAnswer
-    ensures { λ r. ⌜ r ≡ chunkAnswer (chunkOn (layoutAt layout) k (now (dump .entry)) object n) ⌝ }
+    ensures { λ r. ⌜ r ≡ chunkAnswer (chunkOn (geometryAt geometry) (now (dump .entry)) object n) ⌝ }
 {
-    chunk_answer(chunk(dump, layout_at(layout), k, ObjectId(object), ChunkNumber(n)))
+    chunk_answer(chunk(
+        dump,
+        geometry_at(geometry),
+        ObjectId(object),
+        ChunkNumber(n),
+    ))
 }
 
 // A chunk of an object, read into a buffer: the valid bytes, then zeros up to the shown length. Bytes past that stay, and a refusal writes
@@ -53,19 +58,17 @@ pub extern "C" fn lohenarr_dump_chunk(
 #[no_mangle]
 pub extern "C" fn lohenarr_dump_read(
     dump: &[u8],
-    layout: u32,
-    k: u32,
+    geometry: Geometry,
     object: u32,
     n: u32,
     buffer: &mut [u8],
 ) -> ChunkAnswer
-    ensures { λ r. ⌜ r ≡ chunkAnswer (readBy (length (now (buffer .entry))) (chunkOn (layoutAt layout) k (now (dump .entry)) object n)) ⌝ }
-    ensures { λ _. ⌜ now (buffer .exit) ≡ bufferBy (layoutAt layout) (now (dump .entry)) (now (buffer .entry)) (readBy (length (now (buffer .entry))) (chunkOn (layoutAt layout) k (now (dump .entry)) object n)) ⌝ }
+    ensures { λ r. ⌜ r ≡ chunkAnswer (readBy (length (now (buffer .entry))) (chunkOn (geometryAt geometry) (now (dump .entry)) object n)) ⌝ }
+    ensures { λ _. ⌜ now (buffer .exit) ≡ bufferBy (geometryAt geometry) (now (dump .entry)) (now (buffer .entry)) (readBy (length (now (buffer .entry))) (chunkOn (geometryAt geometry) (now (dump .entry)) object n)) ⌝ }
 {
     chunk_answer(read(
         dump,
-        layout_at(layout),
-        k,
+        geometry_at(geometry),
         ObjectId(object),
         ChunkNumber(n),
         buffer,
@@ -76,19 +79,18 @@ pub extern "C" fn lohenarr_dump_read(
 #[no_mangle]
 pub extern "C" fn lohenarr_dump_part(
     dump: &[u8],
-    layout: u32,
-    k: u32,
+    geometry: Geometry,
     object: u32,
     n: u32,
 ) -> PlaceAnswer
-    ensures { λ r. ⌜ r ≡ placeAnswer (layoutAt layout) (length (now (dump .entry))) (chunkOn (layoutAt layout) k (now (dump .entry)) object n) ⌝ }
-    ensures { λ r. ⌜ take (r .length) (drop (r .offset) (now (dump .entry))) ≡ partBy (layoutAt layout) (now (dump .entry)) (chunkOn (layoutAt layout) k (now (dump .entry)) object n) ⌝ }
+    ensures { λ r. ⌜ r ≡ placeAnswer (geometryAt geometry) (length (now (dump .entry))) (chunkOn (geometryAt geometry) (now (dump .entry)) object n) ⌝ }
+    ensures { λ r. ⌜ take (r .length) (drop (r .offset) (now (dump .entry))) ≡ partBy (geometryAt geometry) (now (dump .entry)) (chunkOn (geometryAt geometry) (now (dump .entry)) object n) ⌝ }
 {
-    let l = layout_at(layout);
+    let g = geometry_at(geometry);
     place_answer(
-        l,
+        g,
         dump.len(),
-        chunk(dump, l, k, ObjectId(object), ChunkNumber(n)),
+        chunk(dump, g, ObjectId(object), ChunkNumber(n)),
     )
 }
 
@@ -96,28 +98,27 @@ pub extern "C" fn lohenarr_dump_part(
 #[no_mangle]
 pub extern "C" fn lohenarr_dump_list(
     dump: &[u8],
-    layout: u32,
-    k: u32,
+    geometry: Geometry,
     words: &mut [u32],
 ) -> ListAnswer
-    ensures { λ r. ⌜ r ≡ listAnswer (listOn (layoutAt layout) k (now (dump .entry)) (length (now (words .entry)))) ⌝ }
-    ensures { λ _. ⌜ now (words .exit) ≡ wordsBy (liveOn (layoutAt layout) k (now (dump .entry))) (now (words .entry)) (listOn (layoutAt layout) k (now (dump .entry)) (length (now (words .entry)))) ⌝ }
+    ensures { λ r. ⌜ r ≡ listAnswer (listOn (geometryAt geometry) (now (dump .entry)) (length (now (words .entry)))) ⌝ }
+    ensures { λ _. ⌜ now (words .exit) ≡ wordsBy (liveOn (geometryAt geometry) (now (dump .entry))) (now (words .entry)) (listOn (geometryAt geometry) (now (dump .entry)) (length (now (words .entry)))) ⌝ }
 {
-    list_answer(list(dump, layout_at(layout), k, words))
+    list_answer(list(dump, geometry_at(geometry), words))
 }
 
 // How many objects are live.
 #[no_mangle]
-pub extern "C" fn lohenarr_dump_live(dump: &[u8], layout: u32, k: u32) -> TallyAnswer
-    ensures { λ r. ⌜ r ≡ tallyAnswer (liveCountOn (layoutAt layout) k (now (dump .entry))) ⌝ }
+pub extern "C" fn lohenarr_dump_live(dump: &[u8], geometry: Geometry) -> TallyAnswer
+    ensures { λ r. ⌜ r ≡ tallyAnswer (liveCountOn (geometryAt geometry) (now (dump .entry))) ⌝ }
 {
-    tally_answer(live_count(dump, layout_at(layout), k))
+    tally_answer(live_count(dump, geometry_at(geometry)))
 }
 
 // How many objects have records.
 #[no_mangle]
-pub extern "C" fn lohenarr_dump_objects(dump: &[u8], layout: u32, k: u32) -> TallyAnswer
-    ensures { λ r. ⌜ r ≡ tallyAnswer (objectCountOn (layoutAt layout) k (now (dump .entry))) ⌝ }
+pub extern "C" fn lohenarr_dump_objects(dump: &[u8], geometry: Geometry) -> TallyAnswer
+    ensures { λ r. ⌜ r ≡ tallyAnswer (objectCountOn (geometryAt geometry) (now (dump .entry))) ⌝ }
 {
-    tally_answer(object_count(dump, layout_at(layout), k))
+    tally_answer(object_count(dump, geometry_at(geometry)))
 }

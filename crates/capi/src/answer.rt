@@ -8,7 +8,7 @@ use chunk::answer::Tallied;
 use file::table::Tabled;
 use index::additions::Added;
 use index::runs::Run;
-use page::layout::Layout;
+use page::geometry::Geometry;
 use page::number::PageNumber;
 
 // The size of a file, and the records visited.
@@ -122,30 +122,30 @@ pub(crate) fn chunk_answer(a: Looked) -> ChunkAnswer
 }
 
 // Where the first bytes of page p stand in a dump of this length; nowhere where the page is not in the dump or has not so many.
-pub(crate) fn place_of(l: Layout, len: usize, p: PageNumber, valid: u32) -> PlaceAnswer
-    ensures { λ r. ⌜ r ≡ placeOf l len (p .0) valid ⌝ }
+pub(crate) fn place_of(g: Geometry, len: usize, p: PageNumber, valid: u32) -> PlaceAnswer
+    ensures { λ r. ⌜ r ≡ placeOf g len (p .0) valid ⌝ }
 {
-    if !l.holds(len, p) {
+    if !g.holds(len, p) {
         return PlaceAnswer {
             offset: 0,
             length: 0,
         };
     }
-    if (l.data as u32) < valid {
+    if g.layout.data < valid {
         return PlaceAnswer {
             offset: 0,
             length: 0,
         };
     }
     PlaceAnswer {
-        offset: (p.0 as usize) * l.page_len(),
+        offset: (p.0 as usize) * g.layout.page_len(),
         length: valid as usize,
     }
 }
 
 // Where in a dump of this length the valid bytes of a chunk that was looked up stand; nowhere for a hole or a refusal.
-pub(crate) fn place_answer(l: Layout, len: usize, a: Looked) -> PlaceAnswer
-    ensures { λ r. ⌜ r ≡ placeAnswer l len a ⌝ }
+pub(crate) fn place_answer(g: Geometry, len: usize, a: Looked) -> PlaceAnswer
+    ensures { λ r. ⌜ r ≡ placeAnswer g len a ⌝ }
 {
     match a {
         Looked::Refused(_, _, _) => PlaceAnswer {
@@ -156,7 +156,7 @@ pub(crate) fn place_answer(l: Layout, len: usize, a: Looked) -> PlaceAnswer
             offset: 0,
             length: 0,
         },
-        Looked::Copy(p, valid, _, _) => place_of(l, len, p, valid),
+        Looked::Copy(p, valid, _, _) => place_of(g, len, p, valid),
     }
 }
 

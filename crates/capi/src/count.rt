@@ -1,9 +1,10 @@
 // The five counts of a dump.
 ghost use mathlib.Core.Path.{_≡_};
-ghost use Rattle.page.specs.Layouts.{layoutAt};
+ghost use Rattle.capi.specs.Layouts.{geometryAt};
 ghost use Rattle.page.specs.Counts.{countedOf};
 ghost use Rattle.capi.specs.Counts.{countsAnswer};
-use crate::layout::layout_at;
+use crate::layout::Geometry;
+use crate::layout::geometry_at;
 use page::count::Counted;
 use page::count::count_kinds;
 
@@ -42,8 +43,8 @@ fn counts_answer(c: Counted) -> CountsAnswer
 
 // How many pages of a dump are of each kind.
 #[no_mangle]
-pub extern "C" fn lohenarr_counts(dump: &[u8], layout: u32, k: u32) -> CountsAnswer
-    ensures { λ r. ⌜ r ≡ countsAnswer (countedOf (layoutAt layout) k (now (dump .entry))) ⌝ }
+pub extern "C" fn lohenarr_counts(dump: &[u8], geometry: Geometry) -> CountsAnswer
+    ensures { λ r. ⌜ r ≡ countsAnswer (countedOf (geometryAt geometry) (now (dump .entry))) ⌝ }
 {
-    counts_answer(count_kinds(dump, layout_at(layout), k))
+    counts_answer(count_kinds(dump, geometry_at(geometry)))
 }

@@ -1,9 +1,10 @@
 // The header fields of a page that are numbers.
 ghost use mathlib.Core.Path.{_≡_};
-ghost use Rattle.page.specs.Layouts.{layoutAt};
+ghost use Rattle.capi.specs.Layouts.{geometryAt};
 ghost use Rattle.page.specs.Asked.{headedOf};
 ghost use Rattle.capi.specs.Headers.{refusedHeader, fieldsAnswer, headerAnswer};
-use crate::layout::layout_at;
+use crate::layout::Geometry;
+use crate::layout::geometry_at;
 use page::fields::Fields;
 use page::header::Headed;
 use page::header::header;
@@ -102,8 +103,8 @@ fn header_answer(h: Headed) -> HeaderAnswer
 
 // The header fields of a page that are numbers.
 #[no_mangle]
-pub extern "C" fn lohenarr_header(dump: &[u8], layout: u32, k: u32, page: u32) -> HeaderAnswer
-    ensures { λ r. ⌜ r ≡ headerAnswer (headedOf (layoutAt layout) k (now (dump .entry)) page) ⌝ }
+pub extern "C" fn lohenarr_header(dump: &[u8], geometry: Geometry, page: u32) -> HeaderAnswer
+    ensures { λ r. ⌜ r ≡ headerAnswer (headedOf (geometryAt geometry) (now (dump .entry)) page) ⌝ }
 {
-    header_answer(header(dump, layout_at(layout), k, PageNumber(page)))
+    header_answer(header(dump, geometry_at(geometry), PageNumber(page)))
 }

@@ -2,7 +2,7 @@
 // objects.
 ghost use mathlib.Core.Path.{_≡_};
 ghost use lib.ListN.{length, take, drop};
-ghost use Rattle.page.specs.Layouts.{layoutAt};
+ghost use Rattle.capi.specs.Layouts.{geometryAt};
 ghost use Rattle.chunk.specs.Answers.{readBy, bufferBy, partBy};
 ghost use Rattle.chunk.specs.Lists.{wordsBy};
 ghost use Rattle.index.specs.Additions.{startOf, addOf};
@@ -28,7 +28,8 @@ use crate::answer::run_answer;
 use crate::answer::size_answer;
 use crate::answer::table_answer;
 use crate::answer::tally_answer;
-use crate::layout::layout_at;
+use crate::layout::Geometry;
+use crate::layout::geometry_at;
 use file::table::table;
 use index::additions::add;
 use index::additions::start;
@@ -53,45 +54,37 @@ pub extern "C" fn lohenarr_cells(pages: u32) -> usize
 
 // Makes the index empty, whatever its words held.
 #[no_mangle]
-pub extern "C" fn lohenarr_start(dump: &[u8], layout: u32, k: u32, cells: &mut [u32]) -> u32
-    ensures { λ r. ⌜ r ≡ addedAnswer (startOf (layoutAt layout) k (now (dump .entry)) (now (cells .entry)) .answer) ⌝ }
-    ensures { λ _. ⌜ now (cells .exit) ≡ startOf (layoutAt layout) k (now (dump .entry)) (now (cells .entry)) .cells ⌝ }
+pub extern "C" fn lohenarr_start(dump: &[u8], geometry: Geometry, cells: &mut [u32]) -> u32
+    ensures { λ r. ⌜ r ≡ addedAnswer (startOf (geometryAt geometry) (now (dump .entry)) (now (cells .entry)) .answer) ⌝ }
+    ensures { λ _. ⌜ now (cells .exit) ≡ startOf (geometryAt geometry) (now (dump .entry)) (now (cells .entry)) .cells ⌝ }
 {
-    added_answer(start(dump, layout_at(layout), k, cells))
+    added_answer(start(dump, geometry_at(geometry), cells))
 }
 
 // Adds a page to the index.
 #[no_mangle]
-pub extern "C" fn lohenarr_add(
-    dump: &[u8],
-    layout: u32,
-    k: u32,
-    cells: &mut [u32],
-    page: u32,
-) -> u32
-    ensures { λ r. ⌜ r ≡ addedAnswer (addOf (layoutAt layout) k (now (dump .entry)) (now (cells .entry)) page .answer) ⌝ }
-    ensures { λ _. ⌜ now (cells .exit) ≡ addOf (layoutAt layout) k (now (dump .entry)) (now (cells .entry)) page .cells ⌝ }
+pub extern "C" fn lohenarr_add(dump: &[u8], geometry: Geometry, cells: &mut [u32], page: u32) -> u32
+    ensures { λ r. ⌜ r ≡ addedAnswer (addOf (geometryAt geometry) (now (dump .entry)) (now (cells .entry)) page .answer) ⌝ }
+    ensures { λ _. ⌜ now (cells .exit) ≡ addOf (geometryAt geometry) (now (dump .entry)) (now (cells .entry)) page .cells ⌝ }
 {
-    added_answer(add(dump, layout_at(layout), k, cells, PageNumber(page)))
+    added_answer(add(dump, geometry_at(geometry), cells, PageNumber(page)))
 }
 
 // Adds the pages from one to before another to the index, one after the other, until one is refused; those before it stand.
 #[no_mangle]
 pub extern "C" fn lohenarr_add_run(
     dump: &[u8],
-    layout: u32,
-    k: u32,
+    geometry: Geometry,
     cells: &mut [u32],
     from: u32,
     to: u32,
 ) -> RunAnswer
-    ensures { λ r. ⌜ r ≡ runAnswer (runOf (layoutAt layout) k (now (dump .entry)) (now (cells .entry)) from to .answer) ⌝ }
-    ensures { λ _. ⌜ now (cells .exit) ≡ runOf (layoutAt layout) k (now (dump .entry)) (now (cells .entry)) from to .cells ⌝ }
+    ensures { λ r. ⌜ r ≡ runAnswer (runOf (geometryAt geometry) (now (dump .entry)) (now (cells .entry)) from to .answer) ⌝ }
+    ensures { λ _. ⌜ now (cells .exit) ≡ runOf (geometryAt geometry) (now (dump .entry)) (now (cells .entry)) from to .cells ⌝ }
 {
     run_answer(add_run(
         dump,
-        layout_at(layout),
-        k,
+        geometry_at(geometry),
         cells,
         PageNumber(from),
         PageNumber(to),
@@ -102,32 +95,29 @@ pub extern "C" fn lohenarr_add_run(
 #[no_mangle]
 pub extern "C" fn lohenarr_size(
     dump: &[u8],
-    layout: u32,
-    k: u32,
+    geometry: Geometry,
     cells: &[u32],
     object: u32,
 ) -> SizeAnswer
-    ensures { λ r. ⌜ r ≡ sizeAnswer (sizeFrom (layoutAt layout) k (now (dump .entry)) (now (cells .entry)) object) ⌝ }
+    ensures { λ r. ⌜ r ≡ sizeAnswer (sizeFrom (geometryAt geometry) (now (dump .entry)) (now (cells .entry)) object) ⌝ }
 {
-    size_answer(size(dump, layout_at(layout), k, cells, ObjectId(object)))
+    size_answer(size(dump, geometry_at(geometry), cells, ObjectId(object)))
 }
 
 // A chunk of an object.
 #[no_mangle]
 pub extern "C" fn lohenarr_chunk(
     dump: &[u8],
-    layout: u32,
-    k: u32,
+    geometry: Geometry,
     cells: &[u32],
     object: u32,
     n: u32,
 ) -> ChunkAnswer
-    ensures { λ r. ⌜ r ≡ chunkAnswer (chunkFrom (layoutAt layout) k (now (dump .entry)) (now (cells .entry)) object n) ⌝ }
+    ensures { λ r. ⌜ r ≡ chunkAnswer (chunkFrom (geometryAt geometry) (now (dump .entry)) (now (cells .entry)) object n) ⌝ }
 {
     chunk_answer(chunk(
         dump,
-        layout_at(layout),
-        k,
+        geometry_at(geometry),
         cells,
         ObjectId(object),
         ChunkNumber(n),
@@ -139,20 +129,18 @@ pub extern "C" fn lohenarr_chunk(
 #[no_mangle]
 pub extern "C" fn lohenarr_read(
     dump: &[u8],
-    layout: u32,
-    k: u32,
+    geometry: Geometry,
     cells: &[u32],
     object: u32,
     n: u32,
     buffer: &mut [u8],
 ) -> ChunkAnswer
-    ensures { λ r. ⌜ r ≡ chunkAnswer (readBy (length (now (buffer .entry))) (chunkFrom (layoutAt layout) k (now (dump .entry)) (now (cells .entry)) object n)) ⌝ }
-    ensures { λ _. ⌜ now (buffer .exit) ≡ bufferBy (layoutAt layout) (now (dump .entry)) (now (buffer .entry)) (readBy (length (now (buffer .entry))) (chunkFrom (layoutAt layout) k (now (dump .entry)) (now (cells .entry)) object n)) ⌝ }
+    ensures { λ r. ⌜ r ≡ chunkAnswer (readBy (length (now (buffer .entry))) (chunkFrom (geometryAt geometry) (now (dump .entry)) (now (cells .entry)) object n)) ⌝ }
+    ensures { λ _. ⌜ now (buffer .exit) ≡ bufferBy (geometryAt geometry) (now (dump .entry)) (now (buffer .entry)) (readBy (length (now (buffer .entry))) (chunkFrom (geometryAt geometry) (now (dump .entry)) (now (cells .entry)) object n)) ⌝ }
 {
     chunk_answer(read(
         dump,
-        layout_at(layout),
-        k,
+        geometry_at(geometry),
         cells,
         ObjectId(object),
         ChunkNumber(n),
@@ -164,20 +152,19 @@ pub extern "C" fn lohenarr_read(
 #[no_mangle]
 pub extern "C" fn lohenarr_part(
     dump: &[u8],
-    layout: u32,
-    k: u32,
+    geometry: Geometry,
     cells: &[u32],
     object: u32,
     n: u32,
 ) -> PlaceAnswer
-    ensures { λ r. ⌜ r ≡ placeAnswer (layoutAt layout) (length (now (dump .entry))) (chunkFrom (layoutAt layout) k (now (dump .entry)) (now (cells .entry)) object n) ⌝ }
-    ensures { λ r. ⌜ take (r .length) (drop (r .offset) (now (dump .entry))) ≡ partBy (layoutAt layout) (now (dump .entry)) (chunkFrom (layoutAt layout) k (now (dump .entry)) (now (cells .entry)) object n) ⌝ }
+    ensures { λ r. ⌜ r ≡ placeAnswer (geometryAt geometry) (length (now (dump .entry))) (chunkFrom (geometryAt geometry) (now (dump .entry)) (now (cells .entry)) object n) ⌝ }
+    ensures { λ r. ⌜ take (r .length) (drop (r .offset) (now (dump .entry))) ≡ partBy (geometryAt geometry) (now (dump .entry)) (chunkFrom (geometryAt geometry) (now (dump .entry)) (now (cells .entry)) object n) ⌝ }
 {
-    let l = layout_at(layout);
+    let g = geometry_at(geometry);
     place_answer(
-        l,
+        g,
         dump.len(),
-        chunk(dump, l, k, cells, ObjectId(object), ChunkNumber(n)),
+        chunk(dump, g, cells, ObjectId(object), ChunkNumber(n)),
     )
 }
 
@@ -185,23 +172,22 @@ pub extern "C" fn lohenarr_part(
 #[no_mangle]
 pub extern "C" fn lohenarr_list(
     dump: &[u8],
-    layout: u32,
-    k: u32,
+    geometry: Geometry,
     cells: &[u32],
     words: &mut [u32],
 ) -> ListAnswer
-    ensures { λ r. ⌜ r ≡ listAnswer (listFrom (layoutAt layout) k (now (dump .entry)) (now (cells .entry)) (length (now (words .entry)))) ⌝ }
-    ensures { λ _. ⌜ now (words .exit) ≡ wordsBy (idsFrom (layoutAt layout) k (now (dump .entry)) (now (cells .entry))) (now (words .entry)) (listFrom (layoutAt layout) k (now (dump .entry)) (now (cells .entry)) (length (now (words .entry)))) ⌝ }
+    ensures { λ r. ⌜ r ≡ listAnswer (listFrom (geometryAt geometry) (now (dump .entry)) (now (cells .entry)) (length (now (words .entry)))) ⌝ }
+    ensures { λ _. ⌜ now (words .exit) ≡ wordsBy (idsFrom (geometryAt geometry) (now (dump .entry)) (now (cells .entry))) (now (words .entry)) (listFrom (geometryAt geometry) (now (dump .entry)) (now (cells .entry)) (length (now (words .entry)))) ⌝ }
 {
-    list_answer(list(dump, layout_at(layout), k, cells, words))
+    list_answer(list(dump, geometry_at(geometry), cells, words))
 }
 
 // How many objects have an added record.
 #[no_mangle]
-pub extern "C" fn lohenarr_objects(dump: &[u8], layout: u32, k: u32, cells: &[u32]) -> TallyAnswer
-    ensures { λ r. ⌜ r ≡ tallyAnswer (objectsFrom (layoutAt layout) k (now (dump .entry)) (now (cells .entry))) ⌝ }
+pub extern "C" fn lohenarr_objects(dump: &[u8], geometry: Geometry, cells: &[u32]) -> TallyAnswer
+    ensures { λ r. ⌜ r ≡ tallyAnswer (objectsFrom (geometryAt geometry) (now (dump .entry)) (now (cells .entry))) ⌝ }
 {
-    tally_answer(objects(dump, layout_at(layout), k, cells))
+    tally_answer(objects(dump, geometry_at(geometry), cells))
 }
 
 // The chunks of a file, written to a table of two words for each: where its copy is, 0 for a hole, 1 where a link of the index is damaged
@@ -209,23 +195,27 @@ pub extern "C" fn lohenarr_objects(dump: &[u8], layout: u32, k: u32, cells: &[u3
 #[no_mangle]
 pub extern "C" fn lohenarr_table(
     dump: &[u8],
-    layout: u32,
-    k: u32,
+    geometry: Geometry,
     cells: &[u32],
     object: u32,
     words: &mut [u32],
 ) -> TableAnswer
-    ensures { λ r. ⌜ r ≡ tableAnswer (tableFrom (layoutAt layout) k (now (dump .entry)) (now (cells .entry)) object (length (now (words .entry)))) ⌝ }
-    ensures { λ _. ⌜ now (words .exit) ≡ filledBy (chunkFrom (layoutAt layout) k (now (dump .entry)) (now (cells .entry)) object) (now (words .entry)) (tableFrom (layoutAt layout) k (now (dump .entry)) (now (cells .entry)) object (length (now (words .entry)))) ⌝ }
+    ensures { λ r. ⌜ r ≡ tableAnswer (tableFrom (geometryAt geometry) (now (dump .entry)) (now (cells .entry)) object (length (now (words .entry)))) ⌝ }
+    ensures { λ _. ⌜ now (words .exit) ≡ filledBy (chunkFrom (geometryAt geometry) (now (dump .entry)) (now (cells .entry)) object) (now (words .entry)) (tableFrom (geometryAt geometry) (now (dump .entry)) (now (cells .entry)) object (length (now (words .entry)))) ⌝ }
 {
-    table_answer(table(dump, layout_at(layout), k, cells, ObjectId(object), words))
+    table_answer(table(dump, geometry_at(geometry), cells, ObjectId(object), words))
 }
 
 // The valid bytes of the copy that a row of a table names, as a part of the dump; an empty part where it names none.
 #[no_mangle]
-pub extern "C" fn lohenarr_row(dump: &[u8], layout: u32, place: u32, valid: u32) -> PlaceAnswer
-    ensures { λ r. ⌜ r ≡ rowPlace (layoutAt layout) (length (now (dump .entry))) place valid ⌝ }
-    ensures { λ r. ⌜ take (r .length) (drop (r .offset) (now (dump .entry))) ≡ rowPart (layoutAt layout) (now (dump .entry)) place valid ⌝ }
+pub extern "C" fn lohenarr_row(
+    dump: &[u8],
+    geometry: Geometry,
+    place: u32,
+    valid: u32,
+) -> PlaceAnswer
+    ensures { λ r. ⌜ r ≡ rowPlace (geometryAt geometry) (length (now (dump .entry))) place valid ⌝ }
+    ensures { λ r. ⌜ take (r .length) (drop (r .offset) (now (dump .entry))) ≡ rowPart (geometryAt geometry) (now (dump .entry)) place valid ⌝ }
 {
     if place < 2 {
         return PlaceAnswer {
@@ -233,5 +223,10 @@ pub extern "C" fn lohenarr_row(dump: &[u8], layout: u32, place: u32, valid: u32)
             length: 0,
         };
     }
-    place_of(layout_at(layout), dump.len(), PageNumber(place - 2), valid)
+    place_of(
+        geometry_at(geometry),
+        dump.len(),
+        PageNumber(place - 2),
+        valid,
+    )
 }

@@ -1,9 +1,10 @@
 // The kind of a page.
 ghost use mathlib.Core.Path.{_≡_};
-ghost use Rattle.page.specs.Layouts.{layoutAt};
+ghost use Rattle.capi.specs.Layouts.{geometryAt};
 ghost use Rattle.page.specs.Kinds.{toldOf};
 ghost use Rattle.capi.specs.Kinds.{bareKind, kindFields, kindAnswer};
-use crate::layout::layout_at;
+use crate::layout::Geometry;
+use crate::layout::geometry_at;
 use page::kind::Kind;
 use page::kind::Told;
 use page::kind::page_kind;
@@ -49,41 +50,29 @@ fn kind_fields(k: Kind) -> KindAnswer
         Kind::Blank => bare(0, 1),
         Kind::Foreign => bare(0, 2),
         Kind::Damaged => bare(0, 3),
-        Kind::Header {
-            sequence,
-            object,
-            page_type,
-            parent,
-            size,
-            shrink,
-        } => KindAnswer {
+        Kind::Header(h) => KindAnswer {
             refusal: 0,
             kind: 4,
-            sequence,
-            object: object.0,
-            page_type,
-            parent: parent.0,
-            size,
-            shrink: shrink as u32,
+            sequence: h.sequence,
+            object: h.object.0,
+            page_type: h.page_type,
+            parent: h.parent.0,
+            size: h.size,
+            shrink: h.shrink as u32,
             chunk: 0,
             count: 0,
         },
-        Kind::Data {
-            sequence,
-            object,
-            chunk,
-            count,
-        } => KindAnswer {
+        Kind::Data(d) => KindAnswer {
             refusal: 0,
             kind: 5,
-            sequence,
-            object: object.0,
+            sequence: d.sequence,
+            object: d.object.0,
             page_type: 0,
             parent: 0,
             size: 0,
             shrink: 0,
-            chunk: chunk.0,
-            count,
+            chunk: d.chunk.0,
+            count: d.count,
         },
     }
 }
@@ -99,8 +88,8 @@ fn kind_answer(t: Told) -> KindAnswer
 
 // The kind of a page of a dump.
 #[no_mangle]
-pub extern "C" fn lohenarr_kind(dump: &[u8], layout: u32, k: u32, page: u32) -> KindAnswer
-    ensures { λ r. ⌜ r ≡ kindAnswer (toldOf (layoutAt layout) k (now (dump .entry)) page) ⌝ }
+pub extern "C" fn lohenarr_kind(dump: &[u8], geometry: Geometry, page: u32) -> KindAnswer
+    ensures { λ r. ⌜ r ≡ kindAnswer (toldOf (geometryAt geometry) (now (dump .entry)) page) ⌝ }
 {
-    kind_answer(page_kind(dump, layout_at(layout), k, PageNumber(page)))
+    kind_answer(page_kind(dump, geometry_at(geometry), PageNumber(page)))
 }

@@ -1,14 +1,23 @@
 // Layouts by number, by sizes and as found, and the page count.
 ghost use mathlib.Core.Path.{_≡_};
 ghost use lib.ListN.{length};
-ghost use Rattle.page.specs.Find.{findOf};
-ghost use Rattle.page.specs.Layouts.{layoutAt, byNumber, bySizes};
-ghost use Rattle.page.specs.Lengths.{mostBytes, openedOf};
-ghost use Rattle.capi.specs.Layouts.{layoutAnswer, pagesAnswer};
+ghost use Rattle.page.specs.Find.{findOf, scoreUnder};
+ghost use Rattle.page.specs.Layouts.{mostBytes, layoutAt, byNumber, bySizes};
+ghost use Rattle.page.specs.Lengths.{openedOf};
+ghost use Rattle.page.specs.Leaving.{atLeast};
+ghost use Rattle.capi.specs.Layouts.{geometryAt, layoutAnswer, pagesAnswer};
 use page::find::find;
+use page::find::score;
+use page::geometry::Opened;
 use page::layout::Layout;
 use page::layout::Named;
-use page::layout::Opened;
+
+// How a dump is read: the number of its layout in the table, and how many pages a block has.
+#[repr(C)]
+pub struct Geometry {
+    pub layout: u32,
+    pub block: u32,
+}
 
 // A layout with its number in the table; beside a refusal that is 13, which the table lacks.
 #[repr(C)]
@@ -40,9 +49,9 @@ fn layout_answer(n: Named) -> LayoutAnswer
         Named::Layout(l) => LayoutAnswer {
             refusal: 0,
             number: l.number(),
-            data: l.data as u32,
-            spare: l.spare as u32,
-            tag: l.tag as u32,
+            data: l.data,
+            spare: l.spare,
+            tag: l.tag,
         },
     }
 }
@@ -63,7 +72,7 @@ fn pages_answer(o: Opened) -> PagesAnswer
 }
 
 // The layout with a number; where the table has none, sizes of 0, which every call refuses as BadLayout.
-pub(crate) fn layout_at(number: u32) -> Layout
+fn layout_at(number: u32) -> Layout
     ensures { λ r. ⌜ r ≡ layoutAt number ⌝ }
 {
     let n = Layout::numbered(number);
@@ -74,6 +83,16 @@ pub(crate) fn layout_at(number: u32) -> Layout
             spare: 0,
             tag: 0,
         },
+    }
+}
+
+// How the dump is read that has the layout of this number.
+pub(crate) fn geometry_at(geometry: Geometry) -> page::geometry::Geometry
+    ensures { λ r. ⌜ r ≡ geometryAt geometry ⌝ }
+{
+    page::geometry::Geometry {
+        layout: layout_at(geometry.layout),
+        block: geometry.block,
     }
 }
 
@@ -109,10 +128,19 @@ pub extern "C" fn lohenarr_find(dump: &[u8], k: u32) -> LayoutAnswer
     layout_answer(find(dump, k))
 }
 
+// The score of finding the layout, for a dump that is read so: how many good pages bear their block's sequence, if it fits and they are at least
+// as many as needed; 0 else, and where the dump is refused.
+#[no_mangle]
+pub extern "C" fn lohenarr_score(dump: &[u8], geometry: Geometry, need: u32) -> u32
+    ensures { λ r. ⌜ r ≡ atLeast need (scoreUnder (now (dump .entry)) (geometryAt geometry)) ⌝ }
+{
+    score(dump, geometry_at(geometry), need)
+}
+
 // The page count of a dump.
 #[no_mangle]
-pub extern "C" fn lohenarr_pages(dump: &[u8], layout: u32, k: u32) -> PagesAnswer
-    ensures { λ r. ⌜ r ≡ pagesAnswer (openedOf (layoutAt layout) k (length (now (dump .entry)))) ⌝ }
+pub extern "C" fn lohenarr_pages(dump: &[u8], geometry: Geometry) -> PagesAnswer
+    ensures { λ r. ⌜ r ≡ pagesAnswer (openedOf (geometryAt geometry) (length (now (dump .entry)))) ⌝ }
 {
-    pages_answer(layout_at(layout).opened(dump.len(), k))
+    pages_answer(geometry_at(geometry).opened(dump.len()))
 }

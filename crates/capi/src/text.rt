@@ -1,11 +1,12 @@
 // The header fields of a page that are bytes, as places in the dump.
 ghost use mathlib.Core.Path.{_≡_};
 ghost use lib.ListN.{take, drop};
-ghost use Rattle.page.specs.Layouts.{layoutAt};
+ghost use Rattle.capi.specs.Layouts.{geometryAt};
 ghost use Rattle.page.specs.Asked.{textAt};
 ghost use Rattle.page.specs.declared.fields.Text.the-variants.{Name, Alias, Reserved};
 ghost use Rattle.capi.specs.Headers.{textAnswer};
-use crate::layout::layout_at;
+use crate::layout::Geometry;
+use crate::layout::geometry_at;
 use page::fields::Text;
 use page::header::Headed;
 use page::header::header;
@@ -19,11 +20,11 @@ pub struct PartAnswer {
     pub length: usize,
 }
 
-fn text_answer(dump: &[u8], layout: u32, k: u32, page: u32, f: Text) -> PartAnswer
-    ensures { λ r. ⌜ r ≡ textAnswer f (layoutAt layout) k (now (dump .entry)) page ⌝ }
+fn text_answer(dump: &[u8], geometry: Geometry, page: u32, f: Text) -> PartAnswer
+    ensures { λ r. ⌜ r ≡ textAnswer f (geometryAt geometry) (now (dump .entry)) page ⌝ }
 {
-    let l = layout_at(layout);
-    let h = header(dump, l, k, PageNumber(page));
+    let g = geometry_at(geometry);
+    let h = header(dump, g, PageNumber(page));
     match h {
         Headed::Refused(r) => PartAnswer {
             refusal: r.number(),
@@ -32,7 +33,7 @@ fn text_answer(dump: &[u8], layout: u32, k: u32, page: u32, f: Text) -> PartAnsw
         },
         Headed::Fields(_) => PartAnswer {
             refusal: 0,
-            offset: (page as usize) * l.page_len() + f.place(),
+            offset: (page as usize) * g.layout.page_len() + f.place(),
             length: f.length(),
         },
     }
@@ -40,32 +41,27 @@ fn text_answer(dump: &[u8], layout: u32, k: u32, page: u32, f: Text) -> PartAnsw
 
 // The name in a header, 256 bytes.
 #[no_mangle]
-pub extern "C" fn lohenarr_header_name(dump: &[u8], layout: u32, k: u32, page: u32) -> PartAnswer
-    ensures { λ r. ⌜ r ≡ textAnswer Name (layoutAt layout) k (now (dump .entry)) page ⌝ }
-    ensures { λ r. ⌜ take (r .length) (drop (r .offset) (now (dump .entry))) ≡ textAt Name (layoutAt layout) k (now (dump .entry)) page ⌝ }
+pub extern "C" fn lohenarr_header_name(dump: &[u8], geometry: Geometry, page: u32) -> PartAnswer
+    ensures { λ r. ⌜ r ≡ textAnswer Name (geometryAt geometry) (now (dump .entry)) page ⌝ }
+    ensures { λ r. ⌜ take (r .length) (drop (r .offset) (now (dump .entry))) ≡ textAt Name (geometryAt geometry) (now (dump .entry)) page ⌝ }
 {
-    text_answer(dump, layout, k, page, Text::Name)
+    text_answer(dump, geometry, page, Text::Name)
 }
 
 // The alias in a header, 128 bytes.
 #[no_mangle]
-pub extern "C" fn lohenarr_header_alias(dump: &[u8], layout: u32, k: u32, page: u32) -> PartAnswer
-    ensures { λ r. ⌜ r ≡ textAnswer Alias (layoutAt layout) k (now (dump .entry)) page ⌝ }
-    ensures { λ r. ⌜ take (r .length) (drop (r .offset) (now (dump .entry))) ≡ textAt Alias (layoutAt layout) k (now (dump .entry)) page ⌝ }
+pub extern "C" fn lohenarr_header_alias(dump: &[u8], geometry: Geometry, page: u32) -> PartAnswer
+    ensures { λ r. ⌜ r ≡ textAnswer Alias (geometryAt geometry) (now (dump .entry)) page ⌝ }
+    ensures { λ r. ⌜ take (r .length) (drop (r .offset) (now (dump .entry))) ≡ textAt Alias (geometryAt geometry) (now (dump .entry)) page ⌝ }
 {
-    text_answer(dump, layout, k, page, Text::Alias)
+    text_answer(dump, geometry, page, Text::Alias)
 }
 
 // The reserved bytes of a header, 8 bytes.
 #[no_mangle]
-pub extern "C" fn lohenarr_header_reserved(
-    dump: &[u8],
-    layout: u32,
-    k: u32,
-    page: u32,
-) -> PartAnswer
-    ensures { λ r. ⌜ r ≡ textAnswer Reserved (layoutAt layout) k (now (dump .entry)) page ⌝ }
-    ensures { λ r. ⌜ take (r .length) (drop (r .offset) (now (dump .entry))) ≡ textAt Reserved (layoutAt layout) k (now (dump .entry)) page ⌝ }
+pub extern "C" fn lohenarr_header_reserved(dump: &[u8], geometry: Geometry, page: u32) -> PartAnswer
+    ensures { λ r. ⌜ r ≡ textAnswer Reserved (geometryAt geometry) (now (dump .entry)) page ⌝ }
+    ensures { λ r. ⌜ take (r .length) (drop (r .offset) (now (dump .entry))) ≡ textAt Reserved (geometryAt geometry) (now (dump .entry)) page ⌝ }
 {
-    text_answer(dump, layout, k, page, Text::Reserved)
+    text_answer(dump, geometry, page, Text::Reserved)
 }

@@ -1,6 +1,6 @@
 -- What each answer is, case by case. The crates above cite these laws, and open no definition of this crate.
-use Prim.Native.Nat.{ℕ, _≤_, _<_, min, max}
-use mathlib.Core.Bool.{Bool, true, false, _&&_}
+use Prim.Native.Nat.{ℕ, _≤_, _<_, max}
+use mathlib.Core.Bool.{true, false, _&&_}
 use mathlib.Core.List.{List, []}
 use mathlib.Core.Option.{none, some}
 use mathlib.Core.Path.{_≡_, refl}
@@ -11,20 +11,18 @@ use Rattle.page.specs.Choice.{pick}
 use Rattle.page.specs.Lengths.{pageIn}
 use Rattle.page.specs.Numbers.{badObject, badChunk}
 use Rattle.page.specs.Pages.{pageAt}
-use Rattle.page.specs.declared.kind.Kind.{Kind}
-use Rattle.page.specs.declared.kind.Kind.the-variants.{Header}
-use Rattle.page.specs.declared.layout.Layout.{Layout}
-use Rattle.page.specs.declared.number.ObjectId.{ObjectId}
+use Rattle.page.specs.declared.record.Record.{Record}
+use Rattle.page.specs.declared.geometry.Geometry.{Geometry}
 use Rattle.page.specs.declared.number.PageNumber.{PageNumber}
 use Rattle.page.specs.declared.refusal.Refusal.{Refusal}
 use Rattle.page.specs.declared.refusal.Refusal.the-variants.{BadObject, BadChunk, NoObject, NoHeader, PastEnd, ShortBuffer}
 use Rattle.page.proofs.Searching.{by-test}
 use Rattle.chunk.specs.Records.{ageOf, isGone, isFile, fileSize, baseOf}
-use Rattle.chunk.specs.Newest.{newestHeader, newestCopy, since, records}
-use Rattle.chunk.specs.Cuts.{cutOf, lowestCut}
+use Rattle.chunk.specs.Newest.{newestHeader, newestCopy, records}
+use Rattle.chunk.specs.Cuts.{lowestCut, hides}
 use Rattle.chunk.specs.Sizes.{dataEnd, sizeOf}
-use Rattle.chunk.specs.Scans.{headerIn}
-use Rattle.chunk.specs.Lookups.{fileAt, downTo, fileBy, fileOf, sizedBy, sizedOf, shownOf, validOf, copyAt, copyBy, chunkBy, lookedBy, lookedOf}
+use Rattle.chunk.specs.Visits.{copy, hole, headless, headed, visits}
+use Rattle.chunk.specs.Lookups.{fileAt, fileBy, fileOf, sizedBy, sizedOf, shownOf, validOf, copyAt, copyBy, chunkBy, lookedBy, lookedOf}
 use Rattle.chunk.specs.Answers.{validPart, partBy}
 use Rattle.chunk.specs.Lists.{listedBy, inFront, wordsBy}
 use Rattle.chunk.specs.declared.answer.File.{File}
@@ -37,18 +35,18 @@ use Rattle.chunk.specs.declared.answer.Listed.the-variants as listed
 
 -- the newest header makes a file of its object, or it is refused; the visits are the same
 pub file-cases :
-    (k : Kind) (h v : ℕ) (X : File → Type 0) → ((r : Refusal) → X (file.Refused r v)) → X (file.Header (record { 0 = h }) v) → X (fileAt k h v)
+    (k : Record) (h v : ℕ) (X : File → Type 0) → ((r : Refusal) → X (file.Refused r v)) → X (file.Header (record { 0 = h }) v) → X (fileAt k h v)
 unfolding fileAt
 file-cases k h v X f g = by-test (isGone k) _ (λ t. rw t (f _)) (λ t. rw t (by-test (isFile k) _ (λ u. rw u g) (λ u. rw u (f _))))
 
-module _ (says : ℕ → Kind) (o n : ℕ) where
+module _ (says : ℕ → Record) (o n : ℕ) where
   -- without a header, by whether there is any record
-  pub file-headless : newestHeader says o n ≡ none → fileOf says o n ≡ pick (eqb (records says o n) 0) (file.Refused NoObject 0) (file.Refused NoHeader (records says o n))
+  pub file-headless : newestHeader says o n ≡ none → fileOf says o n ≡ pick (eqb (records says o n) 0) (file.Refused NoObject 0) (file.Refused NoHeader (visits says o n headless))
   unfolding fileOf fileBy
   file-headless e = rw e
 
   -- with one, by what the newest says
-  pub file-headed : (h : ℕ) → (records says o n ≡ 0 → ⊥) → newestHeader says o n ≡ some h → fileOf says o n ≡ fileAt (says h) h (downTo says o n h)
+  pub file-headed : (h : ℕ) → (records says o n ≡ 0 → ⊥) → newestHeader says o n ≡ some h → fileOf says o n ≡ fileAt (says h) h (visits says o n (headed h))
   unfolding fileOf fileBy
   file-headed h s e = rw (ne-eqb _ _ s, e)
 
@@ -83,20 +81,20 @@ module _ (says : ℕ → Kind) (o n : ℕ) where
     module _ (c : ℕ) where
       -- no copy, a copy that a later header hides, and one that is in sight
       module _ (h shown : ℕ) where
-        pub copy-missing : copyBy says o n P c h shown none ≡ looked.Hole shown (records says o n)
+        pub copy-missing : copyBy says o n P c h shown none ≡ looked.Hole shown (visits says o n hole)
         unfolding copyBy
         copy-missing = refl
 
-        pub copy-hidden : (q : ℕ) → lowestCut says o h (ageOf says q) n ≤ baseOf P c → copyBy says o n P c h shown (some q) ≡ looked.Hole shown (records says o n)
+        pub copy-hidden : (q : ℕ) → hides (lowestCut says o h (ageOf says q) n) (baseOf P c) ≡ true → copyBy says o n P c h shown (some q) ≡ looked.Hole shown (visits says o n hole)
         unfolding copyBy copyAt
-        copy-hidden q i = rw (le-leb _ _ i)
+        copy-hidden q i = rw i
 
         pub copy-shown :
-            (q : ℕ) → baseOf P c < lowestCut says o h (ageOf says q) n →
+            (q : ℕ) → hides (lowestCut says o h (ageOf says q) n) (baseOf P c) ≡ false →
             copyBy says o n P c h shown (some q)
-            ≡ looked.Copy (record { 0 = q }) (validOf P c (says q) shown (lowestCut says o h (ageOf says q) n)) shown (since says o (min (ageOf says q) (ageOf says h)) n)
+            ≡ looked.Copy (record { 0 = q }) (validOf P c (says q) shown (lowestCut says o h (ageOf says q) n)) shown (visits says o n (copy h q))
         unfolding copyBy copyAt
-        copy-shown q i = rw (lt-leb _ _ i)
+        copy-shown q i = rw i
 
       -- what is no file has no chunk
       pub looked-refused : (r : Refusal) (v : ℕ) → lookedBy says o n P c (file.Refused r v) ≡ looked.Refused r v 0
@@ -128,33 +126,28 @@ module _ (says : ℕ → Kind) (o n : ℕ) where
       unfolding lookedOf
       chunk-by-file e d = rw (e, d)
 
--- where a header cuts does not go by its sequence and its object, which may as well be 0
-pub cut-any : (b : Bool) (s : ℕ) (o : ObjectId) (t : ℕ) (p : ObjectId) (z : ℕ) (m : Bool) → cutOf b (Header s o t p z m) ≡ cutOf b (headerIn 0 (record { 0 = 0 }) t p z m)
-unfolding cutOf
-cut-any b s o t p z m = refl
-
 -- ---- its bytes
 
-module _ (l : Layout) (dump : List ℕ) where
+module _ (g : Geometry) (dump : List ℕ) where
   -- the first bytes of a page that is there and has so many, and else none
-  pub valid-there : (p valid : ℕ) → pageIn l (length dump) p && leb valid (l .«data») ≡ true → validPart l dump p valid ≡ take valid (pageAt l dump p)
+  pub valid-there : (p valid : ℕ) → pageIn g (length dump) p && leb valid (g .layout .«data») ≡ true → validPart g dump p valid ≡ take valid (pageAt g dump p)
   unfolding validPart
   valid-there p valid t = rw t
 
-  pub valid-none : (p valid : ℕ) → pageIn l (length dump) p && leb valid (l .«data») ≡ false → validPart l dump p valid ≡ []
+  pub valid-none : (p valid : ℕ) → pageIn g (length dump) p && leb valid (g .layout .«data») ≡ false → validPart g dump p valid ≡ []
   unfolding validPart
   valid-none p valid t = rw t
 
   -- only a copy has bytes
-  pub part-copy : (p : PageNumber) (a s v : ℕ) → partBy l dump (looked.Copy p a s v) ≡ validPart l dump (p .0) a
+  pub part-copy : (p : PageNumber) (a s v : ℕ) → partBy g dump (looked.Copy p a s v) ≡ validPart g dump (p .0) a
   unfolding partBy
   part-copy p a s v = refl
 
-  pub part-hole : (s v : ℕ) → partBy l dump (looked.Hole s v) ≡ []
+  pub part-hole : (s v : ℕ) → partBy g dump (looked.Hole s v) ≡ []
   unfolding partBy
   part-hole s v = refl
 
-  pub part-refused : (r : Refusal) (v n : ℕ) → partBy l dump (looked.Refused r v n) ≡ []
+  pub part-refused : (r : Refusal) (v n : ℕ) → partBy g dump (looked.Refused r v n) ≡ []
   unfolding partBy
   part-refused r v n = refl
 

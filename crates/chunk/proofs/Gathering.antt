@@ -1,5 +1,5 @@
 -- What one page more makes of each gathering: all that a scan's loop, and a walk along sorted records, need to know of its definition.
-use Prim.Native.Nat.{ℕ, suc, _+_, _<_, _≤_, max, min}
+use Prim.Native.Nat.{ℕ, suc, _+_, _<_, _≤_, max}
 use mathlib.Core.Bool.{Bool, true, false, _&&_}
 use mathlib.Core.Option.{Option, none, some}
 use mathlib.Core.Path.{_≡_, refl, ap, _∙_}
@@ -8,15 +8,16 @@ use native.Mathlib.Omega.{arith}
 use borrow.Author.Tests.{le-leb, lt-leb}
 use lib.Dec.{eqb, ltb, leb}
 use Rattle.page.specs.Choice.{pick}
-use Rattle.page.specs.Counts.{isHeader, isData}
+use Rattle.page.specs.Records.{isHeader, isData}
 use Rattle.page.proofs.Searching.{by-test}
-use Rattle.page.specs.declared.kind.Kind.{Kind}
+use Rattle.page.specs.declared.record.Record.{Record}
 use Rattle.page.specs.declared.number.PageNumber.{PageNumber}
 use Rattle.chunk.specs.Gather.{gather}
 use Rattle.chunk.specs.Records.{ageOf, isOf, headerOf, dataOf}
 use Rattle.chunk.specs.Newest.{later, newest, since}
-use Rattle.chunk.specs.Cuts.{nowhere, cutOf, lowestCut}
+use Rattle.chunk.specs.Cuts.{cutOf, lower, lowestCut}
 use Rattle.chunk.specs.Sizes.{endOf, dataEnd}
+use Rattle.chunk.specs.declared.cut.Cut.the-variants.{Nowhere}
 use Rattle.chunk.specs.declared.scan.Newest.the-variants.{At, Nothing}
 use Rattle.chunk.specs.Scans.{laterIn, newestIn, endWith, cutWith}
 
@@ -34,23 +35,23 @@ gather-step f a n = rw add-one
 at-age : (p q : PageNumber) (a b : ℕ) → At p a ≡ At q b → a ≡ b
 at-age p q a b e = cc
 
-module _ (says : ℕ → Kind) where
-  pub newest-none : (test : Kind → Bool) → newest says test 0 ≡ none
+module _ (says : ℕ → Record) where
+  pub newest-none : (test : Record → Bool) → newest says test 0 ≡ none
   unfolding newest gather
   newest-none test = refl
 
-  pub newest-suc : (test : Kind → Bool) (n : ℕ) → newest says test (suc n) ≡ pick (test (says n)) (later says n (newest says test n)) (newest says test n)
+  pub newest-suc : (test : Record → Bool) (n : ℕ) → newest says test (suc n) ≡ pick (test (says n)) (later says n (newest says test n)) (newest says test n)
   unfolding newest gather
   newest-suc test n = refl
 
-  newest-step : (test : Kind → Bool) (n : ℕ) → newest says test (n + 1) ≡ pick (test (says n)) (later says n (newest says test n)) (newest says test n)
+  newest-step : (test : Record → Bool) (n : ℕ) → newest says test (n + 1) ≡ pick (test (says n)) (later says n (newest says test n)) (newest says test n)
   newest-step test n = rw add-one (newest-suc test n)
 
   -- a page that does not pass is passed over
-  pub newest-skip : (test : Kind → Bool) (n : ℕ) → test (says n) ≡ false → newest says test (n + 1) ≡ newest says test n
+  pub newest-skip : (test : Record → Bool) (n : ℕ) → test (says n) ≡ false → newest says test (n + 1) ≡ newest says test n
   newest-skip test n t = newest-step test n ∙ rw t
 
-  pub newest-take : (test : Kind → Bool) (n : ℕ) → test (says n) ≡ true → newest says test (n + 1) ≡ later says n (newest says test n)
+  pub newest-take : (test : Record → Bool) (n : ℕ) → test (says n) ≡ true → newest says test (n + 1) ≡ later says n (newest says test n)
   newest-take test n t = newest-step test n ∙ rw t
 
   -- the newer of two pages, kept with its age
@@ -104,13 +105,13 @@ module _ (says : ℕ → Kind) where
   unfolding endWith
   end-skip P o x n t = end-step P o x n ∙ by-test (isOf o (says n)) _ (λ u. rw (u, t)) (λ u. rw u)
 
-  pub cut-none : (o h x : ℕ) → lowestCut says o h x 0 ≡ nowhere
+  pub cut-none : (o h x : ℕ) → lowestCut says o h x 0 ≡ Nowhere
   unfolding lowestCut gather
   cut-none o h x = refl
 
   pub cut-suc :
       (o h x n : ℕ) →
-      lowestCut says o h x (suc n) ≡ pick (headerOf o (says n) && ltb x (ageOf says n)) (min (cutOf (eqb n h) (says n)) (lowestCut says o h x n)) (lowestCut says o h x n)
+      lowestCut says o h x (suc n) ≡ pick (headerOf o (says n) && ltb x (ageOf says n)) (lower (cutOf (eqb n h) (says n)) (lowestCut says o h x n)) (lowestCut says o h x n)
   unfolding lowestCut gather
   cut-suc o h x n = refl
 

@@ -1,3 +1,5 @@
+pub mod Records
+pub mod Cuts
 pub mod Gathering
 pub mod Cases
 pub mod Looking
@@ -5,5 +7,5 @@ pub mod Laying
 pub mod Marked
 pub mod Meaning
 pub mod Holes
-pub mod Ascending
 pub mod Living
+pub mod Sorting

@@ -8,7 +8,7 @@
 -- the records have distinct ids.
 use Prim.Native.Nat.{ℕ, zero, suc, _+_, _≤_, _<_, zero-le}
 use mathlib.Core.Bool.{Bool, true, false, not, _&&_, _||_}
-use mathlib.Core.List.{List, []}
+use mathlib.Core.List.{List, [], _∷_, _++_}
 use mathlib.Core.Logic.{_⊎_, ⊎-elim}
 use mathlib.Core.Option.{Option, none, some}
 use mathlib.Core.Path.{_≡_, refl, sym, ap, _∙_}
@@ -17,23 +17,25 @@ use native.Mathlib.Numerals.{add-one}
 use native.Mathlib.Omega.{arith}
 use borrow.Author.Tests.{not-true, eqb-true, eqb-false, eq-eqb, ne-eqb, ltb-true, ltb-false}
 use lib.Dec.{eqb, ltb}
-use lib.ListN.{length}
+use lib.ListN.{length, length-append}
 use Rattle.page.specs.Choice.{pick}
 use Rattle.page.specs.Search.{count, more}
-use Rattle.page.specs.Counts.{isHeader}
-use Rattle.page.specs.declared.kind.Kind.{Kind}
-use Rattle.page.specs.declared.kind.Kind.the-variants.{Header}
-use Rattle.page.specs.declared.number.ObjectId.{ObjectId}
+use Rattle.page.specs.Records.{isHeader}
+use Rattle.page.specs.declared.record.Record.{Record}
+use Rattle.page.specs.declared.record.Record.the-variants.{Header}
+use Rattle.page.specs.declared.record.Header as header
 use Rattle.page.proofs.Layouts.{and-left, and-right}
 use Rattle.page.proofs.Searching.{by-test, count-none, count-step}
+use Rattle.sort.specs.Arranged.{ascend, arranged}
+use Rattle.sort.proofs.Arranging.{arranged-none, arranged-behind, arranged-length}
+use Rattle.sort.proofs.Ascending.{In, Ascends, ascend-new, ascend-kept, ascend-back, ascend-ascends}
 use Rattle.chunk.specs.Gather.{gather}
 use Rattle.chunk.specs.Records.{isOf, headerOf, isGone}
 use Rattle.chunk.specs.Newest.{newestHeader, records}
-use Rattle.chunk.specs.Live.{ascend, idsOf, isAt, objectAt, livePage, liveIds, liveCount, objectPage, objectCount}
-use Rattle.chunk.specs.Lists.{inFront, inserted}
+use Rattle.chunk.specs.Live.{passed, idsOf, isAt, objectAt, livePage, liveIds, liveCount, objectPage, objectCount}
+use Rattle.chunk.proofs.Records.{of-object, object-of}
 use Rattle.chunk.proofs.Gathering.{gather-step, since-none, since-skip, since-one}
 use Rattle.chunk.proofs.Meaning.{newest-found}
-use Rattle.chunk.proofs.Ascending.{In, Ascends, ascend-new, ascend-kept, ascend-back, ascend-ascends, ascend-length, insert-front}
 
 -- one that does not pass, and one that does
 pub count-skip : (test : ℕ → Bool) (n : ℕ) → test n ≡ false → count test (n + 1) ≡ count test n
@@ -64,29 +66,45 @@ wider : {test : ℕ → Bool} {id : ℕ → ℕ} {n x : ℕ} → Bears test id n
 wider w = record { page = w .page; inside = omega (arith, w .inside); passes = w .passes; bears = w .bears }
 
 module _ (test : ℕ → Bool) (id : ℕ → ℕ) where
-  -- no page, and one page more
-  pub ids-none : idsOf test id 0 ≡ []
-  unfolding idsOf gather
-  ids-none = refl
+  -- no page, and one page more: as they come, and ascending
+  pub passed-none : passed test id 0 ≡ []
+  unfolding passed gather
+  passed-none = refl
 
-  ids-step : (n : ℕ) → idsOf test id (n + 1) ≡ pick (test n) (ascend (id n) (idsOf test id n)) (idsOf test id n)
+  passed-step : (n : ℕ) → passed test id (n + 1) ≡ pick (test n) (passed test id n ++ (id n ∷ [])) (passed test id n)
+  unfolding passed
+  passed-step n = gather-step _ _ n
+
+  pub passed-skip : (n : ℕ) → test n ≡ false → passed test id (n + 1) ≡ passed test id n
+  passed-skip n t = passed-step n ∙ rw t
+
+  pub passed-take : (n : ℕ) → test n ≡ true → passed test id (n + 1) ≡ passed test id n ++ (id n ∷ [])
+  passed-take n t = passed-step n ∙ rw t
+
+  ids-none : idsOf test id 0 ≡ []
   unfolding idsOf
-  ids-step n = gather-step _ _ n
+  ids-none = ap arranged passed-none ∙ arranged-none
 
-  pub ids-skip : (n : ℕ) → test n ≡ false → idsOf test id (n + 1) ≡ idsOf test id n
-  ids-skip n t = ids-step n ∙ rw t
+  ids-skip : (n : ℕ) → test n ≡ false → idsOf test id (n + 1) ≡ idsOf test id n
+  unfolding idsOf
+  ids-skip n t = ap arranged (passed-skip n t)
 
-  pub ids-take : (n : ℕ) → test n ≡ true → idsOf test id (n + 1) ≡ ascend (id n) (idsOf test id n)
-  ids-take n t = ids-step n ∙ rw t
+  ids-take : (n : ℕ) → test n ≡ true → idsOf test id (n + 1) ≡ ascend (id n) (idsOf test id n)
+  unfolding idsOf
+  ids-take n t = ap arranged (passed-take n t) ∙ arranged-behind (id n) (passed test id n)
 
   -- there are as many ids as pages that pass
-  pub ids-length : (n : ℕ) → length (idsOf test id n) ≡ count test n
-  ids-length zero = rw (ids-none, count-none)
-  ids-length (suc n) =
-      rw (← add-one n, count-step test n)
+  pub passed-length : (n : ℕ) → length (passed test id n) ≡ count test n
+  passed-length zero = ap length passed-none ∙ sym (count-none test)
+  passed-length (suc n) =
+      rw (← add-one n)
       (by-test (test n) _
-      (λ t. rw (ids-take n t, t) (ascend-length (id n) (idsOf test id n) ∙ ap suc (ids-length n) ∙ sym (add-one _)))
-      (λ t. rw (ids-skip n t, t) (ids-length n)))
+      (λ t. ap length (passed-take n t) ∙ length-append (passed test id n) (id n ∷ []) ∙ ap (λ (k : ℕ). k + 1) (passed-length n) ∙ sym (count-take test n t))
+      (λ t. ap length (passed-skip n t) ∙ passed-length n ∙ sym (count-skip test n t)))
+
+  pub ids-length : (n : ℕ) → length (idsOf test id n) ≡ count test n
+  unfolding idsOf
+  ids-length n = arranged-length (passed test id n) ∙ passed-length n
 
   -- the ids of those that pass are there
   pub ids-in : (x n : ℕ) → Bears test id n x → In x (idsOf test id n)
@@ -113,18 +131,6 @@ module _ (test : ℕ → Bool) (id : ℕ → ℕ) where
       (ascend-back (id n) x (idsOf test id n) (rw (ids-take n t) at j)))
       (λ t. wider (ids-of x n (rw (ids-skip n t) at j)))
 
-  -- the id of one more, put among those in front of words, where it has room
-  pub ids-written :
-      (words words₀ : List ℕ) (m n : ℕ) →
-      Ascends 0 (idsOf test id n) →
-      test n ≡ true →
-      m ≡ count test n →
-      m < length words₀ →
-      words ≡ inFront (idsOf test id n) words₀ →
-      inserted words m (id n) ≡ inFront (idsOf test id (n + 1)) words₀
-  ids-written words words₀ m n a t e h w =
-      rw (w, ids-take n t) (insert-front (id n) (idsOf test id n) words₀ m a (e ∙ sym (ids-length n)) h)
-
   module _ (apart : (p q : ℕ) → test p ≡ true → test q ≡ true → id p ≡ id q → p ≡ q) where
     -- no id is there twice, where no two that pass have the same
     pub ids-ascend : (n : ℕ) → Ascends 0 (idsOf test id n)
@@ -146,7 +152,7 @@ at-some : (p : ℕ) (r : Option ℕ) → isAt p r ≡ true → r ≡ some p
 at-some p none e = let z : _≡_ {A = ℕ} 0 1 = cc in absurd (omega arith)
 at-some p (some q) e = ap some (eqb-true q p e)
 
-module _ (says : ℕ → Kind) where
+module _ (says : ℕ → Record) where
   module _ (n : ℕ) where
     -- object o is live: it has a newest header, whose parent is neither 3 nor 4
     pub record Live (o : ℕ) : Type 0 where
@@ -159,10 +165,10 @@ module _ (says : ℕ → Kind) where
     live-other p e = rw e
 
     pub live-header :
-        (p s t z : ℕ) (o q : ObjectId) (m : Bool) →
-        says p ≡ Header s o t q z m →
-        livePage says n p ≡ (not (eqb (q .0) 3 || eqb (q .0) 4) && isAt p (newestHeader says (o .0) n))
-    live-header p s t z o q m e = rw e
+        (p : ℕ) (h : header.Header) →
+        says p ≡ Header h →
+        livePage says n p ≡ (not (eqb (h .parent .0) 3 || eqb (h .parent .0) 4) && isAt p (newestHeader says (h .object .0) n))
+    live-header p h e = rw e
 
     -- a live page is the newest header of its object, and that is live
     live-page : (p : ℕ) → livePage says n p ≡ true → (newestHeader says (objectAt says p) n ≡ some p) × (isGone (says p) ≡ false)
@@ -176,7 +182,7 @@ module _ (says : ℕ → Kind) where
         let p = w .header in
         let f = newest-found says (headerOf o) n p (w .newest-header) in
         let r = and-right (isOf o (says p)) (isHeader (says p)) (f .passes) in
-        let e : objectAt says p ≡ o = eqb-true _ _ (and-left (isOf o (says p)) _ (f .passes)) in
+        let e : objectAt says p ≡ o = of-object o (says p) (and-left (isOf o (says p)) _ (f .passes)) in
         record { page = p; inside = f .below; passes = rw (r, w .kept, e, w .newest-header) (eq-eqb p p refl); bears = e }
 
     -- an object has one newest header
@@ -227,7 +233,7 @@ module _ (says : ℕ → Kind) where
   record-found o zero h = absurd (h (since-none says o 0))
   record-found o (suc n) h =
       by-test (isOf o (says n)) _
-      (λ u. record { page = n; inside = le-refl _; passes = u; bears = eqb-true _ _ u })
+      (λ u. record { page = n; inside = le-refl _; passes = u; bears = of-object o (says n) u })
       (λ u. wider (record-found o n (λ e. h (rw (← add-one n) (since-skip says o 0 n u ∙ e)))))
 
   -- every object of a record has a first one
@@ -245,7 +251,7 @@ module _ (says : ℕ → Kind) where
       (eqb-false _ _ (not-true _ (and-left z _ t)), eqb-true _ _ (and-right z _ t))
 
   none-behind : (p q : ℕ) → p < q → objectAt says p ≡ objectAt says q → objectPage says q ≡ true → ⊥
-  none-behind p q h e t = record-some (objectAt says q) p q h (eq-eqb _ _ e) (object-page q t .1)
+  none-behind p q h e t = record-some (objectAt says q) p q h (object-of _ (says p) (object-page q t .0) e) (object-page q t .1)
 
   object-apart : (p q : ℕ) → objectPage says p ≡ true → objectPage says q ≡ true → objectAt says p ≡ objectAt says q → p ≡ q
   object-apart p q t u e =
@@ -273,7 +279,8 @@ module _ (says : ℕ → Kind) where
 
   pub objects-of : (n o : ℕ) → In o (objectIds n) → (o ≡ 0 → ⊥) × Bears (λ p. isOf o (says p)) (objectAt says) n o
   objects-of n o i =
-      let w = ids-of (objectPage says) (objectAt says) o n i in (
-        rw (w .bears) at (object-page (w .page) (w .passes) .0),
-        record { page = w .page; inside = w .inside; passes = eq-eqb _ _ (w .bears); bears = w .bears },
+      let w = ids-of (objectPage says) (objectAt says) o n i in
+      let some : o ≡ 0 → ⊥ = rw (w .bears) at (object-page (w .page) (w .passes) .0) in (
+        some,
+        record { page = w .page; inside = w .inside; passes = object-of o (says (w .page)) some (w .bears); bears = w .bears },
       )

@@ -5,11 +5,11 @@ use mathlib.Core.Path.{_≡_, fun-ext}
 use native.Mathlib.Omega.{arith}
 use lib.ListN.{length, getD}
 use Rattle.page.specs.Numbers.{badObject, badChunk}
-use Rattle.page.specs.Kinds.{kindAt}
+use Rattle.page.specs.Records.{recordOf, recordAt}
 use Rattle.page.specs.Lengths.{openedOf}
-use Rattle.page.specs.Shelf.{shelfLayout, shelf, shelfKinds}
+use Rattle.page.specs.Shelf.{shelfGeometry, shelf, shelfKinds}
 use Rattle.page.specs.declared.kind.Kind.the-variants.{Blank}
-use Rattle.page.specs.declared.layout.Opened.the-variants.{Pages}
+use Rattle.page.specs.declared.geometry.Opened.the-variants.{Pages}
 use Rattle.page.proofs.Marked as pages
 use Rattle.page.proofs.Within.{object-good, chunk-good}
 use Rattle.chunk.specs.Gather.{gather}
@@ -21,10 +21,10 @@ use Rattle.chunk.specs.Answers.{sizeOn, chunkOn}
 use Rattle.chunk.specs.Shelf.{answers, expected}
 
 -- what W's pages say
-says-shelf : kindAt shelfLayout shelf ≡ (λ i. getD shelfKinds i Blank)
-says-shelf = fun-ext pages.shelf-kind
+says-shelf : recordAt shelfGeometry shelf ≡ (λ i. recordOf (getD shelfKinds i Blank))
+says-shelf = fun-ext pages.shelf-record
 
-opened : openedOf shelfLayout 4 (length shelf) ≡ Pages 8
+opened : openedOf shelfGeometry (length shelf) ≡ Pages 8
 opened = rw (pages.marked .shelf-length) (pages.marked .shelf-opened)
 
 -- the ids and chunk numbers asked for are not bad

@@ -1,6 +1,6 @@
 -- What the definitions mean, in the paper's own terms: the newest is the one that none is newer than; a header cuts, or hides a copy, exactly
 -- when the paper says so; a copy that is found has valid bytes.
-use Prim.Native.Nat.{ℕ, zero, suc, _-_, _≤_, _<_, min}
+use Prim.Native.Nat.{ℕ, zero, suc, _-_, _≤_, _<_}
 use mathlib.Core.Bool.{Bool, true, false, _&&_}
 use mathlib.Core.Option.{Option, none, some}
 use mathlib.Core.Path.{_≡_, refl, sym, _∙_}
@@ -9,13 +9,15 @@ use native.Mathlib.Nat.{not-suc-le-zero, le-of-suc-le-suc, eq-or-lt-of-le, le-re
 use native.Mathlib.Omega.{arith}
 use lib.Dec.{eqb, ltb, leb}
 use borrow.Author.Tests.{leb-true, leb-false, ltb-true, lt-ltb}
-use Rattle.page.specs.declared.kind.Kind.{Kind}
+use Rattle.page.specs.declared.record.Record.{Record}
 use Rattle.page.proofs.Searching.{by-test, pick-cases}
 use Rattle.page.proofs.Layouts.{and-left, and-right}
 use Rattle.chunk.specs.Records.{orderOf, ageOf, headerOf, fileSize, isGone, isFile}
 use Rattle.chunk.specs.Newest.{later, newest}
-use Rattle.chunk.specs.Cuts.{nowhere, isShrink, cutOf, lowestCut}
+use Rattle.chunk.specs.Cuts.{isShrink, cutOf, lower, lowestCut, hides}
 use Rattle.chunk.specs.Sizes.{sizeOf, dataEnd}
+use Rattle.chunk.specs.declared.cut.Cut.the-variants.{At, Nowhere}
+use Rattle.chunk.proofs.Cuts.{lower-hides, lower-still, lower-leaves}
 use Rattle.chunk.proofs.Gathering.{newest-none, newest-suc, cut-none, cut-suc}
 
 -- a record of a lower sequence is older, on whatever page it stands; of one sequence the lower page is older
@@ -26,12 +28,12 @@ pub order-by-page : (s p q : ℕ) → p < q → orderOf s p < orderOf s q
 order-by-page s p q h = omega arith
 
 -- what a page is that a search for the newest found: it passes, and none that passes is newer
-pub record IsNewest (says : ℕ → Kind) (test : Kind → Bool) (n p : ℕ) : Type 0 where
+pub record IsNewest (says : ℕ → Record) (test : Record → Bool) (n p : ℕ) : Type 0 where
   pub below : p < n
   pub passes : test (says p) ≡ true
   pub newest : (q : ℕ) → q < n → test (says q) ≡ true → ageOf says q ≤ ageOf says p
 
-module _ (says : ℕ → Kind) (test : Kind → Bool) where
+module _ (says : ℕ → Record) (test : Record → Bool) where
   -- a search that finds nothing: no page passes
   pub newest-missing : (n : ℕ) → newest says test n ≡ none → (q : ℕ) → q < n → test (says q) ≡ false
   newest-missing zero e q h = absurd (not-suc-le-zero h)
@@ -96,66 +98,78 @@ module _ (says : ℕ → Kind) (test : Kind → Bool) where
           })
 
 -- an old header of a plain file, neither shrink-marked nor deleted, cuts nowhere
-pub plain-header-cuts-nowhere : (k : Kind) → isGone k ≡ false → isShrink k ≡ false → cutOf false k ≡ nowhere
+pub plain-header-cuts-nowhere : (k : Record) → isGone k ≡ false → isShrink k ≡ false → cutOf false k ≡ Nowhere
 unfolding cutOf
 plain-header-cuts-nowhere k g m = rw (g, m) (by-test (isFile k) _ (λ t. rw t) (λ t. rw t))
 
 -- a header under parent 3 or 4 cuts at 0, whatever its type, and the newest or not
-pub gone-header-cuts-at-0 : (b : Bool) (k : Kind) → isGone k ≡ true → cutOf b k ≡ 0
+pub gone-header-cuts-at-0 : (b : Bool) (k : Record) → isGone k ≡ true → cutOf b k ≡ At 0
 unfolding cutOf
 gone-header-cuts-at-0 b k g = rw g
 
 -- the size never falls below the newest header's
-pub size-at-least : (says : ℕ → Kind) (P o h n : ℕ) → fileSize (says h) ≤ sizeOf says P o h n
+pub size-at-least : (says : ℕ → Record) (P o h n : ℕ) → fileSize (says h) ≤ sizeOf says P o h n
 unfolding sizeOf
 size-at-least says P o h n = le-max-left (fileSize (says h)) (dataEnd says P o (ageOf says h) n)
 
 -- a header that hides what begins at base: one of object o, newer than x, that cuts at or below base
-pub record Hides (says : ℕ → Kind) (o h x n base p : ℕ) : Type 0 where
+pub record Hides (says : ℕ → Record) (o h x n base p : ℕ) : Type 0 where
   pub below : p < n
   pub header : headerOf o (says p) ≡ true
   pub newer : x < ageOf says p
-  pub cuts : cutOf (eqb p h) (says p) ≤ base
+  pub cuts : hides (cutOf (eqb p h) (says p)) base ≡ true
 
-module _ (says : ℕ → Kind) (o h x base : ℕ) where
+module _ (says : ℕ → Record) (o h x base : ℕ) where
   abbrev later-header : ℕ → Bool
   later-header p = headerOf o (says p) && ltb x (ageOf says p)
 
-  cut-taken : (n : ℕ) → later-header n ≡ true → lowestCut says o h x (suc n) ≡ min (cutOf (eqb n h) (says n)) (lowestCut says o h x n)
+  cut-taken : (n : ℕ) → later-header n ≡ true → lowestCut says o h x (suc n) ≡ lower (cutOf (eqb n h) (says n)) (lowestCut says o h x n)
   cut-taken n t = cut-suc says o h x n ∙ rw t
 
   cut-passed : (n : ℕ) → later-header n ≡ false → lowestCut says o h x (suc n) ≡ lowestCut says o h x n
   cut-passed n t = cut-suc says o h x n ∙ rw t
 
-  -- the lowest later cut is at or below base exactly when a header hides what begins there
-  pub lowest-cut-hides : (n : ℕ) (P : Type 0) → base < nowhere → lowestCut says o h x n ≤ base → ((p : ℕ) → Hides says o h x n base p → P) → P
-  lowest-cut-hides zero P b c f = absurd (omega (arith, cut-none says o h x))
-  lowest-cut-hides (suc n) P b c f =
+  -- the lowest later cut hides what begins at base exactly when a header does
+  pub lowest-cut-hides : (n : ℕ) (P : Type 0) → hides (lowestCut says o h x n) base ≡ true → ((p : ℕ) → Hides says o h x n base p → P) → P
+  lowest-cut-hides zero P c f = absurd (never (rw (cut-none says o h x) at c))
+    where
+      never : false ≡ true → ⊥
+      never e = let z : _≡_ {A = ℕ} 0 1 = cc in omega arith
+  lowest-cut-hides (suc n) P c f =
       by-test (later-header n) P
       (λ t.
-      by-test (leb (cutOf (eqb n h) (says n)) base) P
+      by-test (hides (cutOf (eqb n h) (says n)) base) P
       (λ u.
       f n record {
         below = le-refl _;
         header = and-left (headerOf o (says n)) _ t;
         newer = ltb-true _ _ (and-right (headerOf o (says n)) _ t);
-        cuts = leb-true _ _ u;
+        cuts = u;
       })
-      (λ u. lowest-cut-hides n P b (omega (arith, cut-taken n t, leb-false (cutOf (eqb n h) (says n)) base u)) (λ p g. f p (more p g))))
-      (λ t. lowest-cut-hides n P b (omega (arith, cut-passed n t)) (λ p g. f p (more p g)))
+      (λ u. lowest-cut-hides n P (other t u) (λ p g. f p (more p g))))
+      (λ t. lowest-cut-hides n P (rw (cut-passed n t) at c) (λ p g. f p (more p g)))
     where
       more : (p : ℕ) → Hides says o h x n base p → Hides says o h x (suc n) base p
       more p g = record { below = omega (arith, g .below); header = g .header; newer = g .newer; cuts = g .cuts }
 
-  pub hides-lowest-cut : (n p : ℕ) → Hides says o h x n base p → lowestCut says o h x n ≤ base
+      other : later-header n ≡ true → hides (cutOf (eqb n h) (says n)) base ≡ false → hides (lowestCut says o h x n) base ≡ true
+      other t u =
+          by-test (hides (lowestCut says o h x n) base) _
+          (λ v. v)
+          (λ v.
+          let k = lower-leaves base (cutOf (eqb n h) (says n)) (lowestCut says o h x n) u v in
+          let z : true ≡ false = sym c ∙ rw (cut-taken n t) k in
+          let y : _≡_ {A = ℕ} 0 1 = cc in absurd (omega arith))
+
+  pub hides-lowest-cut : (n p : ℕ) → Hides says o h x n base p → hides (lowestCut says o h x n) base ≡ true
   hides-lowest-cut zero p g = absurd (not-suc-le-zero (g .below))
   hides-lowest-cut (suc n) p g =
       ⊎-elim
       (λ (i : p ≡ n).
       let t : later-header n ≡ true = rw (← i, g .header) (lt-ltb _ _ (g .newer)) in
-      let k : cutOf (eqb n h) (says n) ≤ base = rw (← i) (g .cuts) in
-      omega (arith, cut-taken n t))
+      let k : hides (cutOf (eqb n h) (says n)) base ≡ true = rw (← i) (g .cuts) in
+      rw (cut-taken n t) (lower-hides base (cutOf (eqb n h) (says n)) (lowestCut says o h x n) k))
       (λ i.
       let r = hides-lowest-cut n p record { below = i; header = g .header; newer = g .newer; cuts = g .cuts } in
-      by-test (later-header n) _ (λ t. omega (arith, cut-taken n t)) (λ t. omega (arith, cut-passed n t)))
+      by-test (later-header n) _ (λ t. rw (cut-taken n t) (lower-still base (cutOf (eqb n h) (says n)) (lowestCut says o h x n) r)) (λ t. rw (cut-passed n t) r))
       (eq-or-lt-of-le (le-of-suc-le-suc (g .below)))

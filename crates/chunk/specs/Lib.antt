@@ -3,6 +3,7 @@ pub mod Records
 pub mod Newest
 pub mod Cuts
 pub mod Sizes
+pub mod Visits
 pub mod Lookups
 pub mod Scans
 pub mod Answers

@@ -1,12 +1,12 @@
 -- What listing the live objects answers and writes, and how many objects there are (document 01, the refusal table and the report).
-use Prim.Native.Nat.{ℕ, zero, suc}
+use Prim.Native.Nat.{ℕ}
 use mathlib.Core.List.{List, [], _++_}
-use lib.ListN.{length, drop, getD, set}
+use lib.ListN.{length, drop}
 use lib.Dec.{ltb}
 use Rattle.page.specs.Choice.{pick}
 use Rattle.page.specs.Lengths.{openedOf}
-use Rattle.page.specs.Kinds.{kindAt}
-use Rattle.page.specs.declared.layout.Layout.{Layout}
+use Rattle.page.specs.Records.{recordAt}
+use Rattle.page.specs.declared.geometry.Geometry.{Geometry}
 use Rattle.page.specs.declared.refusal.Refusal.the-variants.{ShortBuffer}
 use Rattle.chunk.specs.Answers.{onPages}
 use Rattle.chunk.specs.Live.{liveIds, liveCount, objectCount}
@@ -28,27 +28,18 @@ unfoldable pub wordsBy : List ℕ → List ℕ → Listed → List ℕ
 wordsBy ids words (listed.Ids m) = inFront ids words
 wordsBy ids words (listed.Refused r need) = words
 
-module _ (l : Layout) (k : ℕ) (dump : List ℕ) where
+module _ (g : Geometry) (dump : List ℕ) where
   -- the live ids of a dump; none where it is refused
   unfoldable pub liveOn : List ℕ
-  liveOn = onPages (λ r. []) (λ n. liveIds (kindAt l dump) n) (openedOf l k (length dump))
+  liveOn = onPages (λ r. []) (λ n. liveIds (recordAt g dump) n) (openedOf g (length dump))
 
   -- listing them into so many words
   unfoldable pub listOn : ℕ → Listed
-  listOn room = onPages (λ r. listed.Refused r 0) (λ n. listedBy room (liveIds (kindAt l dump) n)) (openedOf l k (length dump))
+  listOn room = onPages (λ r. listed.Refused r 0) (λ n. listedBy room (liveIds (recordAt g dump) n)) (openedOf g (length dump))
 
   -- how many objects are live, and how many there are
   unfoldable pub liveCountOn : Tallied
-  liveCountOn = onPages (λ r. tallied.Refused r) (λ n. tallied.Count (liveCount (kindAt l dump) n)) (openedOf l k (length dump))
+  liveCountOn = onPages (λ r. tallied.Refused r) (λ n. tallied.Count (liveCount (recordAt g dump) n)) (openedOf g (length dump))
 
   unfoldable pub objectCountOn : Tallied
-  objectCountOn = onPages (λ r. tallied.Refused r) (λ n. tallied.Count (objectCount (kindAt l dump) n)) (openedOf l k (length dump))
-
--- an id put among the first m words from their end: each that is not below it moves up by one
-unfoldable pub shifted : List ℕ → ℕ → ℕ → List ℕ
-shifted words zero o = set words 0 o
-shifted words (suc m) o = let x = getD words m 0 in pick (ltb x o) (set words (suc m) o) (shifted (set words (suc m) x) m o)
-
--- where there is a word for one more
-unfoldable pub inserted : List ℕ → ℕ → ℕ → List ℕ
-inserted words m o = pick (ltb m (length words)) (shifted words m o) words
+  objectCountOn = onPages (λ r. tallied.Refused r) (λ n. tallied.Count (objectCount (recordAt g dump) n)) (openedOf g (length dump))

@@ -1,32 +1,31 @@
 -- The live objects and the objects of a dump (document 01, the refusal table's last sentence and the report), over what each page says.
 use Prim.Native.Nat.{ℕ}
 use mathlib.Core.Bool.{Bool, false, not, _&&_}
-use mathlib.Core.List.{List, [], _∷_}
+use mathlib.Core.List.{List, [], _∷_, _++_}
 use mathlib.Core.Option.{Option, none, some}
-use lib.Dec.{eqb, ltb}
+use lib.Dec.{eqb}
 use Rattle.page.specs.Choice.{pick}
 use Rattle.page.specs.Search.{count}
-use Rattle.page.specs.Counts.{isHeader}
-use Rattle.page.specs.declared.kind.Kind.{Kind}
+use Rattle.page.specs.Records.{isHeader}
+use Rattle.page.specs.declared.record.Record.{Record}
+use Rattle.sort.specs.Arranged.{arranged}
 use Rattle.chunk.specs.Gather.{gather}
 use Rattle.chunk.specs.Records.{objectOf, isGone}
 use Rattle.chunk.specs.Newest.{newestHeader, records}
 
--- an id put into ascending ids
-unfoldable pub ascend : ℕ → List ℕ → List ℕ
-ascend o [] = o ∷ []
-ascend o (x ∷ xs) = let rest = ascend o xs in pick (ltb x o) (x ∷ rest) (o ∷ x ∷ xs)
+-- the ids of those of 0 to n - 1 that pass a test, as they come, and ascending
+unfoldable pub passed : (ℕ → Bool) → (ℕ → ℕ) → ℕ → List ℕ
+passed test id n = gather (λ p ids. pick (test p) (ids ++ (id p ∷ [])) ids) [] n
 
--- the ids of those of 0 to n - 1 that pass a test, ascending
 unfoldable pub idsOf : (ℕ → Bool) → (ℕ → ℕ) → ℕ → List ℕ
-idsOf test id n = gather (λ p ids. pick (test p) (ascend (id p) ids) ids) [] n
+idsOf test id n = arranged (passed test id n)
 
 -- whether a search found page p
 abbrev pub isAt : ℕ → Option ℕ → Bool
 isAt p none = false
 isAt p (some q) = eqb q p
 
-module _ (says : ℕ → Kind) where
+module _ (says : ℕ → Record) where
   -- the object of page p
   abbrev pub objectAt : ℕ → ℕ
   objectAt p = objectOf (says p)

@@ -4,12 +4,14 @@ use mathlib.Core.Option.{Option, none, some}
 use lib.Dec.{eqb, leb}
 use Rattle.page.specs.Choice.{pick}
 use Rattle.page.specs.Numbers.{badObject, badChunk}
-use Rattle.page.specs.declared.kind.Kind.{Kind}
+use Rattle.page.specs.declared.record.Record.{Record}
 use Rattle.page.specs.declared.refusal.Refusal.the-variants.{BadObject, BadChunk, NoObject, NoHeader, Deleted, NotAFile, PastEnd}
 use Rattle.chunk.specs.Records.{ageOf, isGone, isFile, countOf, baseOf}
-use Rattle.chunk.specs.Newest.{newestHeader, newestCopy, since, records}
-use Rattle.chunk.specs.Cuts.{lowestCut}
+use Rattle.chunk.specs.Newest.{newestHeader, newestCopy, records}
+use Rattle.chunk.specs.Cuts.{lowestCut, hides, leaves}
 use Rattle.chunk.specs.Sizes.{sizeOf}
+use Rattle.chunk.specs.Visits.{copy, hole, headless, headed, visits}
+use Rattle.chunk.specs.declared.cut.Cut.{Cut}
 use Rattle.chunk.specs.declared.answer.File.{File}
 use Rattle.chunk.specs.declared.answer.File.the-variants as file
 use Rattle.chunk.specs.declared.answer.Sized.{Sized}
@@ -17,30 +19,26 @@ use Rattle.chunk.specs.declared.answer.Sized.the-variants as sized
 use Rattle.chunk.specs.declared.answer.Looked.{Looked}
 use Rattle.chunk.specs.declared.answer.Looked.the-variants as looked
 
--- what an object is whose newest header h says k: deleted, no file, or a live file
-unfoldable pub fileAt : Kind → ℕ → ℕ → File
+-- what an object is whose newest header h says k, with the visits down to it: deleted, no file, or a live file
+unfoldable pub fileAt : Record → (h v : ℕ) → File
 fileAt k h v =
     pick (isGone k) (file.Refused Deleted v)
     (pick (isFile k) (file.Header (record { 0 = h }) v)
     (file.Refused NotAFile v))
 
 -- how many bytes of chunk c a file of a size shows, with P data bytes to a page: as many as a page has, or as the size leaves
-abbrev pub shownOf : ℕ → ℕ → ℕ → ℕ
+abbrev pub shownOf : (P c size : ℕ) → ℕ
 shownOf P c size = min P (size - baseOf P c)
 
 -- how many bytes of a copy of chunk c that says k are valid: its byte count, no more than shown, and none behind a later cut
-abbrev pub validOf : ℕ → ℕ → Kind → ℕ → ℕ → ℕ
-validOf P c k shown cut = min (countOf k) (min shown (cut - baseOf P c))
+abbrev pub validOf : (P c : ℕ) → Record → (shown : ℕ) → Cut → ℕ
+validOf P c k shown cut = min (countOf k) (leaves cut (baseOf P c) shown)
 
-module _ (says : ℕ → Kind) (o n : ℕ) where
-  -- the records visited from the newest down to page p
-  abbrev pub downTo : ℕ → ℕ
-  downTo p = since says o (ageOf says p) n
-
+module _ (says : ℕ → Record) (o n : ℕ) where
   -- by its newest header, if it has one
   unfoldable pub fileBy : Option ℕ → File
-  fileBy none = file.Refused NoHeader (records says o n)
-  fileBy (some h) = fileAt (says h) h (downTo h)
+  fileBy none = file.Refused NoHeader (visits says o n headless)
+  fileBy (some h) = fileAt (says h) h (visits says o n (headed h))
 
   -- the live file that object o is, if it is one
   unfoldable pub fileOf : File
@@ -58,19 +56,19 @@ module _ (says : ℕ → Kind) (o n : ℕ) where
 
     module _ (c : ℕ) where
       -- the copy q of a live file with newest header h: hidden, and so a hole, if a later header cuts at or below the chunk's begin
-      unfoldable pub copyAt : ℕ → ℕ → ℕ → Looked
+      unfoldable pub copyAt : (h shown q : ℕ) → Looked
       copyAt h shown q =
-          pick (leb (lowestCut says o h (ageOf says q) n) (baseOf P c)) (looked.Hole shown (records says o n))
-          (looked.Copy (record { 0 = q }) (validOf P c (says q) shown (lowestCut says o h (ageOf says q) n)) shown
-          (since says o (min (ageOf says q) (ageOf says h)) n))
+          let cut = lowestCut says o h (ageOf says q) n in
+          pick (hides cut (baseOf P c)) (looked.Hole shown (visits says o n hole))
+          (looked.Copy (record { 0 = q }) (validOf P c (says q) shown cut) shown (visits says o n (copy h q)))
 
       -- by the copy, if there is one
-      unfoldable pub copyBy : ℕ → ℕ → Option ℕ → Looked
-      copyBy h shown none = looked.Hole shown (records says o n)
+      unfoldable pub copyBy : (h shown : ℕ) → Option ℕ → Looked
+      copyBy h shown none = looked.Hole shown (visits says o n hole)
       copyBy h shown (some q) = copyAt h shown q
 
       -- chunk c of a live file of a size, which ends before it or not
-      unfoldable pub chunkBy : ℕ → ℕ → ℕ → Looked
+      unfoldable pub chunkBy : (h v size : ℕ) → Looked
       chunkBy h v size = pick (leb size (baseOf P c)) (looked.Refused PastEnd v 0) (copyBy h (shownOf P c size) (newestCopy says o c n))
 
       unfoldable pub lookedBy : File → Looked

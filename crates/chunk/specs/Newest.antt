@@ -2,36 +2,36 @@
 use Prim.Native.Nat.{ℕ, suc}
 use mathlib.Core.Bool.{Bool, _&&_}
 use mathlib.Core.Option.{Option, none, some}
-use lib.Dec.{eqb, leb}
+use lib.Dec.{leb}
 use Rattle.page.specs.Choice.{pick}
-use Rattle.page.specs.declared.kind.Kind.{Kind}
+use Rattle.page.specs.declared.record.Record.{Record}
 use Rattle.chunk.specs.Gather.{gather}
-use Rattle.chunk.specs.Records.{ageOf, isOf, headerOf, chunkOf}
+use Rattle.chunk.specs.Records.{ageOf, isOf, headerOf, isCopy}
 
 -- the newer of page p and another, if there is one
-abbrev pub later : (ℕ → Kind) → ℕ → Option ℕ → Option ℕ
+abbrev pub later : (ℕ → Record) → ℕ → Option ℕ → Option ℕ
 later says p none = some p
 later says p (some q) = pick (leb (ageOf says q) (ageOf says p)) (some p) (some q)
 
 -- the newest of the first n pages that pass a test
-unfoldable pub newest : (ℕ → Kind) → (Kind → Bool) → ℕ → Option ℕ
+unfoldable pub newest : (ℕ → Record) → (Record → Bool) → ℕ → Option ℕ
 newest says test n = gather (λ p r. pick (test (says p)) (later says p r) r) none n
 
--- whether a page is a data record of object o with chunk number c
-abbrev pub copyOf : ℕ → ℕ → Kind → Bool
-copyOf o c k = isOf o k && eqb (chunkOf k) c
+-- whether a page is a data page of object o with chunk number c
+abbrev pub copyOf : (o c : ℕ) → Record → Bool
+copyOf o c k = isOf o k && isCopy c k
 
 -- the newest header of object o; the copy of its chunk c
-abbrev pub newestHeader : (ℕ → Kind) → ℕ → ℕ → Option ℕ
+abbrev pub newestHeader : (ℕ → Record) → ℕ → ℕ → Option ℕ
 newestHeader says o n = newest says (headerOf o) n
 
-abbrev pub newestCopy : (ℕ → Kind) → ℕ → ℕ → ℕ → Option ℕ
+abbrev pub newestCopy : (ℕ → Record) → ℕ → ℕ → ℕ → Option ℕ
 newestCopy says o c n = newest says (copyOf o c) n
 
 -- how many records of object o are not older than an age: the records visited down to that age
-unfoldable pub since : (ℕ → Kind) → ℕ → ℕ → ℕ → ℕ
+unfoldable pub since : (ℕ → Record) → ℕ → ℕ → ℕ → ℕ
 since says o x n = gather (λ p a. pick (isOf o (says p) && leb x (ageOf says p)) (suc a) a) 0 n
 
 -- how many records object o has
-abbrev pub records : (ℕ → Kind) → ℕ → ℕ → ℕ
+abbrev pub records : (ℕ → Record) → ℕ → ℕ → ℕ
 records says o n = since says o 0 n

@@ -1,53 +1,44 @@
 -- What the scans over a dump answer, by the definitions.
-use Prim.Native.Nat.{ℕ, max, min}
+use Prim.Native.Nat.{ℕ, max}
 use mathlib.Core.Bool.{Bool, true, _&&_}
 use mathlib.Core.Option.{Option, none, some}
 use lib.Dec.{eqb, ltb, leb}
 use Rattle.page.specs.Choice.{pick}
-use Rattle.page.specs.Counts.{isHeader}
-use Rattle.page.specs.declared.number.ObjectId.{ObjectId}
-use Rattle.page.specs.declared.number.ChunkNumber.{ChunkNumber}
-use Rattle.page.specs.declared.kind.Kind.{Kind}
-use Rattle.page.specs.declared.kind.Kind.the-variants as kind
-use Rattle.chunk.specs.Records.{ageOf, orderOf, sequenceOf, isOf, headerOf, dataOf, chunkOf}
-use Rattle.chunk.specs.Cuts.{cutOf}
+use Rattle.page.specs.Records.{isHeader}
+use Rattle.page.specs.declared.record.Record.{Record}
+use Rattle.chunk.specs.Records.{ageOf, orderOf, sequenceOf, isOf, headerOf, dataOf, isCopy}
+use Rattle.chunk.specs.Cuts.{cutOf, lower}
 use Rattle.chunk.specs.Sizes.{endOf}
+use Rattle.chunk.specs.declared.cut.Cut.{Cut}
 use Rattle.chunk.specs.declared.record.Want.{Want}
-use Rattle.chunk.specs.declared.record.Want.the-variants.{Record, Header, Copy}
+use Rattle.chunk.specs.declared.record.Want.the-variants as want
 use Rattle.chunk.specs.declared.scan.Newest.{Newest}
 use Rattle.chunk.specs.declared.scan.Newest.the-variants.{At, Nothing}
 
 -- what a scan wants of an object's records
-abbrev pub wantedBy : Want → Kind → Bool
-wantedBy Record k = true
-wantedBy Header k = isHeader k
-wantedBy (Copy c) k = eqb (chunkOf k) (c .0)
+abbrev pub wantedBy : Want → Record → Bool
+wantedBy want.Record r = true
+wantedBy want.Header r = isHeader r
+wantedBy (want.Copy c) r = isCopy (c .0) r
 
 -- which pages a scan for object o wants
-abbrev pub wanted : ℕ → Want → Kind → Bool
-wanted o w k = isOf o k && wantedBy w k
+abbrev pub wanted : (o : ℕ) → Want → Record → Bool
+wanted o w r = isOf o r && wantedBy w r
 
 -- the newest page of a scan, with its age
-abbrev pub newestIn : (ℕ → Kind) → Option ℕ → Newest
+abbrev pub newestIn : (ℕ → Record) → Option ℕ → Newest
 newestIn says none = Nothing
 newestIn says (some p) = At (record { 0 = p }) (ageOf says p)
 
 -- the newer of a page and another, by their ages
-abbrev pub laterIn : Newest → ℕ → ℕ → Newest
+abbrev pub laterIn : Newest → (p age : ℕ) → Newest
 laterIn Nothing p a = At (record { 0 = p }) a
 laterIn (At q b) p a = pick (leb b a) (At (record { 0 = p }) a) (At q b)
 
--- what a header and a data page say
-abbrev pub headerIn : ℕ → ObjectId → ℕ → ObjectId → ℕ → Bool → Kind
-headerIn s o t p z m = kind.Header s o t p z m
-
-abbrev pub dataIn : ℕ → ObjectId → ChunkNumber → ℕ → Kind
-dataIn s o c n = kind.Data s o c n
-
 -- the largest end so far, with page p too
-unfoldable pub endWith : ℕ → ℕ → ℕ → ℕ → ℕ → Kind → ℕ
-endWith end P o x p k = pick (dataOf o k && ltb x (orderOf (sequenceOf k) p)) (max (endOf P k) end) end
+unfoldable pub endWith : (end P o x p : ℕ) → Record → ℕ
+endWith end P o x p r = pick (dataOf o r && ltb x (orderOf (sequenceOf r) p)) (max (endOf P r) end) end
 
 -- the lowest cut so far, with page p too
-unfoldable pub cutWith : ℕ → ℕ → ℕ → ℕ → ℕ → Kind → ℕ
-cutWith cut o h x p k = pick (headerOf o k && ltb x (orderOf (sequenceOf k) p)) (min (cutOf (eqb p h) k) cut) cut
+unfoldable pub cutWith : Cut → (o h x p : ℕ) → Record → Cut
+cutWith cut o h x p r = pick (headerOf o r && ltb x (orderOf (sequenceOf r) p)) (lower (cutOf (eqb p h) r) cut) cut

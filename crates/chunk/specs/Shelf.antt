@@ -3,8 +3,9 @@ use Prim.Native.Nat.{ℕ}
 use mathlib.Core.List.{List, _∷_, map}
 use lib.Dec.{eqb}
 use Rattle.page.specs.Choice.{pick}
-use Rattle.page.specs.Kinds.{kindAt}
-use Rattle.page.specs.Shelf.{shelfLayout, shelf, pageCases, kindIn}
+use Rattle.page.specs.Records.{recordOf, recordAt}
+use Rattle.page.specs.Shelf.{shelfGeometry, shelf, pageCases, kindIn}
+use Rattle.page.specs.declared.record.Record.{Record}
 use Rattle.page.specs.declared.kind.Kind.{Kind}
 use Rattle.page.specs.declared.kind.Kind.the-variants.{Blank}
 use Rattle.page.specs.declared.refusal.Refusal.the-variants.{PastEnd, NoObject}
@@ -22,21 +23,21 @@ pub data Answer : Type 0 where
   kind : Kind → Answer
 
 -- page p read as blank
-abbrev pub without : ℕ → (ℕ → Kind) → ℕ → Kind
-without p says i = pick (eqb i p) Blank (says i)
+abbrev pub without : ℕ → (ℕ → Record) → ℕ → Record
+without p says i = pick (eqb i p) (recordOf Blank) (says i)
 
 -- by the definitions: cases 1 to 5 on W, 6 and 7 on W without pages, 8 to 11 on single pages, 12
 unfoldable pub answers : List Answer
 answers =
-    size (sizeOn shelfLayout 4 shelf 257) ∷
-    chunk (chunkOn shelfLayout 4 shelf 257 1) ∷
-    chunk (chunkOn shelfLayout 4 shelf 257 2) ∷
-    chunk (chunkOn shelfLayout 4 shelf 257 3) ∷
-    chunk (chunkOn shelfLayout 4 shelf 257 4) ∷
-    chunk (lookedOf (without 5 (kindAt shelfLayout shelf)) 257 8 512 1) ∷
-    size (sizedOf (without 6 (without 5 (kindAt shelfLayout shelf))) 257 8 512) ∷
-    chunk (lookedOf (without 6 (without 5 (kindAt shelfLayout shelf))) 257 8 512 2) ∷
-    size (sizeOn shelfLayout 4 shelf 258) ∷
+    size (sizeOn shelfGeometry shelf 257) ∷
+    chunk (chunkOn shelfGeometry shelf 257 1) ∷
+    chunk (chunkOn shelfGeometry shelf 257 2) ∷
+    chunk (chunkOn shelfGeometry shelf 257 3) ∷
+    chunk (chunkOn shelfGeometry shelf 257 4) ∷
+    chunk (lookedOf (without 5 (recordAt shelfGeometry shelf)) 257 8 512 1) ∷
+    size (sizedOf (without 6 (without 5 (recordAt shelfGeometry shelf))) 257 8 512) ∷
+    chunk (lookedOf (without 6 (without 5 (recordAt shelfGeometry shelf))) 257 8 512 2) ∷
+    size (sizeOn shelfGeometry shelf 258) ∷
     map kind (map kindIn pageCases)
 
 -- by the paper

@@ -1,5 +1,6 @@
 // What a file held last, from the dump alone: newest records, sizes, cuts, chunks and the live list.
 pub mod answer;
+pub mod cut;
 pub mod list;
 pub mod lookup;
 pub mod read;

@@ -2,12 +2,12 @@
 ghost use mathlib.Core.Path.{_≡_};
 ghost use mathlib.Core.Bool.{not, _&&_};
 ghost use Prim.Native.Nat.{_≤_};
-ghost use lib.ListN.{length};
-ghost use Rattle.page.specs.Kinds.{kindAt};
+ghost use lib.ListN.{length, set};
+ghost use Rattle.page.specs.Records.{recordAt};
 ghost use Rattle.chunk.specs.Records.{goneUnder};
 ghost use Rattle.chunk.specs.Newest.{newestHeader};
 ghost use Rattle.chunk.specs.Live.{isAt, objectCount, liveIds, liveCount};
-ghost use Rattle.chunk.specs.Lists.{inserted, inFront, listedBy, wordsBy, listOn, liveOn, liveCountOn, objectCountOn};
+ghost use Rattle.chunk.specs.Lists.{inFront, listedBy, wordsBy, listOn, liveOn, liveCountOn, objectCountOn};
 use crate::answer::Listed;
 use crate::answer::Tallied;
 use crate::record::Want;
@@ -16,71 +16,44 @@ use crate::record::object_of;
 use crate::scan::Newest;
 use crate::scan::newest_page;
 use crate::scan::records_since;
-use page::kind::Kind;
-use page::kind::kind_at;
-use page::layout::Layout;
-use page::layout::Opened;
+use page::geometry::Geometry;
+use page::geometry::Opened;
 use page::number::ObjectId;
 use page::number::PageNumber;
+use page::record::Header;
+use page::record::Record;
+use page::record::record_at;
 use page::refusal::Refusal;
+use sort::words::sort;
 
-// Puts an id among the first m words, which ascend: from their end, each that is not below it moves up by one.
-// Without a word for one more nothing is written.
-pub fn insert_id(words: &mut [u32], m: usize, o: ObjectId)
-    ensures { λ _. ⌜ now (words .exit) ≡ inserted (now (words .entry)) m (o .0) ⌝ }
+// Whether page n, which is this header, is its object's newest, and its parent neither 3 nor 4.
+fn is_live(dump: &[u8], g: Geometry, pages: u32, n: PageNumber, h: Header) -> bool
+    ensures { λ r. ⌜ r ≡ (not (goneUnder (h .parent .0)) && isAt (n .0) (newestHeader (recordAt g (now (dump .entry))) (h .object .0) pages)) ⌝ }
 {
-    if words.len() <= m {
-        return;
-    }
-    let id = o.0;
-    let mut j = m;
-    while 0 < j {
-        let x = words[j - 1];
-        if x < id {
-            break;
-        }
-        words[j] = x;
-        j -= 1;
-    }
-    words[j] = id;
-}
-
-// Whether page n, a header of object o under this parent, is the object's newest header, and the parent neither 3 nor 4.
-fn is_live(dump: &[u8], l: Layout, pages: u32, n: PageNumber, o: ObjectId, parent: ObjectId) -> bool
-    ensures { λ r. ⌜ r ≡ (not (goneUnder (parent .0)) && isAt (n .0) (newestHeader (kindAt l (now (dump .entry))) (o .0) pages)) ⌝ }
-{
-    if gone_under(parent) {
+    if gone_under(h.parent) {
         return false;
     }
-    let h = newest_page(dump, l, pages, o, Want::Header);
-    let Newest::At(page, _) = h else {
+    let newest = newest_page(dump, g, pages, h.object, Want::Header);
+    let Newest::At(page, _) = newest else {
         return false;
     };
     page.0 == n.0
 }
 
 // How many objects of a dump of so many pages are live.
-fn live_in(dump: &[u8], l: Layout, pages: u32) -> u32
-    ensures { λ r. ⌜ r ≡ liveCount (kindAt l (now (dump .entry))) pages ⌝ }
+fn live_in(dump: &[u8], g: Geometry, pages: u32) -> u32
+    ensures { λ r. ⌜ r ≡ liveCount (recordAt g (now (dump .entry))) pages ⌝ }
 {
     let mut count: u32 = 0;
     let mut i: u32 = 0;
     while i < pages {
         let n = PageNumber(i);
-        let k = kind_at(dump, l, n);
+        let r = record_at(dump, g, n);
         i += 1;
-        let Kind::Header {
-            sequence: _,
-            object,
-            page_type: _,
-            parent,
-            size: _,
-            shrink: _,
-        } = k
-        else {
+        let Record::Header(h) = r else {
             continue;
         };
-        if !is_live(dump, l, pages, n, object, parent) {
+        if !is_live(dump, g, pages, n, h) {
             continue;
         }
         count += 1;
@@ -88,86 +61,88 @@ fn live_in(dump: &[u8], l: Layout, pages: u32) -> u32
     count
 }
 
+// Writes an id at a place, if the words have it.
+pub fn put_id(words: &mut [u32], at: usize, o: ObjectId)
+    ensures { λ _. ⌜ now (words .exit) ≡ set (now (words .entry)) at (o .0) ⌝ }
+{
+    if at < words.len() {
+        words[at] = o.0;
+    }
+}
+
 // Writes the ids of the live objects, ascending, to words that have room for them.
-fn write_live(dump: &[u8], l: Layout, pages: u32, words: &mut [u32])
-    requires { ⌜ liveCount (kindAt l (now dump)) pages ≤ length (now words) ⌝ }
-    ensures { λ _. ⌜ now (words .exit) ≡ inFront (liveIds (kindAt l (now (dump .entry))) pages) (now (words .entry)) ⌝ }
+fn write_live(dump: &[u8], g: Geometry, pages: u32, words: &mut [u32])
+    requires { ⌜ liveCount (recordAt g (now dump)) pages ≤ length (now words) ⌝ }
+    ensures { λ _. ⌜ now (words .exit) ≡ inFront (liveIds (recordAt g (now (dump .entry))) pages) (now (words .entry)) ⌝ }
 {
     let mut count: usize = 0;
     let mut i: u32 = 0;
     while i < pages {
         let n = PageNumber(i);
-        let k = kind_at(dump, l, n);
+        let r = record_at(dump, g, n);
         i += 1;
-        let Kind::Header {
-            sequence: _,
-            object,
-            page_type: _,
-            parent,
-            size: _,
-            shrink: _,
-        } = k
-        else {
+        let Record::Header(h) = r else {
             continue;
         };
-        if !is_live(dump, l, pages, n, object, parent) {
+        if !is_live(dump, g, pages, n, h) {
             continue;
         }
-        insert_id(words, count, object);
+        put_id(words, count, h.object);
         count += 1;
     }
+    sort(words, count);
 }
 
 // Lists the live objects of a dump of so many pages.
-fn list_in(dump: &[u8], l: Layout, pages: u32, words: &mut [u32]) -> Listed
-    ensures { λ r. ⌜ r ≡ listedBy (length (now (words .entry))) (liveIds (kindAt l (now (dump .entry))) pages) ⌝ }
-    ensures { λ r. ⌜ now (words .exit) ≡ wordsBy (liveIds (kindAt l (now (dump .entry))) pages) (now (words .entry)) r ⌝ }
+fn list_in(dump: &[u8], g: Geometry, pages: u32, words: &mut [u32]) -> Listed
+    ensures { λ r. ⌜ r ≡ listedBy (length (now (words .entry))) (liveIds (recordAt g (now (dump .entry))) pages) ⌝ }
+    ensures { λ r. ⌜ now (words .exit) ≡ wordsBy (liveIds (recordAt g (now (dump .entry))) pages) (now (words .entry)) r ⌝ }
 {
-    let need = live_in(dump, l, pages);
+    let need = live_in(dump, g, pages);
     if words.len() < (need as usize) {
         return Listed::Refused(Refusal::ShortBuffer, need);
     }
-    write_live(dump, l, pages, words);
+    write_live(dump, g, pages, words);
     Listed::Ids(need)
 }
 
 // Lists the live objects: their ids, ascending, are written to the words, if they all fit.
-pub fn list(dump: &[u8], l: Layout, k: u32, words: &mut [u32]) -> Listed
-    ensures { λ r. ⌜ r ≡ listOn l k (now (dump .entry)) (length (now (words .entry))) ⌝ }
-    ensures { λ r. ⌜ now (words .exit) ≡ wordsBy (liveOn l k (now (dump .entry))) (now (words .entry)) r ⌝ }
+pub fn list(dump: &[u8], g: Geometry, words: &mut [u32]) -> Listed
+    ensures { λ r. ⌜ r ≡ listOn g (now (dump .entry)) (length (now (words .entry))) ⌝ }
+    ensures { λ r. ⌜ now (words .exit) ≡ wordsBy (liveOn g (now (dump .entry))) (now (words .entry)) r ⌝ }
 {
-    let p = l.opened(dump.len(), k);
+    let p = g.opened(dump.len());
     match p {
         Opened::Refused(r) => Listed::Refused(r, 0),
-        Opened::Pages(pages) => list_in(dump, l, pages, words),
+        Opened::Pages(pages) => list_in(dump, g, pages, words),
     }
 }
 
 // How many objects are live.
-pub fn live_count(dump: &[u8], l: Layout, k: u32) -> Tallied
-    ensures { λ r. ⌜ r ≡ liveCountOn l k (now (dump .entry)) ⌝ }
+pub fn live_count(dump: &[u8], g: Geometry) -> Tallied
+    ensures { λ r. ⌜ r ≡ liveCountOn g (now (dump .entry)) ⌝ }
 {
-    let p = l.opened(dump.len(), k);
+    let p = g.opened(dump.len());
     match p {
         Opened::Refused(r) => Tallied::Refused(r),
-        Opened::Pages(pages) => Tallied::Count(live_in(dump, l, pages)),
+        Opened::Pages(pages) => Tallied::Count(live_in(dump, g, pages)),
     }
 }
 
 // How many objects have records in a dump of so many pages.
-fn objects_in(dump: &[u8], l: Layout, pages: u32) -> u32
-    ensures { λ r. ⌜ r ≡ objectCount (kindAt l (now (dump .entry))) pages ⌝ }
+fn objects_in(dump: &[u8], g: Geometry, pages: u32) -> u32
+    ensures { λ r. ⌜ r ≡ objectCount (recordAt g (now (dump .entry))) pages ⌝ }
 {
     let mut count: u32 = 0;
     let mut i: u32 = 0;
     while i < pages {
         let n = PageNumber(i);
-        let id = object_of(kind_at(dump, l, n));
+        let id = object_of(record_at(dump, g, n));
         i += 1;
         if id == 0 {
             continue;
         }
-        if records_since(dump, l, n.0, ObjectId(id), 0) != 0 {
+        if records_since(dump, g, n.0, ObjectId(id), 0) != 0 {
             continue;
         }
         count += 1;
@@ -176,12 +151,12 @@ fn objects_in(dump: &[u8], l: Layout, pages: u32) -> u32
 }
 
 // How many objects have records.
-pub fn object_count(dump: &[u8], l: Layout, k: u32) -> Tallied
-    ensures { λ r. ⌜ r ≡ objectCountOn l k (now (dump .entry)) ⌝ }
+pub fn object_count(dump: &[u8], g: Geometry) -> Tallied
+    ensures { λ r. ⌜ r ≡ objectCountOn g (now (dump .entry)) ⌝ }
 {
-    let p = l.opened(dump.len(), k);
+    let p = g.opened(dump.len());
     match p {
         Opened::Refused(r) => Tallied::Refused(r),
-        Opened::Pages(pages) => Tallied::Count(objects_in(dump, l, pages)),
+        Opened::Pages(pages) => Tallied::Count(objects_in(dump, g, pages)),
     }
 }

@@ -6,35 +6,35 @@ ghost use lib.ListN.{length, take, drop, replicate};
 ghost use Rattle.chunk.specs.Answers.{chunkOn, readBy, validPart, partBy, overlaid, bufferBy};
 use crate::answer::Looked;
 use crate::lookup::chunk;
-use page::layout::Layout;
+use page::geometry::Geometry;
 use page::number::ChunkNumber;
 use page::number::ObjectId;
 use page::number::PageNumber;
 use page::refusal::Refusal;
 
 // The first bytes of the data on page p; none where the page is not in the dump or has not so many.
-fn valid_part(dump: &[u8], l: Layout, p: PageNumber, valid: u32) -> &[u8]
-    ensures { λ r. ⌜ now r ≡ validPart l (now (dump .entry)) (p .0) valid ⌝ }
+fn valid_part(dump: &[u8], g: Geometry, p: PageNumber, valid: u32) -> &[u8]
+    ensures { λ r. ⌜ now r ≡ validPart g (now (dump .entry)) (p .0) valid ⌝ }
 {
-    if !l.holds(dump.len(), p) {
+    if !g.holds(dump.len(), p) {
         return &dump[..0];
     }
-    if (l.data as u32) < valid {
+    if g.layout.data < valid {
         return &dump[..0];
     }
-    let a = (p.0 as usize) * l.page_len();
+    let a = (p.0 as usize) * g.layout.page_len();
     let e = a + (valid as usize);
     &dump[a..e]
 }
 
 // The valid bytes of a chunk that was looked up, as a part of the dump; an empty part for a hole or a refusal.
-pub fn part_of(dump: &[u8], l: Layout, a: Looked) -> &[u8]
-    ensures { λ r. ⌜ now r ≡ partBy l (now (dump .entry)) a ⌝ }
+pub fn part_of(dump: &[u8], g: Geometry, a: Looked) -> &[u8]
+    ensures { λ r. ⌜ now r ≡ partBy g (now (dump .entry)) a ⌝ }
 {
     match a {
         Looked::Refused(_, _, _) => &dump[..0],
         Looked::Hole(_, _) => &dump[..0],
-        Looked::Copy(p, valid, _, _) => valid_part(dump, l, p, valid),
+        Looked::Copy(p, valid, _, _) => valid_part(dump, g, p, valid),
     }
 }
 
@@ -80,9 +80,9 @@ fn overlay(buffer: &mut [u8], part: &[u8], shown: usize)
 }
 
 // Reads a chunk that was looked up into a buffer, if the buffer has room for what is shown.
-pub fn read_into(dump: &[u8], l: Layout, a: Looked, buffer: &mut [u8]) -> Looked
+pub fn read_into(dump: &[u8], g: Geometry, a: Looked, buffer: &mut [u8]) -> Looked
     ensures { λ r. ⌜ r ≡ readBy (length (now (buffer .entry))) a ⌝ }
-    ensures { λ r. ⌜ now (buffer .exit) ≡ bufferBy l (now (dump .entry)) (now (buffer .entry)) r ⌝ }
+    ensures { λ r. ⌜ now (buffer .exit) ≡ bufferBy g (now (dump .entry)) (now (buffer .entry)) r ⌝ }
 {
     match a {
         Looked::Refused(r, visits, need) => Looked::Refused(r, visits, need),
@@ -97,30 +97,23 @@ pub fn read_into(dump: &[u8], l: Layout, a: Looked, buffer: &mut [u8]) -> Looked
             if buffer.len() < (shown as usize) {
                 return Looked::Refused(Refusal::ShortBuffer, visits, shown);
             }
-            overlay(buffer, valid_part(dump, l, p, valid), shown as usize);
+            overlay(buffer, valid_part(dump, g, p, valid), shown as usize);
             Looked::Copy(p, valid, shown, visits)
         }
     }
 }
 
 // Chunk c of object o, read into a buffer.
-pub fn read(
-    dump: &[u8],
-    l: Layout,
-    k: u32,
-    o: ObjectId,
-    c: ChunkNumber,
-    buffer: &mut [u8],
-) -> Looked
-    ensures { λ r. ⌜ r ≡ readBy (length (now (buffer .entry))) (chunkOn l k (now (dump .entry)) (o .0) (c .0)) ⌝ }
-    ensures { λ r. ⌜ now (buffer .exit) ≡ bufferBy l (now (dump .entry)) (now (buffer .entry)) r ⌝ }
+pub fn read(dump: &[u8], g: Geometry, o: ObjectId, c: ChunkNumber, buffer: &mut [u8]) -> Looked
+    ensures { λ r. ⌜ r ≡ readBy (length (now (buffer .entry))) (chunkOn g (now (dump .entry)) (o .0) (c .0)) ⌝ }
+    ensures { λ r. ⌜ now (buffer .exit) ≡ bufferBy g (now (dump .entry)) (now (buffer .entry)) r ⌝ }
 {
-    read_into(dump, l, chunk(dump, l, k, o, c), buffer)
+    read_into(dump, g, chunk(dump, g, o, c), buffer)
 }
 
 // The valid bytes of chunk c of object o, as a part of the dump.
-pub fn part(dump: &[u8], l: Layout, k: u32, o: ObjectId, c: ChunkNumber) -> &[u8]
-    ensures { λ r. ⌜ now r ≡ partBy l (now (dump .entry)) (chunkOn l k (now (dump .entry)) (o .0) (c .0)) ⌝ }
+pub fn part(dump: &[u8], g: Geometry, o: ObjectId, c: ChunkNumber) -> &[u8]
+    ensures { λ r. ⌜ now r ≡ partBy g (now (dump .entry)) (chunkOn g (now (dump .entry)) (o .0) (c .0)) ⌝ }
 {
-    part_of(dump, l, chunk(dump, l, k, o, c))
+    part_of(dump, g, chunk(dump, g, o, c))
 }

@@ -10,10 +10,10 @@ use lib.ListN.{length, drop}
 use lib.Dec.{eqb}
 use borrow.Author.Tests.{eqb-false, ne-eqb, lt-ltb, le-ltb}
 use Rattle.page.specs.Numbers.{mostChunk, badChunk}
-use Rattle.page.specs.Kinds.{kindAt}
+use Rattle.page.specs.Records.{recordAt}
 use Rattle.page.specs.Lengths.{openedOf}
-use Rattle.page.specs.declared.layout.Layout.{Layout}
-use Rattle.page.specs.declared.layout.Opened.the-variants as opened
+use Rattle.page.specs.declared.geometry.Geometry.{Geometry}
+use Rattle.page.specs.declared.geometry.Opened.the-variants as opened
 use Rattle.page.specs.declared.refusal.Refusal.the-variants.{ShortBuffer}
 use Rattle.page.proofs.Layouts.{roomy-facts}
 use Rattle.page.proofs.Lengths.{opened-facts}
@@ -32,8 +32,8 @@ use Rattle.index.specs.Chains.{objects}
 use Rattle.index.specs.Held.{Held}
 use Rattle.index.specs.Walks.{seenSays, sizeFrom, chunkFrom}
 use Rattle.index.specs.Ahead.{unvisited}
-use Rattle.index.proofs.Looking.{chunk-from-held}
-use Rattle.index.proofs.Ahead.{chunk-ahead}
+use Rattle.index.proofs.Answer.Lookups.{chunk-from-held}
+use Rattle.index.proofs.Walk.Ahead.{chunk-ahead}
 use Rattle.file.specs.Table.{whereWord, validWord, rowPart, wordsOf, chunksIn, rows, allAhead, tableBy, tableFrom, filledBy}
 use Rattle.file.specs.declared.table.Tabled.the-variants as tabled
 use Rattle.file.proofs.Rows.{rows-same}
@@ -65,66 +65,66 @@ same-words (looked.Hole s v) = (refl, refl)
 same-words (looked.Refused r v n) = (refl, refl)
 
 -- a row whose first word is below 2 names no bytes, and another the first bytes of a page
-module _ (l : Layout) (dump : List ℕ) (place valid : ℕ) where
-  pub row-none : place < 2 → rowPart l dump place valid ≡ []
+module _ (g : Geometry) (dump : List ℕ) (place valid : ℕ) where
+  pub row-none : place < 2 → rowPart g dump place valid ≡ []
   unfolding rowPart
   row-none h = rw (lt-ltb place 2 h)
 
-  pub row-page : 2 ≤ place → rowPart l dump place valid ≡ validPart l dump (place - 2) valid
+  pub row-page : 2 ≤ place → rowPart g dump place valid ≡ validPart g dump (place - 2) valid
   unfolding rowPart
   row-page h = rw (le-ltb place 2 h)
 
 -- the part that a row names is the one that the lookup lends
-pub row-part : (l : Layout) (dump : List ℕ) (a : Looked) → rowPart l dump (whereWord a) (validWord a) ≡ partBy l dump a
-row-part l dump (looked.Copy p a s v) =
+pub row-part : (g : Geometry) (dump : List ℕ) (a : Looked) → rowPart g dump (whereWord a) (validWord a) ≡ partBy g dump a
+row-part g dump (looked.Copy p a s v) =
     let e : linkTo (p .0) - 2 ≡ p .0 = omega arith in
-    row-page l dump (linkTo (p .0)) a (omega arith) ∙ rw e (sym (part-copy l dump p a s v))
-row-part l dump (looked.Hole s v) = row-none l dump 0 0 (omega arith) ∙ sym (part-hole l dump s v)
-row-part l dump (looked.Refused r v n) = row-none l dump 1 0 (omega arith) ∙ sym (part-refused l dump r v n)
+    row-page g dump (linkTo (p .0)) a (omega arith) ∙ rw e (sym (part-copy g dump p a s v))
+row-part g dump (looked.Hole s v) = row-none g dump 0 0 (omega arith) ∙ sym (part-hole g dump s v)
+row-part g dump (looked.Refused r v n) = row-none g dump 1 0 (omega arith) ∙ sym (part-refused g dump r v n)
 
 -- an accepted dump has data in its pages
-pub data-some : (l : Layout) (k n m : ℕ) → openedOf l k n ≡ opened.Pages m → 0 < l .«data»
-data-some l k n m e = let f = roomy-facts l (opened-facts l k n m e .room) in omega (arith, f .header)
+pub data-some : (g : Geometry) (n m : ℕ) → openedOf g n ≡ opened.Pages m → 0 < g .layout .«data»
+data-some g n m e = let f = roomy-facts (g .layout) (opened-facts g n m e .room) in omega (arith, f .header)
 
 module _
-    (l : Layout) (k : ℕ) (dump cells : List ℕ) (o z v n : ℕ)
-    (e : openedOf l k (length dump) ≡ opened.Pages n)
-    (s : sizeFrom l k dump cells o ≡ sized.Size z v)
+    (g : Geometry) (dump cells : List ℕ) (o z v n : ℕ)
+    (e : openedOf g (length dump) ≡ opened.Pages n)
+    (s : sizeFrom g dump cells o ≡ sized.Size z v)
   where
     -- the rows that one walk fills are those of the lookups
     pub rows-looked :
-        rows (allAhead (kindAt l dump) (l .«data») z n cells o (firstLink n cells o)) (chunksIn (l .«data») z)
-        ≡ rows (chunkFrom l k dump cells o) (chunksIn (l .«data») z)
+        rows (allAhead (recordAt g dump) (g .layout .«data») z n cells o (firstLink n cells o)) (chunksIn (g .layout .«data») z)
+        ≡ rows (chunkFrom g dump cells o) (chunksIn (g .layout .«data») z)
     rows-looked =
         rows-same _ _ _
         (λ c h i.
-        let b = chunk-before (l .«data») z c h i in
-        rw (chunk-ahead l k dump cells o z v n e s c (b .0) (b .1)) (same-words (chunkFrom l k dump cells o c)))
+        let b = chunk-before (g .layout .«data») z c h i in
+        rw (chunk-ahead g dump cells o z v n e s c (b .0) (b .1)) (same-words (chunkFrom g dump cells o c)))
 
     -- what is answered, and left in the table
     module _ (table : List ℕ) where
       pub table-short :
-          length table < wordsOf (chunksIn (l .«data») z) →
-          tableFrom l k dump cells o (length table) ≡ tabled.Refused ShortBuffer (wordsOf (chunksIn (l .«data») z))
+          length table < wordsOf (chunksIn (g .layout .«data») z) →
+          tableFrom g dump cells o (length table) ≡ tabled.Refused ShortBuffer (wordsOf (chunksIn (g .layout .«data») z))
       unfolding tableFrom tableBy
       table-short h = rw (s, lt-ltb _ _ h)
 
       pub table-rows :
-          wordsOf (chunksIn (l .«data») z) ≤ length table →
-          tableFrom l k dump cells o (length table) ≡ tabled.Rows z (chunksIn (l .«data») z)
+          wordsOf (chunksIn (g .layout .«data») z) ≤ length table →
+          tableFrom g dump cells o (length table) ≡ tabled.Rows z (chunksIn (g .layout .«data») z)
       unfolding tableFrom tableBy
       table-rows h = rw (s, le-ltb _ _ h)
 
       pub table-filled :
-          filledBy (chunkFrom l k dump cells o) table (tabled.Rows z (chunksIn (l .«data») z))
-          ≡ rows (allAhead (kindAt l dump) (l .«data») z n cells o (firstLink n cells o)) (chunksIn (l .«data») z) ++ drop (wordsOf (chunksIn (l .«data») z)) table
+          filledBy (chunkFrom g dump cells o) table (tabled.Rows z (chunksIn (g .layout .«data») z))
+          ≡ rows (allAhead (recordAt g dump) (g .layout .«data») z n cells o (firstLink n cells o)) (chunksIn (g .layout .«data») z) ++ drop (wordsOf (chunksIn (g .layout .«data») z)) table
       unfolding filledBy
-      table-filled = ap (λ (x : List ℕ). x ++ drop (wordsOf (chunksIn (l .«data») z)) table) (sym rows-looked)
+      table-filled = ap (λ (x : List ℕ). x ++ drop (wordsOf (chunksIn (g .layout .«data») z)) table) (sym rows-looked)
 
 -- on cells that hold exactly the added pages, each row is what the rules answer where pages not added read as blank
 pub rows-held :
-    (l : Layout) (k : ℕ) (dump : List ℕ) (n : ℕ) (e : openedOf l k (length dump) ≡ opened.Pages n)
-    (added : ℕ → Bool) (cells : List ℕ) (held : Held n (objects (kindAt l dump)) (ageOf (kindAt l dump)) added cells) (o m : ℕ) →
-    rows (chunkFrom l k dump cells o) m ≡ rows (lookedOf (seenSays (kindAt l dump) added) o n (l .«data»)) m
-rows-held l k dump n e added cells held o m =
-    rows-same _ _ m (λ c h i. rw (chunk-from-held l k dump n e added cells held o c .0) (refl, refl))
+    (g : Geometry) (dump : List ℕ) (n : ℕ) (e : openedOf g (length dump) ≡ opened.Pages n)
+    (added : ℕ → Bool) (cells : List ℕ) (held : Held n (objects (recordAt g dump)) (ageOf (recordAt g dump)) added cells) (o m : ℕ) →
+    rows (chunkFrom g dump cells o) m ≡ rows (lookedOf (seenSays (recordAt g dump) added) o n (g .layout .«data»)) m
+rows-held g dump n e added cells held o m =
+    rows-same _ _ m (λ c h i. rw (chunk-from-held g dump n e added cells held o c .0) (refl, refl))

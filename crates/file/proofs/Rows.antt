@@ -1,19 +1,24 @@
 -- Rows of a table. On a walk, the row of each chunk is free, and then the answer still lies ahead, or it is done, and then it has the answer.
 -- Noting a record keeps that: it writes to the row of its own chunk alone, if that is free and the record is the answer.
 use Prim.Native.Nat.{ℕ, zero, suc, _+_, _-_, _≤_, _<_, min}
-use mathlib.Core.Bool.{Bool, true, false}
+use mathlib.Core.Bool.{Bool, true, false, not, _&&_}
 use mathlib.Core.List.{List, [], _∷_, _++_, append-assoc}
 use mathlib.Core.Path.{_≡_, refl, sym, ap, _∙_}
 use native.Mathlib.Omega.{arith}
 use lib.ListN.{length, take, drop, set, getD, replicate, length-set, length-append, length-drop, length-replicate, getD-replicate, List·getD-append, take-append-drop}
 use lib.Seq.{take-suc, getD-set-same, getD-set-other, getD-drop, drop-set-lt, drop-at, drop-drop}
-use lib.Dec.{eqb, ltb, leb}
-use borrow.Author.Tests.{eqb-true, eqb-false, eq-eqb, ne-eqb, ltb-true, ltb-false, lt-ltb, le-ltb, leb-false, lt-leb}
-use Rattle.page.specs.declared.kind.Kind.{Kind}
+use lib.Dec.{eqb, ltb}
+use borrow.Author.Tests.{eqb-true, eqb-false, eq-eqb, ne-eqb, ltb-false, le-ltb, not-true}
+use Rattle.page.specs.Records.{isHeader}
+use Rattle.page.specs.declared.record.Data.{Data}
+use Rattle.page.specs.declared.record.Record.{Record}
+use Rattle.page.specs.declared.record.Record.the-variants as said
 use Rattle.page.specs.declared.refusal.Refusal.the-variants.{IndexDamaged}
 use Rattle.page.proofs.Layouts.{and-left, and-right}
 use Rattle.page.proofs.Searching.{by-test}
-use Rattle.chunk.specs.Records.{chunkOf, countOf, baseOf}
+use Rattle.chunk.specs.Records.{baseOf}
+use Rattle.chunk.specs.Cuts.{hides, leaves}
+use Rattle.chunk.specs.declared.cut.Cut.{Cut}
 use Rattle.chunk.specs.declared.answer.Looked.{Looked}
 use Rattle.chunk.specs.declared.answer.Looked.the-variants as looked
 use Rattle.chunk.specs.Lookups.{shownOf}
@@ -21,8 +26,9 @@ use Rattle.index.specs.Cells.{word, linkTo}
 use Rattle.index.specs.Chains.{Trace, rec}
 use Rattle.index.specs.Walks.{isShown, found, cutBy}
 use Rattle.index.specs.Ahead.{stillNewest, ahead}
-use Rattle.index.proofs.Ahead.{ahead-here, ahead-on}
-use Rattle.index.proofs.Ordering.{never}
+use Rattle.index.proofs.Walk.Walks.{no-copy}
+use Rattle.index.proofs.Walk.Ahead.{ahead-here, ahead-on}
+use Rattle.index.proofs.Sorted.Order.{never}
 use Rattle.file.specs.Table.{whereWord, validWord, wordsOf, rowAt, rows, noted, closedWord, Closed}
 
 -- a row that has these words
@@ -40,24 +46,24 @@ abbrev pub Told : List ℕ → ℕ → Looked → Type 0
 Told t c answer = Has t c (whereWord answer) (validWord answer)
 
 -- what is noted
-abbrev validAt : ℕ → ℕ → ℕ → ℕ → ℕ → ℕ
-validAt P size cut ch n = min n (min (shownOf P ch size) (cut - baseOf P ch))
+abbrev validAt : (P size : ℕ) → Cut → (ch n : ℕ) → ℕ
+validAt P size cut ch n = min n (leaves cut (baseOf P ch) (shownOf P ch size))
 
-abbrev stored : List ℕ → ℕ → ℕ → ℕ → ℕ → ℕ → ℕ → List ℕ
+abbrev stored : (t : List ℕ) (P size : ℕ) → Cut → (q ch n : ℕ) → List ℕ
 stored t P size cut q ch n = set (set t (rowAt ch) (linkTo q)) (rowAt ch + 1) (validAt P size cut ch n)
 
 -- a record is noted in the free row of its chunk, which is not hidden; or nothing is
-pub data Noted (t : List ℕ) (m P size cut q ch n : ℕ) : Type 0 where
+pub data Noted (t : List ℕ) (m P size : ℕ) (cut : Cut) (q ch n : ℕ) : Type 0 where
   passed : noted t m P size cut q ch n ≡ t → Noted t m P size cut q ch n
   wrote :
       0 < ch →
       ch ≤ m →
       word t (rowAt ch) ≡ 0 →
-      baseOf P ch < cut →
+      hides cut (baseOf P ch) ≡ false →
       noted t m P size cut q ch n ≡ stored t P size cut q ch n →
       Noted t m P size cut q ch n
 
-module _ (t : List ℕ) (m P size cut q ch n : ℕ) where
+module _ (t : List ℕ) (m P size : ℕ) (cut : Cut) (q ch n : ℕ) where
   pub noting : Noted t m P size cut q ch n
   unfolding noted
   noting =
@@ -69,18 +75,18 @@ module _ (t : List ℕ) (m P size cut q ch n : ℕ) where
       (λ b.
       by-test (eqb (word t (rowAt ch)) 0) _
       (λ d.
-      by-test (leb cut (baseOf P ch)) _
+      by-test (hides cut (baseOf P ch)) _
       (λ e. passed (rw (a, b, d, e) refl))
       (λ e.
       let z : ch ≡ 0 → ⊥ = eqb-false ch 0 a in
-      wrote (omega arith) (ltb-false _ _ b) (eqb-true _ _ d) (leb-false _ _ e) (rw (a, b, d, e) refl)))
+      wrote (omega arith) (ltb-false _ _ b) (eqb-true _ _ d) e (rw (a, b, d, e) refl)))
       (λ d. passed (rw (a, b, d) refl))))
 
   writes :
       0 < ch →
       ch ≤ m →
       word t (rowAt ch) ≡ 0 →
-      baseOf P ch < cut →
+      hides cut (baseOf P ch) ≡ false →
       noted t m P size cut q ch n ≡ stored t P size cut q ch n
   unfolding noted
   writes h i z b =
@@ -88,7 +94,7 @@ module _ (t : List ℕ) (m P size cut q ch n : ℕ) where
         ne-eqb ch 0 (λ e. absurd (omega arith)),
         le-ltb m ch i,
         eq-eqb (word t (rowAt ch)) 0 z,
-        lt-leb cut (baseOf P ch) b,
+        b,
       )
 
   -- noting leaves the length, and the words behind the rows
@@ -109,7 +115,7 @@ module _ (t : List ℕ) (m P size cut q ch n : ℕ) where
           (drop-set-lt (wordsOf m) (set t (rowAt ch) (linkTo q)) (rowAt ch + 1) (validAt P size cut ch n) (omega arith)
           ∙ drop-set-lt (wordsOf m) t (rowAt ch) (linkTo q) (omega arith))
 
-module _ (t : List ℕ) (P size cut q ch n : ℕ) where
+module _ (t : List ℕ) (P size : ℕ) (cut : Cut) (q ch n : ℕ) where
   abbrev first : List ℕ
   first = set t (rowAt ch) (linkTo q)
 
@@ -135,54 +141,66 @@ module _ (t : List ℕ) (P size cut q ch n : ℕ) where
     of = getD-set-same first (rowAt ch + 1) (validAt P size cut ch n) 0 (rw (length-set t (rowAt ch) (linkTo q)) (omega arith));
   }
 
-module _ (says : ℕ → Kind) (P size m : ℕ) (t : List ℕ) (room : wordsOf m ≤ length t) (newest : Bool) (cut : ℕ) (chain : Trace) (q : ℕ) (rest : Trace)
-    (e : chain ≡ rec q rest)
-  where
-    abbrev from : ℕ → Bool → ℕ → Trace → Looked
-    from c = ahead says P c (shownOf P c size)
+module _ (says : ℕ → Record) (P size m : ℕ) (t : List ℕ) (newest : Bool) (cut : Cut) (chain : Trace) (q : ℕ) (rest : Trace) (e : chain ≡ rec q rest) where
+  abbrev from : (c : ℕ) → Bool → Cut → Trace → Looked
+  from c = ahead says P c (shownOf P c size)
 
-    -- noting a record keeps every row on the way to its answer
-    module _ (c : ℕ) (some : 0 < c) (most : c ≤ m) (answer : Looked) where
-      abbrev next : Looked
-      next = from c (stillNewest says newest q) (cutBy says newest q cut) rest
+  module _ (c : ℕ) (answer : Looked) where
+    abbrev next : Looked
+    next = from c (stillNewest says newest q) (cutBy says newest q cut) rest
 
-      -- the record is shown for the chunk
-      shown-row : isShown says P c cut q ≡ true → Has t c 0 0 → from c newest cut chain ≡ answer → (u : List ℕ) → u ≡ stored t P size cut q (chunkOf (says q)) (countOf (says q)) → chunkOf (says q) ≡ c → Row u c next answer
-      shown-row h f a u i j =
-          let l : found says P c (shownOf P c size) cut q 0 ≡ answer = sym (ahead-here says P c (shownOf P c size) newest cut chain q rest e h) ∙ a in
-          let o = own t P size cut q (chunkOf (says q)) (countOf (says q)) m (rw j some) (rw j most) room in
-          rw (i, ← l, ← j) (done (omega (arith, o .at)) o)
+    -- nothing is noted in the row of the chunk
+    done-row : (u : List ℕ) → ((w a : ℕ) → Has t c w a → Has u c w a) → 0 < word t (rowAt c) → Told t c answer → Row u c next answer
+    done-row u same g f = let r = same _ _ f in done (omega (arith, r .at, f .at)) r
 
-      -- nothing is noted in the row of the chunk
-      done-row : (u : List ℕ) → ((w a : ℕ) → Has t c w a → Has u c w a) → 0 < word t (rowAt c) → Told t c answer → Row u c next answer
-      done-row u same g f = let r = same _ _ f in done (omega (arith, r .at, f .at)) r
+    free-row : (u : List ℕ) → ((w a : ℕ) → Has t c w a → Has u c w a) → isShown says P c cut q ≡ false → Has t c 0 0 → from c newest cut chain ≡ answer → Row u c next answer
+    free-row u same h f a = free (same 0 0 f) (sym (ahead-on says P c (shownOf P c size) newest cut chain q rest e h) ∙ a)
 
-      free-row : (u : List ℕ) → ((w a : ℕ) → Has t c w a → Has u c w a) → isShown says P c cut q ≡ false → Has t c 0 0 → from c newest cut chain ≡ answer → Row u c next answer
-      free-row u same h f a = free (same 0 0 f) (sym (ahead-on says P c (shownOf P c size) newest cut chain q rest e h) ∙ a)
+    -- passing a header keeps every row on the way to its answer
+    pub header-row : isHeader (says q) ≡ true → Row t c (from c newest cut chain) answer → Row t c next answer
+    header-row h (done g f) = done-row t (λ w a r. r) g f
+    header-row h (free f a) = free-row t (λ w a r. r) (rw (no-copy c (says q) h) refl) f a
+
+    -- and so does noting data
+    module _ (some : 0 < c) (most : c ≤ m) (room : wordsOf m ≤ length t) (d : Data) (k : says q ≡ said.Data d) where
+      abbrev ch : ℕ
+      ch = d .chunk .0
 
       abbrev noting-here : List ℕ
-      noting-here = noted t m P size cut q (chunkOf (says q)) (countOf (says q))
+      noting-here = noted t m P size cut q ch (d .count)
+
+      -- the record is shown for the chunk
+      shown-row : isShown says P c cut q ≡ true → Has t c 0 0 → from c newest cut chain ≡ answer → (u : List ℕ) → u ≡ stored t P size cut q ch (d .count) → ch ≡ c → Row u c next answer
+      shown-row h f a u i j =
+          let l : found says P c (shownOf P c size) cut q 0 ≡ answer = sym (ahead-here says P c (shownOf P c size) newest cut chain q rest e h) ∙ a in
+          let o = own t P size cut q ch (d .count) m (rw j some) (rw j most) room in
+          rw (i, ← l, ← j, k) (done (omega (arith, o .at)) o)
 
       -- what is noted elsewhere
-      elsewhere : (chunkOf (says q) ≡ c → word t (rowAt c) ≡ 0 → baseOf P c < cut → ⊥) → (w a : ℕ) → Has t c w a → Has noting-here c w a
-      elsewhere d w a r = go (noting t m P size cut q (chunkOf (says q)) (countOf (says q)))
+      elsewhere : (ch ≡ c → word t (rowAt c) ≡ 0 → hides cut (baseOf P c) ≡ false → ⊥) → (w a : ℕ) → Has t c w a → Has noting-here c w a
+      elsewhere x w a r = go (noting t m P size cut q ch (d .count))
         where
-          go : Noted t m P size cut q (chunkOf (says q)) (countOf (says q)) → Has noting-here c w a
+          go : Noted t m P size cut q ch (d .count) → Has noting-here c w a
           go (passed s) = rw s r
-          go (wrote h i z b s) = rw s (other t P size cut q (chunkOf (says q)) (countOf (says q)) c w a some h (λ j. d j (rw j at z) (rw j at b)) r)
+          go (wrote h i z b s) = rw s (other t P size cut q ch (d .count) c w a some h (λ j. x j (rw j at z) (rw j at b)) r)
+
+      -- the record is a copy of the chunk, and not hidden
+      shown-by : isShown says P c cut q ≡ true → (ch ≡ c) × (hides cut (baseOf P c) ≡ false)
+      shown-by h =
+          let s : eqb ch c && not (hides cut (baseOf P c)) ≡ true = rw k at h in
+          (eqb-true _ _ (and-left (eqb ch c) _ s), not-true (hides cut (baseOf P c)) (and-right (eqb ch c) _ s))
 
       pub noted-row : Row t c (from c newest cut chain) answer → Row noting-here c next answer
       noted-row (done g f) = done-row noting-here (elsewhere (λ j z b. absurd (omega arith))) g f
       noted-row (free f a) =
           by-test (isShown says P c cut q) _
           (λ h.
-          let j : chunkOf (says q) ≡ c = eqb-true _ _ (and-left (eqb (chunkOf (says q)) c) (ltb (baseOf P c) cut) h) in
-          let b : baseOf P c < cut = ltb-true _ _ (and-right (eqb (chunkOf (says q)) c) (ltb (baseOf P c) cut) h) in
-          let w = writes t m P size cut q (chunkOf (says q)) (countOf (says q)) (rw j some) (rw j most) (rw j (f .at)) (rw j b) in
+          let j = shown-by h .0 in
+          let w = writes t m P size cut q ch (d .count) (rw j some) (rw j most) (rw j (f .at)) (rw j (shown-by h .1)) in
           shown-row h f a noting-here w j)
           (λ h.
           free-row noting-here
-          (elsewhere (λ j z b. let s : isShown says P c cut q ≡ true = rw (eq-eqb (chunkOf (says q)) c j) (lt-ltb (baseOf P c) cut b) in never (sym h ∙ s)))
+          (elsewhere (λ j z b. let s : isShown says P c cut q ≡ true = rw (k, eq-eqb ch c j, b) refl in never (sym h ∙ s)))
           h f a)
 
 -- at the end of a chain a free row is a hole's, and where the chain is damaged it is marked so

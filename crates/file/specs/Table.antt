@@ -2,19 +2,21 @@
 -- first word says where the copy is: 0 for a hole, 1 where a damaged link is met before a copy, q + 2 for page q. The second is the copy's
 -- valid length.
 use Prim.Native.Nat.{ℕ, zero, suc, _+_, _-_, _*_, _/_, _≤_, _<_, min}
-use mathlib.Core.Bool.{Bool, true, not, _||_}
+use mathlib.Core.Bool.{true, not, _||_}
 use mathlib.Core.List.{List, [], _∷_, _++_}
 use mathlib.Core.Path.{_≡_}
 use lib.ListN.{length, set, drop}
-use lib.Dec.{eqb, ltb, leb}
+use lib.Dec.{eqb, ltb}
 use Rattle.page.specs.Choice.{pick}
 use Rattle.page.specs.Numbers.{mostChunk}
-use Rattle.page.specs.declared.kind.Kind.{Kind}
-use Rattle.page.specs.declared.layout.Layout.{Layout}
+use Rattle.page.specs.declared.record.Record.{Record}
+use Rattle.page.specs.declared.geometry.Geometry.{Geometry}
 use Rattle.page.specs.declared.refusal.Refusal.the-variants.{ShortBuffer}
 use Rattle.chunk.specs.Records.{baseOf}
-use Rattle.chunk.specs.Cuts.{nowhere}
+use Rattle.chunk.specs.Cuts.{hides, leaves}
 use Rattle.chunk.specs.Answers.{validPart}
+use Rattle.chunk.specs.declared.cut.Cut.{Cut}
+use Rattle.chunk.specs.declared.cut.Cut.the-variants.{Nowhere}
 use Rattle.chunk.specs.declared.answer.Looked.{Looked}
 use Rattle.chunk.specs.declared.answer.Looked.the-variants as looked
 use Rattle.chunk.specs.declared.answer.Sized.{Sized}
@@ -22,7 +24,7 @@ use Rattle.chunk.specs.declared.answer.Sized.the-variants as sized
 use Rattle.chunk.specs.Lookups.{shownOf}
 use Rattle.index.specs.Cells.{word, linkTo}
 use Rattle.index.specs.Chains.{top}
-use Rattle.index.specs.Walks.{under, sizeFrom, chunkFrom}
+use Rattle.index.specs.Walks.{under, sizeFrom}
 use Rattle.index.specs.Ahead.{ahead}
 use Rattle.file.specs.declared.table.Tabled.{Tabled}
 use Rattle.file.specs.declared.table.Tabled.the-variants.{Rows, Refused}
@@ -39,8 +41,8 @@ validWord (looked.Hole s v) = 0
 validWord (looked.Refused r v n) = 0
 
 -- the part of a dump that a row of these words names: the valid bytes of the copy, and an empty part for the others
-unfoldable pub rowPart : Layout → List ℕ → ℕ → ℕ → List ℕ
-rowPart l dump place valid = pick (ltb place 2) [] (validPart l dump (place - 2) valid)
+unfoldable pub rowPart : Geometry → (dump : List ℕ) (place valid : ℕ) → List ℕ
+rowPart g dump place valid = pick (ltb place 2) [] (validPart g dump (place - 2) valid)
 
 -- how many words so many rows have
 abbrev pub wordsOf : ℕ → ℕ
@@ -51,7 +53,7 @@ abbrev pub rowAt : ℕ → ℕ
 rowAt c = wordsOf (c - 1)
 
 -- how many chunks a file of a size has, with P data bytes to a page, of those that have numbers
-unfoldable pub chunksIn : ℕ → ℕ → ℕ
+unfoldable pub chunksIn : (P size : ℕ) → ℕ
 chunksIn P size = pick (eqb size 0) 0 (min mostChunk ((size - 1) / P + 1))
 
 -- the rows of chunks 1 to m
@@ -60,7 +62,7 @@ rows look zero = []
 rows look (suc c) = rows look c ++ (whereWord (look (suc c)) ∷ validWord (look (suc c)) ∷ [])
 
 -- the table of a file that has a size or not, in so many words
-unfoldable pub tableBy : ℕ → ℕ → Sized → Tabled
+unfoldable pub tableBy : (P room : ℕ) → Sized → Tabled
 tableBy P room (sized.Refused r v) = Refused r 0
 tableBy P room (sized.Size z v) = pick (ltb room (wordsOf (chunksIn P z))) (Refused ShortBuffer (wordsOf (chunksIn P z))) (Rows z (chunksIn P z))
 
@@ -69,22 +71,22 @@ unfoldable pub filledBy : (ℕ → Looked) → List ℕ → Tabled → List ℕ
 filledBy look table (Refused r n) = table
 filledBy look table (Rows z m) = rows look m ++ drop (wordsOf m) table
 
--- the table of object o of a dump of a named layout in blocks of k, by any cells, in so many words
-unfoldable pub tableFrom : Layout → ℕ → List ℕ → List ℕ → ℕ → ℕ → Tabled
-tableFrom l k dump cells o room = tableBy (l .«data») room (sizeFrom l k dump cells o)
+-- the table of object o of a dump, by any cells, in so many words
+unfoldable pub tableFrom : Geometry → (dump cells : List ℕ) (o room : ℕ) → Tabled
+tableFrom g dump cells o room = tableBy (g .layout .«data») room (sizeFrom g dump cells o)
 
 -- what lies ahead for each chunk of a file of a size, from a link on
-abbrev pub allAhead : (ℕ → Kind) → ℕ → ℕ → ℕ → List ℕ → ℕ → ℕ → ℕ → Looked
-allAhead says P size n cells o first c = ahead says P c (shownOf P c size) true nowhere (under says n cells o top first)
+abbrev pub allAhead : (says : ℕ → Record) (P size n : ℕ) (cells : List ℕ) (o first c : ℕ) → Looked
+allAhead says P size n cells o first c = ahead says P c (shownOf P c size) true Nowhere (under says n cells o top first)
 
 -- a table of m rows in which page q, of chunk number c and byte count n, is noted: if the chunk has a row, nothing is noted there, and no newer
 -- header hides it
-unfoldable pub noted : List ℕ → ℕ → ℕ → ℕ → ℕ → ℕ → ℕ → ℕ → List ℕ
+unfoldable pub noted : (t : List ℕ) (m P size : ℕ) → Cut → (q c n : ℕ) → List ℕ
 noted t m P size cut q c n =
     pick (eqb c 0 || ltb m c) t
     (pick (not (eqb (word t (rowAt c)) 0)) t
-    (pick (leb cut (baseOf P c)) t
-    (set (set t (rowAt c) (linkTo q)) (rowAt c + 1) (min n (min (shownOf P c size) (cut - baseOf P c))))))
+    (pick (hides cut (baseOf P c)) t
+    (set (set t (rowAt c) (linkTo q)) (rowAt c + 1) (min n (leaves cut (baseOf P c) (shownOf P c size))))))
 
 -- the first word of a row after a damaged link was met
 abbrev pub closedWord : ℕ → ℕ

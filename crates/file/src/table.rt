@@ -1,35 +1,34 @@
 // The table of a file's chunks: for each, the page that holds its copy and how many bytes of it are valid.
 ghost use mathlib.Core.Path.{_≡_};
-ghost use mathlib.Core.Bool.{true, not, _&&_};
 ghost use mathlib.Core.List.{_++_};
 ghost use Prim.Native.Nat.{_*_, _≤_, _<_, _^_};
 ghost use lib.ListN.{length, drop};
-ghost use lib.Dec.{eqb};
-ghost use Rattle.page.specs.Kinds.{kindAt};
+ghost use Rattle.page.specs.Records.{recordAt};
 ghost use Rattle.page.specs.Lengths.{openedOf};
-ghost use Rattle.page.specs.declared.layout.Opened.the-variants as opened;
-ghost use Rattle.index.specs.Cells.{cellsFor};
+ghost use Rattle.page.specs.declared.geometry.Opened.the-variants as opened;
 ghost use Rattle.index.specs.Walks.{chunkFrom};
 ghost use Rattle.file.specs.Table.{wordsOf, chunksIn, rows, allAhead, noted, closedWord, Closed, filledBy, tableFrom};
 use chunk::answer::Sized;
+use chunk::cut::Cut;
 use chunk::lookup::shown_of;
 use chunk::lookup::valid_of;
 use chunk::record::base_of;
 use chunk::record::smaller;
-use chunk::scan::NOWHERE;
 use index::cells::clear;
-use index::cells::link_at;
+use index::cells::link_of;
+use index::chains::Role;
 use index::chains::Step;
 use index::chains::TOP;
 use index::chains::follow;
 use index::lookups::size;
 use index::slots::first_link;
 use index::walks::cut_past;
-use page::layout::Layout;
-use page::layout::Opened;
+use page::geometry::Geometry;
+use page::geometry::Opened;
 use page::number::ChunkNumber;
 use page::number::ObjectId;
 use page::number::PageNumber;
+use page::record::Data;
 use page::refusal::Refusal;
 
 // The size of a file and how many rows its table has; or a refusal, with the words that ShortBuffer needs.
@@ -51,7 +50,7 @@ fn words_of(count: u32) -> usize
 }
 
 // How many chunks a file of this size has, of those that have numbers.
-fn chunks_in(data: u16, size: u64) -> u32
+fn chunks_in(data: u32, size: u64) -> u32
     requires { ⌜ 0 < «data» ⌝ }
     ensures { λ r. ⌜ r ≡ chunksIn «data» size ⌝ }
     ensures { λ r. ⌜ r < 2 ^ 20 ⌝ }
@@ -62,37 +61,36 @@ fn chunks_in(data: u16, size: u64) -> u32
     smaller(ChunkNumber::MOST as u64, (size - 1) / (data as u64) + 1) as u32
 }
 
-// Notes page q in the row of its chunk, if the table has one, nothing is noted there yet, and the lowest cut of newer headers does not hide the
-// chunk. A header has chunk number 0, and no row.
+// Notes page q, of this data, in the row of its chunk, if the table has one, nothing is noted there yet, and the lowest cut of newer headers does
+// not hide the chunk.
 fn note(
     table: &mut [u32],
     count: u32,
-    data: u16,
+    data: u32,
     size: u64,
-    cut: u64,
+    cut: Cut,
     q: PageNumber,
-    chunk: ChunkNumber,
-    bytes: u32,
+    d: Data,
 )
     requires { ⌜ wordsOf count ≤ length (now table) ⌝ }
     requires { ⌜ q .0 < 2 ^ 31 ⌝ }
-    ensures { λ _. ⌜ now (table .exit) ≡ noted (now (table .entry)) count «data» size cut (q .0) (chunk .0) bytes ⌝ }
+    ensures { λ _. ⌜ now (table .exit) ≡ noted (now (table .entry)) count «data» size cut (q .0) (d .chunk .0) (d .count) ⌝ }
 {
-    if chunk.0 == 0 {
+    if d.chunk.0 == 0 {
         return;
     }
-    if count < chunk.0 {
+    if count < d.chunk.0 {
         return;
     }
-    let i = words_of(chunk.0 - 1);
+    let i = words_of(d.chunk.0 - 1);
     if table[i] != 0 {
         return;
     }
-    let base = base_of(data, chunk);
-    if cut <= base {
+    let base = base_of(data, d.chunk);
+    if cut.hides(base) {
         return;
     }
-    let valid = valid_of(bytes, shown_of(data, size, base), cut, base);
+    let valid = valid_of(d.count, shown_of(data, size, base), cut, base);
     table[i] = q.0 + PAGES;
     table[i + 1] = valid;
 }
@@ -120,20 +118,10 @@ fn mark_damaged(table: &mut [u32], count: u32)
     }
 }
 
-// Whether the newest header is still ahead behind a record of this chunk number, which is 0 for a header.
-fn still_newest(newest: bool, chunk: ChunkNumber) -> bool
-    ensures { λ r. ⌜ r ≡ newest && not (eqb (chunk .0) 0) ⌝ }
-{
-    if !newest {
-        return false;
-    }
-    chunk.0 != 0
-}
-
 // Fills the rows of a file of this size, whose object is o, by one walk down its chain from a link.
 fn fill(
     dump: &[u8],
-    l: Layout,
+    g: Geometry,
     pages: u32,
     cells: &[u32],
     o: ObjectId,
@@ -143,17 +131,16 @@ fn fill(
     table: &mut [u32],
 )
     requires { ⌜ pages ≤ 2 ^ 31 ⌝ }
-    requires { ⌜ cellsFor pages ≤ length (now cells) ⌝ }
     requires { ⌜ wordsOf count ≤ length (now table) ⌝ }
-    ensures { λ _. ⌜ now (table .exit) ≡ rows (allAhead (kindAt l (now (dump .entry))) (l .«data») size pages (now (cells .entry)) (o .0) first) count ++ drop (wordsOf count) (now (table .entry)) ⌝ }
+    ensures { λ _. ⌜ now (table .exit) ≡ rows (allAhead (recordAt g (now (dump .entry))) (g .layout .«data») size pages (now (cells .entry)) (o .0) first) count ++ drop (wordsOf count) (now (table .entry)) ⌝ }
 {
     clear(table, words_of(count));
     let mut link = first;
     let mut bound = TOP;
-    let mut cut = NOWHERE;
+    let mut cut = Cut::Nowhere;
     let mut newest = true;
     loop {
-        let step = follow(dump, l, pages, o, bound, link);
+        let step = follow(dump, g, pages, o, bound, link);
         match step {
             Step::End => {
                 return;
@@ -162,13 +149,15 @@ fn fill(
                 mark_damaged(table, count);
                 return;
             }
-            Step::Record(q, age, chunk, bytes) => {
-                note(table, count, l.data, size, cut, q, chunk, bytes);
-                cut = cut_past(dump, l, q, chunk, newest, cut);
-                newest = still_newest(newest, chunk);
+            Step::Record(q, age, role) => {
                 bound = age;
-                let i = link_at(q);
-                link = cells[i];
+                link = link_of(cells, q);
+                let Role::Data(d) = role else {
+                    cut = cut_past(dump, g, q, newest, cut);
+                    newest = false;
+                    continue;
+                };
+                note(table, count, g.layout.data, size, cut, q, d);
             }
         }
     }
@@ -177,49 +166,41 @@ fn fill(
 // Fills a table with the rows of object o of a dump of so many pages.
 fn table_in(
     dump: &[u8],
-    l: Layout,
-    k: u32,
+    g: Geometry,
     pages: u32,
     cells: &[u32],
     o: ObjectId,
     table: &mut [u32],
 ) -> Tabled
-    requires { ⌜ openedOf l k (length (now dump)) ≡ opened.Pages pages ⌝ }
-    ensures { λ r. ⌜ r ≡ tableFrom l k (now (dump .entry)) (now (cells .entry)) (o .0) (length (now (table .entry))) ⌝ }
-    ensures { λ r. ⌜ now (table .exit) ≡ filledBy (chunkFrom l k (now (dump .entry)) (now (cells .entry)) (o .0)) (now (table .entry)) r ⌝ }
+    requires { ⌜ openedOf g (length (now dump)) ≡ opened.Pages pages ⌝ }
+    ensures { λ r. ⌜ r ≡ tableFrom g (now (dump .entry)) (now (cells .entry)) (o .0) (length (now (table .entry))) ⌝ }
+    ensures { λ r. ⌜ now (table .exit) ≡ filledBy (chunkFrom g (now (dump .entry)) (now (cells .entry)) (o .0)) (now (table .entry)) r ⌝ }
 {
-    let s = size(dump, l, k, cells, o);
+    let s = size(dump, g, cells, o);
     match s {
         Sized::Refused(r, _) => Tabled::Refused(r, 0),
         Sized::Size(bytes, _) => {
-            let count = chunks_in(l.data, bytes);
+            let count = chunks_in(g.layout.data, bytes);
             let words = words_of(count);
             if table.len() < words {
                 return Tabled::Refused(Refusal::ShortBuffer, words as u32);
             }
             let first = first_link(cells, o, pages);
-            fill(dump, l, pages, cells, o, first, bytes, count, table);
+            fill(dump, g, pages, cells, o, first, bytes, count, table);
             Tabled::Rows(bytes, count)
         }
     }
 }
 
-// Fills a table with the rows of object o of a dump of a named layout in blocks of k, by its index, if they all fit: for each chunk where its
+// Fills a table with the rows of object o of a dump, by its index, if they all fit: for each chunk where its
 // copy is and how many bytes of it are valid, as the lookup of the chunk answers.
-pub fn table(
-    dump: &[u8],
-    l: Layout,
-    k: u32,
-    cells: &[u32],
-    o: ObjectId,
-    table: &mut [u32],
-) -> Tabled
-    ensures { λ r. ⌜ r ≡ tableFrom l k (now (dump .entry)) (now (cells .entry)) (o .0) (length (now (table .entry))) ⌝ }
-    ensures { λ r. ⌜ now (table .exit) ≡ filledBy (chunkFrom l k (now (dump .entry)) (now (cells .entry)) (o .0)) (now (table .entry)) r ⌝ }
+pub fn table(dump: &[u8], g: Geometry, cells: &[u32], o: ObjectId, table: &mut [u32]) -> Tabled
+    ensures { λ r. ⌜ r ≡ tableFrom g (now (dump .entry)) (now (cells .entry)) (o .0) (length (now (table .entry))) ⌝ }
+    ensures { λ r. ⌜ now (table .exit) ≡ filledBy (chunkFrom g (now (dump .entry)) (now (cells .entry)) (o .0)) (now (table .entry)) r ⌝ }
 {
-    let p = l.opened(dump.len(), k);
+    let p = g.opened(dump.len());
     match p {
         Opened::Refused(r) => Tabled::Refused(r, 0),
-        Opened::Pages(pages) => table_in(dump, l, k, pages, cells, o, table),
+        Opened::Pages(pages) => table_in(dump, g, pages, cells, o, table),
     }
 }

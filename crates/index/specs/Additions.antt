@@ -5,11 +5,11 @@ use lib.ListN.{length, set, drop, replicate}
 use lib.Dec.{eqb, leb, ltb}
 use Rattle.page.specs.Choice.{pick}
 use Rattle.page.specs.Lengths.{openedOf}
-use Rattle.page.specs.Kinds.{kindAt}
-use Rattle.page.specs.declared.kind.Kind.{Kind}
-use Rattle.page.specs.declared.layout.Layout.{Layout}
-use Rattle.page.specs.declared.layout.Opened.{Opened}
-use Rattle.page.specs.declared.layout.Opened.the-variants as opened
+use Rattle.page.specs.Records.{recordAt}
+use Rattle.page.specs.declared.record.Record.{Record}
+use Rattle.page.specs.declared.geometry.Geometry.{Geometry}
+use Rattle.page.specs.declared.geometry.Opened.{Opened}
+use Rattle.page.specs.declared.geometry.Opened.the-variants as opened
 use Rattle.page.specs.declared.refusal.Refusal.{Refusal}
 use Rattle.page.specs.declared.refusal.Refusal.the-variants.{ShortIndex, BadPage, AlreadyAdded}
 use Rattle.chunk.specs.Records.{ageOf}
@@ -43,8 +43,8 @@ unfoldable pub startIn : Opened → List ℕ → Outcome
 startIn (opened.Refused r) c = refused r c
 startIn (opened.Pages n) c = pick (ltb (length c) (cellsFor n)) (refused ShortIndex c) (outcome Done (emptied n c))
 
-unfoldable pub startOf : Layout → ℕ → List ℕ → List ℕ → Outcome
-startOf l k dump c = startIn (openedOf l k (length dump)) c
+unfoldable pub startOf : Geometry → List ℕ → List ℕ → Outcome
+startOf g dump c = startIn (openedOf g (length dump)) c
 
 -- a page that is no record is marked
 unfoldable pub addOther : List ℕ → ℕ → Outcome
@@ -69,10 +69,10 @@ module _ (n : ℕ) (obj age : ℕ → ℕ) where
       (pick (eqb (obj p) 0) (addOther c p)
       (addRecord c p)))
 
-unfoldable pub addIn : Opened → (ℕ → Kind) → List ℕ → ℕ → Outcome
+unfoldable pub addIn : Opened → (ℕ → Record) → List ℕ → ℕ → Outcome
 addIn (opened.Refused r) says c p = refused r c
 addIn (opened.Pages n) says c p = addTo n (objects says) (ageOf says) c p
 
 -- adding page p of a dump
-unfoldable pub addOf : Layout → ℕ → List ℕ → List ℕ → ℕ → Outcome
-addOf l k dump c p = addIn (openedOf l k (length dump)) (kindAt l dump) c p
+unfoldable pub addOf : Geometry → List ℕ → List ℕ → ℕ → Outcome
+addOf g dump c p = addIn (openedOf g (length dump)) (recordAt g dump) c p

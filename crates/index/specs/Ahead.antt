@@ -3,9 +3,10 @@
 use Prim.Native.Nat.{ℕ}
 use mathlib.Core.Bool.{Bool, not, _&&_}
 use Rattle.page.specs.Choice.{pick}
-use Rattle.page.specs.Counts.{isHeader}
-use Rattle.page.specs.declared.kind.Kind.{Kind}
+use Rattle.page.specs.Records.{isHeader}
+use Rattle.page.specs.declared.record.Record.{Record}
 use Rattle.page.specs.declared.refusal.Refusal.the-variants.{IndexDamaged}
+use Rattle.chunk.specs.declared.cut.Cut.{Cut}
 use Rattle.chunk.specs.declared.answer.Looked.{Looked}
 use Rattle.chunk.specs.declared.answer.Looked.the-variants as looked
 use Rattle.index.specs.Chains.{Trace, clean, broken, rec}
@@ -17,15 +18,15 @@ unvisited (looked.Copy p a s v) = looked.Copy p a s 0
 unvisited (looked.Hole s v) = looked.Hole s 0
 unvisited (looked.Refused r v n) = looked.Refused r 0 n
 
-module _ (says : ℕ → Kind) where
+module _ (says : ℕ → Record) where
   -- whether the newest header is still ahead behind page q
-  abbrev pub stillNewest : Bool → ℕ → Bool
+  abbrev pub stillNewest : (newest : Bool) (q : ℕ) → Bool
   stillNewest newest q = newest && not (isHeader (says q))
 
   module _ (P c shown : ℕ) where
     -- for chunk c, of which the file shows so many bytes: `newest` says whether the newest header is still ahead, `cut` is the lowest cut of
     -- the headers passed
-    unfoldable pub ahead : Bool → ℕ → Trace → Looked
+    unfoldable pub ahead : (newest : Bool) → Cut → Trace → Looked
     ahead newest cut clean = looked.Hole shown 0
     ahead newest cut broken = looked.Refused IndexDamaged 0 0
     ahead newest cut (rec q t) =

@@ -5,16 +5,19 @@ use mathlib.Core.Bool.{Bool, not, _&&_}
 use mathlib.Core.List.{List}
 use lib.Dec.{eqb, ltb}
 use Rattle.page.specs.Choice.{pick}
-use Rattle.page.specs.declared.kind.Kind.{Kind}
-use Rattle.chunk.specs.Records.{objectOf, orderOf, chunkOf, countOf}
+use Rattle.page.specs.declared.record.Record.{Record}
+use Rattle.page.specs.declared.record.Record.the-variants as said
+use Rattle.chunk.specs.Records.{objectOf, orderOf}
 use Rattle.index.specs.Cells.{word, linkAt}
 use Rattle.index.specs.Slots.{first}
 use Rattle.page.specs.declared.number.PageNumber.{PageNumber}
+use Rattle.index.specs.declared.chains.Role.{Role}
+use Rattle.index.specs.declared.chains.Role.the-variants as role
 use Rattle.index.specs.declared.chains.Step.{Step}
 use Rattle.index.specs.declared.chains.Step.the-variants as step
 
 -- the objects of the pages that say this
-abbrev pub objects : (ℕ → Kind) → ℕ → ℕ
+abbrev pub objects : (ℕ → Record) → ℕ → ℕ
 objects says p = objectOf (says p)
 
 -- an age that is above that of every record
@@ -25,19 +28,25 @@ top = 18446744073709551615
 pub data Lead : Type 0 where
   End : Lead
   Damaged : Lead
-  Record : PageNumber → ℕ → Lead
+  To : PageNumber → ℕ → Lead
 
--- the step down a chain by such a link, with the chunk number and the byte count of the page there
-unfoldable pub stepOf : (ℕ → Kind) → Lead → Step
+-- what a record is on its chain: a header, or data; no link leads to another page
+abbrev pub roleOf : Record → Role
+roleOf said.Other = role.Header
+roleOf (said.Header h) = role.Header
+roleOf (said.Data d) = role.Data d
+
+-- the step down a chain by such a link
+unfoldable pub stepOf : (says : ℕ → Record) → Lead → Step
 stepOf says End = step.End
 stepOf says Damaged = step.Damaged
-stepOf says (Record q a) = step.Record q a (record { 0 = chunkOf (says (q .0)) }) (countOf (says (q .0)))
+stepOf says (To q a) = step.Record q a (roleOf (says (q .0)))
 
--- the step to page q, a record of this object, sequence, chunk number and byte count, in the chain of object o below an age
-abbrev pub stepAt : ℕ → ℕ → ℕ → ℕ → ℕ → ℕ → ℕ → Step
-stepAt q object sequence chunk count o b =
+-- the step to page q, a record of this object and sequence, in the chain of object o below the age b
+abbrev pub stepAt : (q object sequence : ℕ) → Role → (o b : ℕ) → Step
+stepAt q object sequence r o b =
     pick (eqb object o)
-    (pick (ltb (orderOf sequence q) b) (step.Record (record { 0 = q }) (orderOf sequence q) (record { 0 = chunk }) count)
+    (pick (ltb (orderOf sequence q) b) (step.Record (record { 0 = q }) (orderOf sequence q) r)
     step.Damaged) step.Damaged
 
 -- the records that the links lead to, from the newest on: an end, a link that is damaged, or a record and the rest
@@ -50,7 +59,7 @@ pub data Trace : Type 0 where
 abbrev pub by : Lead → (ℕ → ℕ → Trace) → Trace
 by End rest = clean
 by Damaged rest = broken
-by (Record q a) rest = rec (q .0) (rest (q .0) a)
+by (To q a) rest = rec (q .0) (rest (q .0) a)
 
 -- whether a page that has the object x is a record of object o
 abbrev pub isRecordOf : ℕ → ℕ → Bool
@@ -64,7 +73,7 @@ module _ (n : ℕ) (obj age : ℕ → ℕ) where
       pick (ltb w 2) End
       (pick (ltb (w - 2) n)
       (pick (isRecordOf o (obj (w - 2)))
-      (pick (ltb (age (w - 2)) b) (Record (record { 0 = w - 2 }) (age (w - 2)))
+      (pick (ltb (age (w - 2)) b) (To (record { 0 = w - 2 }) (age (w - 2)))
       Damaged) Damaged) Damaged)
 
   -- the chain of object o below the age b from the link w, by at most so many steps

@@ -8,11 +8,12 @@ use mathlib.Core.List.{List, _++_}
 use mathlib.Core.Logic.{_⊎_}
 use mathlib.Core.Path.{_≡_}
 use lib.ListN.{length, take, drop}
-use Rattle.page.specs.Kinds.{kindAt}
+use Rattle.page.specs.Records.{recordAt}
 use Rattle.page.specs.Lengths.{pageCount}
-use Rattle.page.specs.declared.layout.Layout.{Layout}
+use Rattle.page.specs.declared.geometry.Geometry.{Geometry}
 use Rattle.chunk.specs.Records.{ageOf}
 use Rattle.chunk.specs.Newest.{records}
+use Rattle.index.specs.Cells.{cellsFor, word}
 use Rattle.index.specs.Additions.{startOf}
 use Rattle.index.specs.Chains.{objects, Trace, clean, broken, rec, chain, top}
 use Rattle.index.specs.Held.{noneAdded}
@@ -32,38 +33,40 @@ Falling age b clean = Unit {0}
 Falling age b broken = ⊥
 Falling age b (rec q rest) = (age q < b) × Falling age (age q) rest
 
--- the words after an accepted start of k pages a block, lent the first w of the memory c
-abbrev pub started : Layout → List ℕ → ℕ → ℕ → List ℕ → List ℕ
-started l dump k w c = startOf l k dump (take w c) .cells ++ drop w c
+-- the words after an accepted start, lent the first w of the memory c
+abbrev pub started : Geometry → List ℕ → ℕ → List ℕ → List ℕ
+started g dump w c = startOf g dump (take w c) .cells ++ drop w c
 
-module _ (l : Layout) (dump c : List ℕ) (rs : List Request) where
+module _ (g : Geometry) (dump c : List ℕ) (rs : List Request) where
   -- the pages that the list has added, and each object's chain after it, as the stored links give it from the stored first record
   abbrev pub isAdded : ℕ → Bool
-  isAdded = addedOf l dump (length c) noneAdded rs
+  isAdded = addedOf g dump (length c) noneAdded rs
 
   abbrev pub chainAfter : ℕ → Trace
-  chainAfter o = chain (pageCount l (length dump)) (objects (kindAt l dump)) (ageOf (kindAt l dump)) (wordsOf l dump c rs) o
+  chainAfter o = chain (pageCount g (length dump)) (objects (recordAt g dump)) (ageOf (recordAt g dump)) (wordsOf g dump c rs) o
 
   -- how many added records an object has
   abbrev pub addedRecords : ℕ → ℕ
-  addedRecords o = records (seenSays (kindAt l dump) isAdded) o (pageCount l (length dump))
+  addedRecords o = records (seenSays (recordAt g dump) isAdded) o (pageCount g (length dump))
 
   pub record Demand3 : Type 0 where
     -- every answer is the paper's: demand 2 on the dump with the pages not yet added read as blank, refusal, visits and bytes included;
     -- a page's second accepted addition, and no other, is AlreadyAdded; IndexDamaged is never given
-    pub answers : answersOn l dump c rs ≡ answersBy l dump (length c) noneAdded rs
+    pub answers : answersOn g dump c rs ≡ answersBy g dump (length c) noneAdded rs
+    -- the words past the index are as they were
+    pub past : (i : ℕ) → cellsFor (pageCount g (length dump)) ≤ i → word (wordsOf g dump c rs) i ≡ word c i
     -- a lookup after the list visits no more records than the object's added ones
-    pub size-visits : (o : ℕ) → sizeVisits (sizeSeen l dump (length c) isAdded o (pageCount l (length dump))) ≤ addedRecords o
-    pub chunk-visits : (o q : ℕ) → chunkVisits (chunkSeen l dump (length c) isAdded o q (pageCount l (length dump))) ≤ addedRecords o
+    pub size-visits : (o : ℕ) → sizeVisits (sizeSeen g dump (length c) isAdded o (pageCount g (length dump))) ≤ addedRecords o
+    pub chunk-visits : (o q : ℕ) → chunkVisits (chunkSeen g dump (length c) isAdded o q (pageCount g (length dump))) ≤ addedRecords o
     -- each object's chain holds only that object's added records
-    pub only : (o p : ℕ) → 0 < o → OnChain p (chainAfter o) → (p < pageCount l (length dump)) × (objects (kindAt l dump) p ≡ o) × (isAdded p ≡ true)
+    pub only : (o p : ℕ) → 0 < o → OnChain p (chainAfter o) → (p < pageCount g (length dump)) × (objects (recordAt g dump) p ≡ o) × (isAdded p ≡ true)
     -- and all of them
-    pub all : (o p : ℕ) → 0 < o → p < pageCount l (length dump) → objects (kindAt l dump) p ≡ o → isAdded p ≡ true → OnChain p (chainAfter o)
+    pub all : (o p : ℕ) → 0 < o → p < pageCount g (length dump) → objects (recordAt g dump) p ≡ o → isAdded p ≡ true → OnChain p (chainAfter o)
     -- strictly from newest to oldest, so each once
-    pub order : (o : ℕ) → 0 < o → Falling (ageOf (kindAt l dump)) top (chainAfter o)
+    pub order : (o : ℕ) → 0 < o → Falling (ageOf (recordAt g dump)) top (chainAfter o)
     -- and no chains share a record
     pub apart : (o o′ p : ℕ) → 0 < o → 0 < o′ → OnChain p (chainAfter o) → OnChain p (chainAfter o′) → o ≡ o′
 
 -- the demand
 abbrev pub Demand : Type 0
-Demand = (l : Layout) (dump : List ℕ) (k w : ℕ) (c : List ℕ) → startOf l k dump (take w c) .answer ≡ Done → (rs : List Request) → Demand3 l dump (started l dump k w c) rs
+Demand = (g : Geometry) (dump : List ℕ) (w : ℕ) (c : List ℕ) → startOf g dump (take w c) .answer ≡ Done → (rs : List Request) → Demand3 g dump (started g dump w c) rs

@@ -8,12 +8,11 @@ use lib.ListN.{length}
 use lib.Dec.{eqb, ltb}
 use Rattle.page.specs.Choice.{pick}
 use Rattle.page.specs.Search.{count}
-use Rattle.page.specs.Kinds.{kindAt}
+use Rattle.page.specs.Records.{isHeader, recordAt}
 use Rattle.page.specs.Lengths.{openedOf}
-use Rattle.page.specs.Refusals.{refusalNumber}
-use Rattle.page.specs.declared.kind.Kind.{Kind}
-use Rattle.page.specs.declared.layout.Layout.{Layout}
-use Rattle.page.specs.declared.refusal.Refusal.the-variants.{NoHeader, ShortIndex, IndexDamaged}
+use Rattle.page.specs.declared.record.Record.{Record}
+use Rattle.page.specs.declared.geometry.Geometry.{Geometry}
+use Rattle.page.specs.declared.refusal.Refusal.the-variants.{ShortIndex, IndexDamaged}
 use Rattle.chunk.specs.Records.{isGone}
 use Rattle.chunk.specs.Answers.{onPages}
 use Rattle.chunk.specs.Live.{idsOf}
@@ -24,14 +23,12 @@ use Rattle.chunk.specs.declared.answer.Tallied.{Tallied}
 use Rattle.chunk.specs.declared.answer.Tallied.the-variants as tallied
 use Rattle.index.specs.Cells.{cellsFor, keys}
 use Rattle.index.specs.Slots.{slot, used}
-use Rattle.index.specs.Walks.{reach, chainOf}
+use Rattle.index.specs.Chains.{Trace, clean, broken, rec}
+use Rattle.index.specs.Walks.{chainOf}
 use Rattle.index.specs.declared.list.Ask.{Ask}
 use Rattle.index.specs.declared.list.Ask.the-variants.{Live, Any}
 use Rattle.index.specs.declared.list.Standing.{Standing}
 use Rattle.index.specs.declared.list.Standing.the-variants.{Asked, Damaged, Other}
-use Rattle.index.specs.declared.walks.Met.the-variants.{Nothing}
-use Rattle.index.specs.declared.walks.Reached.{Reached}
-use Rattle.index.specs.declared.walks.Reached.the-variants as reached
 
 -- whether every object with a record is asked for, and not the live ones alone
 abbrev pub isAny : Ask → Bool
@@ -48,30 +45,30 @@ isDamaged Asked = false
 isDamaged Damaged = true
 isDamaged Other = false
 
--- how an object stands by its newest header, which says k: it is live if the parent is neither 3 nor 4
-abbrev pub headedStanding : Ask → Kind → Standing
-headedStanding ask k = pick (isAny ask) Asked (pick (isGone k) Other Asked)
+-- how an object stands by its newest header, which is this record: it is live if the parent is neither 3 nor 4
+abbrev pub headedStanding : Ask → Record → Standing
+headedStanding ask r = pick (isAny ask) Asked (pick (isGone r) Other Asked)
 
 -- and without a header: one with data records only is an object too
 abbrev pub headlessStanding : Ask → Bool → Standing
 headlessStanding ask hasRecord = pick (isAny ask && hasRecord) Asked Other
 
--- how an object stands by what the walk to its newest header reached
-unfoldable pub standing : Ask → (ℕ → Kind) → Reached → Standing
-standing ask says (reached.Header h end m v) = headedStanding ask (says (h .0))
-standing ask says (reached.Refused r v) =
-    pick (eqb (refusalNumber r) (refusalNumber IndexDamaged)) Damaged
-    (headlessStanding ask (eqb (refusalNumber r) (refusalNumber NoHeader)))
+-- how an object stands by its chain from here on, of which a record was met before or not: its newest header decides, and a link that is damaged
+-- before that
+unfoldable pub stands : Ask → (ℕ → Record) → Bool → Trace → Standing
+stands ask says met clean = headlessStanding ask met
+stands ask says met broken = Damaged
+stands ask says met (rec q t) = pick (isHeader (says q)) (headedStanding ask (says q)) (stands ask says true t)
 
 -- whether slot s of n is used, and is where its object is looked for
 abbrev pub isOwn : List ℕ → ℕ → ℕ → Bool
 isOwn cells n s = used (keys cells) s && eqb (slot n (keys cells) (keys cells s)) s
 
 -- the objects asked for, on the cells of n pages
-module _ (ask : Ask) (says : ℕ → Kind) (P : ℕ) (cells : List ℕ) (n : ℕ) where
-  -- how object o stands, by the walk of a size lookup
+module _ (ask : Ask) (says : ℕ → Record) (P : ℕ) (cells : List ℕ) (n : ℕ) where
+  -- how object o stands, by its whole chain
   abbrev pub standingOf : ℕ → Standing
-  standingOf o = standing ask says (reach says P 0 0 Nothing 0 (chainOf says P cells o n))
+  standingOf o = stands ask says false (chainOf says P cells o n)
 
   -- how the object of slot s stands, if that is its slot
   unfoldable pub standingAt : ℕ → Standing
@@ -92,7 +89,7 @@ module _ (ask : Ask) (says : ℕ → Kind) (P : ℕ) (cells : List ℕ) (n : ℕ
   tallyIn = pick (ltb 0 (count damagedSlot n)) (tallied.Refused IndexDamaged) (tallied.Count (count askedSlot n))
 
 -- the calls on the cells of n pages
-module _ (says : ℕ → Kind) (P : ℕ) (cells : List ℕ) (n : ℕ) where
+module _ (says : ℕ → Record) (P : ℕ) (cells : List ℕ) (n : ℕ) where
   -- listing the live objects into so many words
   unfoldable pub listIn : ℕ → Listed
   listIn room =
@@ -104,14 +101,14 @@ module _ (says : ℕ → Kind) (P : ℕ) (cells : List ℕ) (n : ℕ) where
   unfoldable pub objectsIn : Tallied
   objectsIn = pick (ltb (length cells) (cellsFor n)) (tallied.Refused ShortIndex) (tallyIn Any says P cells n)
 
--- the calls on a dump of a named layout in blocks of k, by any cells
-module _ (l : Layout) (k : ℕ) (dump cells : List ℕ) where
+-- the calls on a dump, by any cells
+module _ (g : Geometry) (dump cells : List ℕ) where
   -- the live ids; none where the dump is refused
   unfoldable pub idsFrom : List ℕ
-  idsFrom = onPages (λ r. []) (λ n. slotIds Live (kindAt l dump) (l .«data») cells n) (openedOf l k (length dump))
+  idsFrom = onPages (λ r. []) (λ n. slotIds Live (recordAt g dump) (g .layout .«data») cells n) (openedOf g (length dump))
 
   unfoldable pub listFrom : ℕ → Listed
-  listFrom room = onPages (λ r. listed.Refused r 0) (λ n. listIn (kindAt l dump) (l .«data») cells n room) (openedOf l k (length dump))
+  listFrom room = onPages (λ r. listed.Refused r 0) (λ n. listIn (recordAt g dump) (g .layout .«data») cells n room) (openedOf g (length dump))
 
   unfoldable pub objectsFrom : Tallied
-  objectsFrom = onPages (λ r. tallied.Refused r) (λ n. objectsIn (kindAt l dump) (l .«data») cells n) (openedOf l k (length dump))
+  objectsFrom = onPages (λ r. tallied.Refused r) (λ n. objectsIn (recordAt g dump) (g .layout .«data») cells n) (openedOf g (length dump))

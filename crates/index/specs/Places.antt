@@ -5,7 +5,7 @@ use mathlib.Core.Path.{_≡_}
 use lib.ListN.{length}
 use lib.Dec.{eqb, leb}
 use Rattle.page.specs.Choice.{pick}
-use Rattle.page.specs.declared.kind.Kind.{Kind}
+use Rattle.page.specs.declared.record.Record.{Record}
 use Rattle.page.specs.declared.refusal.Refusal.the-variants.{IndexDamaged, AlreadyAdded}
 use Rattle.chunk.specs.Records.{ageOf}
 use Rattle.index.specs.Cells.{cellsFor, linkAt}
@@ -28,11 +28,11 @@ Within n (At at) = at < n
 Within n (Refused r) = Unit {0}
 
 -- the place of page p in the chain of object o from the link w, which stands at a place, where the n pages say this
-abbrev pub placeFrom : (ℕ → Kind) → ℕ → List ℕ → ℕ → ℕ → ℕ → ℕ → Place
+abbrev pub placeFrom : (ℕ → Record) → ℕ → List ℕ → ℕ → ℕ → ℕ → ℕ → Place
 placeFrom says n c o p w at = placeOf (ageOf says) p (trace n (objects says) (ageOf says) c o top w) at
 
 -- page p is a record of object o and of this age, in a dump of n pages whose index has room
-pub record Recorded (says : ℕ → Kind) (n : ℕ) (c : List ℕ) (o p age : ℕ) : Type 0 where
+pub record Recorded (says : ℕ → Record) (n : ℕ) (c : List ℕ) (o p age : ℕ) : Type 0 where
   pub few : n ≤ 2 ^ 31
   pub inside : p < n
   pub room : cellsFor n ≤ length c

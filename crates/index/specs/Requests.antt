@@ -1,14 +1,15 @@
 -- A list of requests on one memory of words, for one unchanged dump and layout (document 01, "Demand 3 exactly"): what our calls answer and
--- leave, and beside it what the paper says. Each request has its own K and its own length of slice; the words past the slice stay as they are.
+-- leave, and beside it what the paper says. Each request has its own K, so that it reads the dump by the list's layout in blocks of its own, and
+-- its own length of slice; the words past the slice stay as they are.
 use Prim.Native.Nat.{ℕ, min}
 use mathlib.Core.Bool.{Bool}
 use mathlib.Core.List.{List, [], _∷_, _++_}
 use lib.ListN.{length, take, drop}
 use lib.Dec.{ltb, leb}
 use Rattle.page.specs.Choice.{pick}
-use Rattle.page.specs.Lengths.{openedOf}
-use Rattle.page.specs.Kinds.{kindAt}
-use Rattle.page.specs.declared.layout.Layout.{Layout}
+use Rattle.page.specs.Lengths.{inBlocks, openedOf}
+use Rattle.page.specs.Records.{recordAt}
+use Rattle.page.specs.declared.geometry.Geometry.{Geometry}
 use Rattle.page.specs.declared.refusal.Refusal.{Refusal}
 use Rattle.page.specs.declared.refusal.Refusal.the-variants.{ShortIndex, BadPage, AlreadyAdded}
 use Rattle.chunk.specs.Answers.{onPages, readBy, bufferBy, partBy}
@@ -52,28 +53,28 @@ pub data Answer : Type 0 where
 abbrev pub listAnswer : List ℕ → List ℕ → Listed → Answer
 listAnswer buffer ids a = aList a (wordsBy ids buffer a)
 
-module _ (l : Layout) (dump : List ℕ) where
+module _ (g : Geometry) (dump : List ℕ) where
   -- what a read and a borrowed part give of a chunk lookup
-  abbrev pub readAnswer : List ℕ → Looked → Answer
-  readAnswer buffer a = aRead (readBy (length buffer) a) (bufferBy l dump buffer (readBy (length buffer) a))
+  abbrev pub readAnswer : ℕ → List ℕ → Looked → Answer
+  readAnswer k buffer a = aRead (readBy (length buffer) a) (bufferBy (inBlocks g k) dump buffer (readBy (length buffer) a))
 
-  abbrev pub partAnswer : Looked → Answer
-  partAnswer a = aPart (partBy l dump a)
+  abbrev pub partAnswer : ℕ → Looked → Answer
+  partAnswer k a = aPart (partBy (inBlocks g k) dump a)
 
   -- OUR CALLS, by the definitions that their contracts equal, on a memory of words of which each is lent the first so many
 
   unfoldable pub answerOn : List ℕ → Request → Answer
-  answerOn c (start k w) = addition (startOf l k dump (take w c) .answer)
-  answerOn c (add k w p) = addition (addOf l k dump (take w c) p .answer)
-  answerOn c (size k w o) = aSize (sizeFrom l k dump (take w c) o)
-  answerOn c (chunk k w o n) = aChunk (chunkFrom l k dump (take w c) o n)
-  answerOn c (read k w o n buffer) = readAnswer buffer (chunkFrom l k dump (take w c) o n)
-  answerOn c (part k w o n) = partAnswer (chunkFrom l k dump (take w c) o n)
-  answerOn c (list k w buffer) = listAnswer buffer (idsFrom l k dump (take w c)) (listFrom l k dump (take w c) (length buffer))
+  answerOn c (start k w) = addition (startOf (inBlocks g k) dump (take w c) .answer)
+  answerOn c (add k w p) = addition (addOf (inBlocks g k) dump (take w c) p .answer)
+  answerOn c (size k w o) = aSize (sizeFrom (inBlocks g k) dump (take w c) o)
+  answerOn c (chunk k w o n) = aChunk (chunkFrom (inBlocks g k) dump (take w c) o n)
+  answerOn c (read k w o n buffer) = readAnswer k buffer (chunkFrom (inBlocks g k) dump (take w c) o n)
+  answerOn c (part k w o n) = partAnswer k (chunkFrom (inBlocks g k) dump (take w c) o n)
+  answerOn c (list k w buffer) = listAnswer buffer (idsFrom (inBlocks g k) dump (take w c)) (listFrom (inBlocks g k) dump (take w c) (length buffer))
 
   unfoldable pub wordsAfter : List ℕ → Request → List ℕ
-  wordsAfter c (start k w) = startOf l k dump (take w c) .cells ++ drop w c
-  wordsAfter c (add k w p) = addOf l k dump (take w c) p .cells ++ drop w c
+  wordsAfter c (start k w) = startOf (inBlocks g k) dump (take w c) .cells ++ drop w c
+  wordsAfter c (add k w p) = addOf (inBlocks g k) dump (take w c) p .cells ++ drop w c
   wordsAfter c (size k w o) = c
   wordsAfter c (chunk k w o n) = c
   wordsAfter c (read k w o n buffer) = c
@@ -95,7 +96,7 @@ module _ (l : Layout) (dump : List ℕ) where
     -- a dump of a named layout that is refused, an index slice that is too short, and then the rest, by the number of pages
     abbrev pub unlessRefused : {A : Type 0} → (Refusal → A) → (ℕ → A) → ℕ → ℕ → A
     unlessRefused refuse answer k w =
-        onPages refuse (λ n. pick (ltb (min w room) (cellsFor n)) (refuse ShortIndex) (answer n)) (openedOf l k (length dump))
+        onPages refuse (λ n. pick (ltb (min w room) (cellsFor n)) (refuse ShortIndex) (answer n)) (openedOf (inBlocks g k) (length dump))
 
     -- an addition of page p of n: BadPage, AlreadyAdded where it has been added, else done
     abbrev pub addedBy : (ℕ → Bool) → ℕ → ℕ → Added
@@ -103,25 +104,25 @@ module _ (l : Layout) (dump : List ℕ) where
 
     -- demand 2's lookups, pages not yet added read as blank
     abbrev pub sizeSeen : (ℕ → Bool) → ℕ → ℕ → Sized
-    sizeSeen done o n = sizedOf (seenSays (kindAt l dump) done) o n (l .«data»)
+    sizeSeen done o n = sizedOf (seenSays (recordAt g dump) done) o n (g .layout .«data»)
 
     abbrev pub chunkSeen : (ℕ → Bool) → ℕ → ℕ → ℕ → Looked
-    chunkSeen done o c n = lookedOf (seenSays (kindAt l dump) done) o n (l .«data») c
+    chunkSeen done o c n = lookedOf (seenSays (recordAt g dump) done) o n (g .layout .«data») c
 
     abbrev pub lookedBy : (ℕ → Bool) → ℕ → ℕ → ℕ → ℕ → Looked
     lookedBy done k w o c = unlessRefused (λ r. looked.Refused r 0 0) (chunkSeen done o c) k w
 
     -- the live objects, pages not yet added read as blank
     abbrev pub liveSeen : (ℕ → Bool) → ℕ → List ℕ
-    liveSeen done n = liveIds (seenSays (kindAt l dump) done) n
+    liveSeen done n = liveIds (seenSays (recordAt g dump) done) n
 
     unfoldable pub answerBy : (ℕ → Bool) → Request → Answer
     answerBy done (start k w) = addition (unlessRefused Refused (λ n. Done) k w)
     answerBy done (add k w p) = addition (unlessRefused Refused (addedBy done p) k w)
     answerBy done (size k w o) = aSize (unlessRefused (λ r. sized.Refused r 0) (sizeSeen done o) k w)
     answerBy done (chunk k w o c) = aChunk (lookedBy done k w o c)
-    answerBy done (read k w o c buffer) = readAnswer buffer (lookedBy done k w o c)
-    answerBy done (part k w o c) = partAnswer (lookedBy done k w o c)
+    answerBy done (read k w o c buffer) = readAnswer k buffer (lookedBy done k w o c)
+    answerBy done (part k w o c) = partAnswer k (lookedBy done k w o c)
     answerBy done (list k w buffer) =
         unlessRefused (λ r. aList (listed.Refused r 0) buffer) (λ n. listAnswer buffer (liveSeen done n) (listedBy (length buffer) (liveSeen done n))) k w
 

@@ -6,11 +6,11 @@ use lib.ListN.{length}
 use lib.Dec.{ltb}
 use Rattle.page.specs.Choice.{pick}
 use Rattle.page.specs.Lengths.{openedOf}
-use Rattle.page.specs.Kinds.{kindAt}
-use Rattle.page.specs.declared.kind.Kind.{Kind}
-use Rattle.page.specs.declared.layout.Layout.{Layout}
-use Rattle.page.specs.declared.layout.Opened.{Opened}
-use Rattle.page.specs.declared.layout.Opened.the-variants as opened
+use Rattle.page.specs.Records.{recordAt}
+use Rattle.page.specs.declared.record.Record.{Record}
+use Rattle.page.specs.declared.geometry.Geometry.{Geometry}
+use Rattle.page.specs.declared.geometry.Opened.{Opened}
+use Rattle.page.specs.declared.geometry.Opened.the-variants as opened
 use Rattle.page.specs.declared.refusal.Refusal.the-variants.{ShortIndex}
 use Rattle.chunk.specs.Records.{ageOf}
 use Rattle.index.specs.Cells.{cellsFor}
@@ -41,15 +41,15 @@ runBy n obj age zero p c = ran Done c
 runBy n obj age (suc m) p c = onward (addTo n obj age c p .answer) (addTo n obj age c p .cells) p (runBy n obj age m (p + 1))
 
 -- a dump or words that no addition would take stop a run at its first page, even if it has none to add
-unfoldable pub runIn : Opened → (ℕ → Kind) → ℕ → ℕ → List ℕ → Ran
+unfoldable pub runIn : Opened → (ℕ → Record) → ℕ → ℕ → List ℕ → Ran
 runIn (opened.Refused r) says from to c = ran (Stopped (record { 0 = from }) r) c
 runIn (opened.Pages n) says from to c =
     pick (ltb (length c) (cellsFor n)) (ran (Stopped (record { 0 = from }) ShortIndex) c)
     (runBy n (objects says) (ageOf says) (to - from) from c)
 
 -- the pages of a dump from one to before another
-unfoldable pub runOf : Layout → ℕ → List ℕ → List ℕ → ℕ → ℕ → Ran
-runOf l k dump c from to = runIn (openedOf l k (length dump)) (kindAt l dump) from to c
+unfoldable pub runOf : Geometry → List ℕ → List ℕ → ℕ → ℕ → Ran
+runOf g dump c from to = runIn (openedOf g (length dump)) (recordAt g dump) from to c
 
 -- the additions of a run as a list of requests: so many pages from page p on, each lent w words
 unfoldable pub adds : ℕ → ℕ → ℕ → ℕ → List Request

@@ -2,8 +2,8 @@
 ghost use mathlib.Core.Path.{_≡_};
 ghost use Prim.Native.Nat.{_+_, _≤_, _<_, _^_};
 ghost use lib.ListN.{length};
-ghost use Rattle.page.specs.Kinds.{kindAt};
-ghost use Rattle.page.specs.declared.layout.Opened.the-variants as opened;
+ghost use Rattle.page.specs.Records.{recordAt};
+ghost use Rattle.page.specs.declared.geometry.Opened.the-variants as opened;
 ghost use Rattle.chunk.specs.Records.{ageOf};
 ghost use Rattle.index.specs.Cells.{cellsFor, linkAt};
 ghost use Rattle.index.specs.Chains.{objects};
@@ -20,12 +20,12 @@ use crate::places::put_link;
 use crate::slots::claim;
 use crate::slots::slot_of;
 use chunk::record::order_of;
-use page::kind::Kind;
-use page::kind::kind_at;
-use page::layout::Layout;
-use page::layout::Opened;
+use page::geometry::Geometry;
+use page::geometry::Opened;
 use page::number::ObjectId;
 use page::number::PageNumber;
+use page::record::Record;
+use page::record::record_at;
 use page::refusal::Refusal;
 
 // What a start or an addition answers.
@@ -46,11 +46,11 @@ fn start_pages(cells: &mut [u32], pages: u32) -> Added
     Added::Done
 }
 
-// Makes the index of a dump of a named layout in blocks of k empty, whatever its words held.
-pub fn start(dump: &[u8], l: Layout, k: u32, cells: &mut [u32]) -> Added
-    ensures { λ r. ⌜ outcome r (now (cells .exit)) ≡ startOf l k (now (dump .entry)) (now (cells .entry)) ⌝ }
+// Makes the index of a dump empty, whatever its words held.
+pub fn start(dump: &[u8], g: Geometry, cells: &mut [u32]) -> Added
+    ensures { λ r. ⌜ outcome r (now (cells .exit)) ≡ startOf g (now (dump .entry)) (now (cells .entry)) ⌝ }
 {
-    let o = l.opened(dump.len(), k);
+    let o = g.opened(dump.len());
     match o {
         Opened::Refused(r) => Added::Refused(r),
         Opened::Pages(pages) => start_pages(cells, pages),
@@ -76,18 +76,18 @@ fn add_at(cells: &mut [u32], o: ObjectId, p: PageNumber, s: u32, at: usize) -> A
 // Adds page p, a record of object o and of this age.
 fn add_record(
     dump: &[u8],
-    l: Layout,
+    g: Geometry,
     pages: u32,
     cells: &mut [u32],
     o: ObjectId,
     p: PageNumber,
     age: u64,
 ) -> Added
-    requires { ⌜ Recorded (kindAt l (now dump)) pages (now cells) (o .0) (p .0) age ⌝ }
-    ensures { λ r. ⌜ outcome r (now (cells .exit)) ≡ addRecord pages (objects (kindAt l (now (dump .entry)))) (ageOf (kindAt l (now (dump .entry)))) (now (cells .entry)) (p .0) ⌝ }
+    requires { ⌜ Recorded (recordAt g (now dump)) pages (now cells) (o .0) (p .0) age ⌝ }
+    ensures { λ r. ⌜ outcome r (now (cells .exit)) ≡ addRecord pages (objects (recordAt g (now (dump .entry)))) (ageOf (recordAt g (now (dump .entry)))) (now (cells .entry)) (p .0) ⌝ }
 {
     let s = slot_of(cells, o, pages);
-    let place = place_of(dump, l, pages, cells, o, p, age, s);
+    let place = place_of(dump, g, pages, cells, o, p, age, s);
     match place {
         Place::Refused(r) => Added::Refused(r),
         Place::At(at) => add_at(cells, o, p, s, at),
@@ -110,13 +110,13 @@ fn add_other(cells: &mut [u32], p: PageNumber) -> Added
 // Adds page p to the index of a dump of so many pages. A page that is no record is passed over: it is marked, and chained nowhere.
 pub(crate) fn add_page(
     dump: &[u8],
-    l: Layout,
+    g: Geometry,
     pages: u32,
     cells: &mut [u32],
     p: PageNumber,
 ) -> Added
     requires { ⌜ pages ≤ 2 ^ 31 ⌝ }
-    ensures { λ r. ⌜ outcome r (now (cells .exit)) ≡ addTo pages (objects (kindAt l (now (dump .entry)))) (ageOf (kindAt l (now (dump .entry)))) (now (cells .entry)) (p .0) ⌝ }
+    ensures { λ r. ⌜ outcome r (now (cells .exit)) ≡ addTo pages (objects (recordAt g (now (dump .entry)))) (ageOf (recordAt g (now (dump .entry)))) (now (cells .entry)) (p .0) ⌝ }
 {
     if cells.len() < cells_for(pages) {
         return Added::Refused(Refusal::ShortIndex);
@@ -124,37 +124,23 @@ pub(crate) fn add_page(
     if pages <= p.0 {
         return Added::Refused(Refusal::BadPage);
     }
-    let k = kind_at(dump, l, p);
-    let Kind::Header {
-        sequence,
-        object,
-        page_type: _,
-        parent: _,
-        size: _,
-        shrink: _,
-    } = k
-    else {
-        let Kind::Data {
-            sequence,
-            object,
-            chunk: _,
-            count: _,
-        } = k
-        else {
+    let r = record_at(dump, g, p);
+    let Record::Header(h) = r else {
+        let Record::Data(d) = r else {
             return add_other(cells, p);
         };
-        return add_record(dump, l, pages, cells, object, p, order_of(sequence, p));
+        return add_record(dump, g, pages, cells, d.object, p, order_of(d.sequence, p));
     };
-    add_record(dump, l, pages, cells, object, p, order_of(sequence, p))
+    add_record(dump, g, pages, cells, h.object, p, order_of(h.sequence, p))
 }
 
-// Adds page p of a dump of a named layout in blocks of k to its index.
-pub fn add(dump: &[u8], l: Layout, k: u32, cells: &mut [u32], p: PageNumber) -> Added
-    ensures { λ r. ⌜ outcome r (now (cells .exit)) ≡ addOf l k (now (dump .entry)) (now (cells .entry)) (p .0) ⌝ }
+// Adds page p of a dump to its index.
+pub fn add(dump: &[u8], g: Geometry, cells: &mut [u32], p: PageNumber) -> Added
+    ensures { λ r. ⌜ outcome r (now (cells .exit)) ≡ addOf g (now (dump .entry)) (now (cells .entry)) (p .0) ⌝ }
 {
-    let o = l.opened(dump.len(), k);
+    let o = g.opened(dump.len());
     match o {
         Opened::Refused(r) => Added::Refused(r),
-        Opened::Pages(pages) => add_page(dump, l, pages, cells, p),
+        Opened::Pages(pages) => add_page(dump, g, pages, cells, p),
     }
 }

@@ -4,13 +4,13 @@ ghost use mathlib.Core.Path.{_≡_};
 ghost use mathlib.Core.List.{_++_};
 ghost use Prim.Native.Nat.{min};
 ghost use lib.ListN.{length, replicate, drop};
-ghost use Rattle.index.specs.Cells.{cellsFor, linkAt, keyAt, firstAt, marked};
+ghost use Rattle.index.specs.Cells.{cellsFor, word, linkAt, keyAt, firstAt, marked};
 use page::number::PageNumber;
 
 // The words for the whole index.
-const SHARED: usize = 16;
+pub const SHARED: usize = 16;
 // The words of a page.
-const PER_PAGE: usize = 4;
+pub const PER_PAGE: usize = 4;
 // The link that leads nowhere, of a page that has been added.
 pub(crate) const LAST: u32 = 1;
 // Links below this lead nowhere; from it on they lead to page 0, page 1 and so on.
@@ -28,6 +28,17 @@ pub fn link_at(p: PageNumber) -> usize
     ensures { λ r. ⌜ r ≡ linkAt (p .0) ⌝ }
 {
     SHARED + PER_PAGE * (p.0 as usize)
+}
+
+// The link of page p; one that leads nowhere where there are not so many words.
+pub fn link_of(cells: &[u32], p: PageNumber) -> u32
+    ensures { λ r. ⌜ r ≡ word (now (cells .entry)) (linkAt (p .0)) ⌝ }
+{
+    let i = link_at(p);
+    if cells.len() <= i {
+        return 0;
+    }
+    cells[i]
 }
 
 // Where the key of slot s stands: 0 where the slot is free, else an object's id.

@@ -2,14 +2,14 @@
 ghost use mathlib.Core.Path.{_≡_};
 ghost use Prim.Native.Nat.{_+_, _≤_, _<_};
 ghost use lib.ListN.{length};
-ghost use Rattle.page.specs.Kinds.{kindAt};
+ghost use Rattle.page.specs.Records.{recordAt};
 ghost use Rattle.chunk.specs.Lookups.{fileAt};
 ghost use Rattle.chunk.specs.Answers.{readBy, partBy, bufferBy};
-ghost use Rattle.index.specs.Cells.{cellsFor};
 ghost use Rattle.index.specs.Chains.{top};
 ghost use Rattle.index.specs.Walks.{recordsIn, sizeFile, sizeAt, sizeWalk, copyFrom, chunkReached, chunkWalk, under, below, sizeIn, chunkIn, sizeFrom, chunkFrom};
 use crate::cells::cells_for;
-use crate::cells::link_at;
+use crate::cells::link_of;
+use crate::chains::Role;
 use crate::chains::Step;
 use crate::chains::TOP;
 use crate::chains::follow;
@@ -22,6 +22,7 @@ use crate::walks::seek_below;
 use chunk::answer::File;
 use chunk::answer::Looked;
 use chunk::answer::Sized;
+use chunk::cut::Cut;
 use chunk::lookup::file_at;
 use chunk::lookup::shown_of;
 use chunk::lookup::valid_of;
@@ -31,39 +32,36 @@ use chunk::record::base_of;
 use chunk::record::count_of;
 use chunk::record::file_size;
 use chunk::record::larger;
-use chunk::scan::NOWHERE;
-use page::kind::kind_at;
-use page::layout::Layout;
-use page::layout::Opened;
+use page::geometry::Geometry;
+use page::geometry::Opened;
 use page::number::ChunkNumber;
 use page::number::ObjectId;
 use page::number::PageNumber;
+use page::record::record_at;
 use page::refusal::Refusal;
 
 // The size of the file whose newest header is page h, with the largest end of the data above it.
-fn size_file(dump: &[u8], l: Layout, h: PageNumber, end: u64, visits: u32) -> Sized
-    ensures { λ s. ⌜ s ≡ sizeFile (sizeAt (kindAt l (now (dump .entry))) (h .0) end) (fileAt (kindAt l (now (dump .entry)) (h .0)) (h .0) visits) ⌝ }
+fn size_file(dump: &[u8], g: Geometry, h: PageNumber, end: u64, visits: u32) -> Sized
+    ensures { λ s. ⌜ s ≡ sizeFile (sizeAt (recordAt g (now (dump .entry))) (h .0) end) (fileAt (recordAt g (now (dump .entry)) (h .0)) (h .0) visits) ⌝ }
 {
-    let k = kind_at(dump, l, h);
-    let f = file_at(k, h, visits);
+    let r = record_at(dump, g, h);
+    let f = file_at(r, h, visits);
     match f {
         File::Refused(no, v) => Sized::Refused(no, v),
-        File::Header(_, v) => Sized::Size(larger(file_size(k) as u64, end), v),
+        File::Header(_, v) => Sized::Size(larger(file_size(r) as u64, end), v),
     }
 }
 
 // The size of object o by its chain from a link. A chunk lookup reaches the header by a walk of its own: a size lookup notes no copies.
-fn size_walk(dump: &[u8], l: Layout, pages: u32, cells: &[u32], o: ObjectId, first: u32) -> Sized
-    requires { ⌜ 0 < o .0 ⌝ }
-    requires { ⌜ cellsFor pages ≤ length (now cells) ⌝ }
-    ensures { λ r. ⌜ r ≡ sizeWalk (kindAt l (now (dump .entry))) (l .«data») (under (kindAt l (now (dump .entry))) pages (now (cells .entry)) (o .0) top first) ⌝ }
+fn size_walk(dump: &[u8], g: Geometry, pages: u32, cells: &[u32], o: ObjectId, first: u32) -> Sized
+    ensures { λ r. ⌜ r ≡ sizeWalk (recordAt g (now (dump .entry))) (g .layout .«data») (under (recordAt g (now (dump .entry))) pages (now (cells .entry)) (o .0) top first) ⌝ }
 {
     let mut link = first;
     let mut bound = TOP;
     let mut end: u64 = 0;
     let mut visits: u32 = 0;
     loop {
-        let step = follow(dump, l, pages, o, bound, link);
+        let step = follow(dump, g, pages, o, bound, link);
         match step {
             Step::End => {
                 if visits == 0 {
@@ -74,24 +72,23 @@ fn size_walk(dump: &[u8], l: Layout, pages: u32, cells: &[u32], o: ObjectId, fir
             Step::Damaged => {
                 return Sized::Refused(Refusal::IndexDamaged, 0);
             }
-            Step::Record(q, age, chunk, count) => {
+            Step::Record(q, age, role) => {
                 visits += 1;
-                if chunk.0 == 0 {
-                    return size_file(dump, l, q, end, visits);
-                }
-                end = end_with(end, l.data, chunk, count);
+                let Role::Data(d) = role else {
+                    return size_file(dump, g, q, end, visits);
+                };
+                end = end_with(end, g.layout.data, d);
                 bound = age;
-                let i = link_at(q);
-                link = cells[i];
+                link = link_of(cells, q);
             }
         }
     }
 }
 
 // The size of object o of a dump of so many pages.
-fn size_in(dump: &[u8], l: Layout, pages: u32, cells: &[u32], o: ObjectId) -> Sized
+fn size_in(dump: &[u8], g: Geometry, pages: u32, cells: &[u32], o: ObjectId) -> Sized
     requires { ⌜ 0 < pages ⌝ }
-    ensures { λ r. ⌜ r ≡ sizeIn (kindAt l (now (dump .entry))) (l .«data») (now (cells .entry)) (o .0) pages ⌝ }
+    ensures { λ r. ⌜ r ≡ sizeIn (recordAt g (now (dump .entry))) (g .layout .«data») (now (cells .entry)) (o .0) pages ⌝ }
 {
     if cells.len() < cells_for(pages) {
         return Sized::Refused(Refusal::ShortIndex, 0);
@@ -99,24 +96,25 @@ fn size_in(dump: &[u8], l: Layout, pages: u32, cells: &[u32], o: ObjectId) -> Si
     if o.is_bad() {
         return Sized::Refused(Refusal::BadObject, 0);
     }
-    size_walk(dump, l, pages, cells, o, first_link(cells, o, pages))
+    size_walk(dump, g, pages, cells, o, first_link(cells, o, pages))
 }
 
-// The size of object o of a dump of a named layout in blocks of k, by its index.
-pub fn size(dump: &[u8], l: Layout, k: u32, cells: &[u32], o: ObjectId) -> Sized
-    ensures { λ r. ⌜ r ≡ sizeFrom l k (now (dump .entry)) (now (cells .entry)) (o .0) ⌝ }
+// The size of object o of a dump, by its index.
+pub fn size(dump: &[u8], g: Geometry, cells: &[u32], o: ObjectId) -> Sized
+    ensures { λ r. ⌜ r ≡ sizeFrom g (now (dump .entry)) (now (cells .entry)) (o .0) ⌝ }
 {
-    let p = Layout::opened_of(l.data, l.spare, l.tag, dump.len(), k);
+    let l = g.layout;
+    let p = Geometry::opened_of(l.data, l.spare, l.tag, g.block, dump.len());
     match p {
         Opened::Refused(r) => Sized::Refused(r, 0),
-        Opened::Pages(pages) => size_in(dump, l, pages, cells, o),
+        Opened::Pages(pages) => size_in(dump, g, pages, cells, o),
     }
 }
 
 // The copy of chunk c that was met above the newest header h of object o, or else the copy below it.
 fn copy_from(
     dump: &[u8],
-    l: Layout,
+    g: Geometry,
     pages: u32,
     cells: &[u32],
     o: ObjectId,
@@ -126,17 +124,14 @@ fn copy_from(
     visits: u32,
     met: Met,
 ) -> Looked
-    requires { ⌜ 0 < o .0 ⌝ }
-    requires { ⌜ cellsFor pages ≤ length (now cells) ⌝ }
-    requires { ⌜ h .0 < pages ⌝ }
-    requires { ⌜ visits + recordsIn (below (kindAt l (now dump)) pages (now cells) (o .0) (h .0)) ≤ pages ⌝ }
-    ensures { λ r. ⌜ r ≡ copyFrom (kindAt l (now (dump .entry))) (l .«data») (c .0) (h .0) shown visits (below (kindAt l (now (dump .entry))) pages (now (cells .entry)) (o .0) (h .0)) met ⌝ }
+    requires { ⌜ visits + recordsIn (below (recordAt g (now dump)) pages (now cells) (o .0) (h .0)) ≤ pages ⌝ }
+    ensures { λ r. ⌜ r ≡ copyFrom (recordAt g (now (dump .entry))) (g .layout .«data») (c .0) (h .0) shown visits (below (recordAt g (now (dump .entry))) pages (now (cells .entry)) (o .0) (h .0)) met ⌝ }
 {
     match met {
-        Met::Nothing => seek_below(dump, l, pages, cells, o, c, h, shown, visits),
+        Met::Nothing => seek_below(dump, g, pages, cells, o, c, h, shown, visits),
         Met::Copy(q) => {
-            let count = count_of(kind_at(dump, l, q));
-            let valid = valid_of(count, shown, NOWHERE, base_of(l.data, c));
+            let count = count_of(record_at(dump, g, q));
+            let valid = valid_of(count, shown, Cut::Nowhere, base_of(g.layout.data, c));
             Looked::Copy(q, valid, shown, visits)
         }
     }
@@ -145,7 +140,7 @@ fn copy_from(
 // Chunk c of object o, whose newest header is page h, with the largest end of data and the first copy above it.
 fn chunk_file(
     dump: &[u8],
-    l: Layout,
+    g: Geometry,
     pages: u32,
     cells: &[u32],
     o: ObjectId,
@@ -155,24 +150,21 @@ fn chunk_file(
     met: Met,
     visits: u32,
 ) -> Looked
-    requires { ⌜ 0 < o .0 ⌝ }
-    requires { ⌜ cellsFor pages ≤ length (now cells) ⌝ }
-    requires { ⌜ h .0 < pages ⌝ }
-    requires { ⌜ visits + recordsIn (below (kindAt l (now dump)) pages (now cells) (o .0) (h .0)) ≤ pages ⌝ }
-    ensures { λ r. ⌜ r ≡ chunkReached (kindAt l (now (dump .entry))) (l .«data») (c .0) (below (kindAt l (now (dump .entry))) pages (now (cells .entry)) (o .0) (h .0)) (Reached.Header h end met visits) ⌝ }
+    requires { ⌜ visits + recordsIn (below (recordAt g (now dump)) pages (now cells) (o .0) (h .0)) ≤ pages ⌝ }
+    ensures { λ r. ⌜ r ≡ chunkReached (recordAt g (now (dump .entry))) (g .layout .«data») (c .0) (below (recordAt g (now (dump .entry))) pages (now (cells .entry)) (o .0) (h .0)) (Reached.Header h end met visits) ⌝ }
 {
-    let k = kind_at(dump, l, h);
-    let f = file_at(k, h, visits);
+    let r = record_at(dump, g, h);
+    let f = file_at(r, h, visits);
     match f {
         File::Refused(no, v) => Looked::Refused(no, v, 0),
         File::Header(_, _) => {
-            let size = larger(file_size(k) as u64, end);
-            let base = base_of(l.data, c);
+            let size = larger(file_size(r) as u64, end);
+            let base = base_of(g.layout.data, c);
             if size <= base {
                 return Looked::Refused(Refusal::PastEnd, visits, 0);
             }
-            let shown = shown_of(l.data, size, base);
-            copy_from(dump, l, pages, cells, o, c, h, shown, visits, met)
+            let shown = shown_of(g.layout.data, size, base);
+            copy_from(dump, g, pages, cells, o, c, h, shown, visits, met)
         }
     }
 }
@@ -180,23 +172,21 @@ fn chunk_file(
 // Chunk c of object o by its chain from a link.
 fn chunk_walk(
     dump: &[u8],
-    l: Layout,
+    g: Geometry,
     pages: u32,
     cells: &[u32],
     o: ObjectId,
     c: ChunkNumber,
     first: u32,
 ) -> Looked
-    requires { ⌜ 0 < o .0 ⌝ }
-    requires { ⌜ cellsFor pages ≤ length (now cells) ⌝ }
-    ensures { λ r. ⌜ r ≡ chunkWalk (kindAt l (now (dump .entry))) (l .«data») (c .0) (under (kindAt l (now (dump .entry))) pages (now (cells .entry)) (o .0) top first) ⌝ }
+    ensures { λ r. ⌜ r ≡ chunkWalk (recordAt g (now (dump .entry))) (g .layout .«data») (c .0) (under (recordAt g (now (dump .entry))) pages (now (cells .entry)) (o .0) top first) ⌝ }
 {
-    let r = reach_header(dump, l, pages, cells, o, c, first);
+    let r = reach_header(dump, g, pages, cells, o, c, first);
     match r {
         Reached::Refused(no, visits) => Looked::Refused(no, visits, 0),
         Reached::Header(h, end, met, visits) => chunk_file(
             dump,
-            l,
+            g,
             pages,
             cells,
             o,
@@ -212,14 +202,14 @@ fn chunk_walk(
 // Chunk c of object o of a dump of so many pages.
 fn chunk_in(
     dump: &[u8],
-    l: Layout,
+    g: Geometry,
     pages: u32,
     cells: &[u32],
     o: ObjectId,
     c: ChunkNumber,
 ) -> Looked
     requires { ⌜ 0 < pages ⌝ }
-    ensures { λ r. ⌜ r ≡ chunkIn (kindAt l (now (dump .entry))) (l .«data») (now (cells .entry)) (o .0) pages (c .0) ⌝ }
+    ensures { λ r. ⌜ r ≡ chunkIn (recordAt g (now (dump .entry))) (g .layout .«data») (now (cells .entry)) (o .0) pages (c .0) ⌝ }
 {
     if cells.len() < cells_for(pages) {
         return Looked::Refused(Refusal::ShortIndex, 0, 0);
@@ -230,46 +220,39 @@ fn chunk_in(
     if c.is_bad() {
         return Looked::Refused(Refusal::BadChunk, 0, 0);
     }
-    chunk_walk(dump, l, pages, cells, o, c, first_link(cells, o, pages))
+    chunk_walk(dump, g, pages, cells, o, c, first_link(cells, o, pages))
 }
 
-// Chunk c of object o of a dump of a named layout in blocks of k, by its index.
-pub fn chunk(dump: &[u8], l: Layout, k: u32, cells: &[u32], o: ObjectId, c: ChunkNumber) -> Looked
-    ensures { λ r. ⌜ r ≡ chunkFrom l k (now (dump .entry)) (now (cells .entry)) (o .0) (c .0) ⌝ }
+// Chunk c of object o of a dump, by its index.
+pub fn chunk(dump: &[u8], g: Geometry, cells: &[u32], o: ObjectId, c: ChunkNumber) -> Looked
+    ensures { λ r. ⌜ r ≡ chunkFrom g (now (dump .entry)) (now (cells .entry)) (o .0) (c .0) ⌝ }
 {
-    let p = Layout::opened_of(l.data, l.spare, l.tag, dump.len(), k);
+    let l = g.layout;
+    let p = Geometry::opened_of(l.data, l.spare, l.tag, g.block, dump.len());
     match p {
         Opened::Refused(r) => Looked::Refused(r, 0, 0),
-        Opened::Pages(pages) => chunk_in(dump, l, pages, cells, o, c),
+        Opened::Pages(pages) => chunk_in(dump, g, pages, cells, o, c),
     }
 }
 
 // Chunk c of object o, read into a buffer, by the dump's index.
 pub fn read(
     dump: &[u8],
-    l: Layout,
-    k: u32,
+    g: Geometry,
     cells: &[u32],
     o: ObjectId,
     c: ChunkNumber,
     buffer: &mut [u8],
 ) -> Looked
-    ensures { λ r. ⌜ r ≡ readBy (length (now (buffer .entry))) (chunkFrom l k (now (dump .entry)) (now (cells .entry)) (o .0) (c .0)) ⌝ }
-    ensures { λ r. ⌜ now (buffer .exit) ≡ bufferBy l (now (dump .entry)) (now (buffer .entry)) r ⌝ }
+    ensures { λ r. ⌜ r ≡ readBy (length (now (buffer .entry))) (chunkFrom g (now (dump .entry)) (now (cells .entry)) (o .0) (c .0)) ⌝ }
+    ensures { λ r. ⌜ now (buffer .exit) ≡ bufferBy g (now (dump .entry)) (now (buffer .entry)) r ⌝ }
 {
-    read_into(dump, l, chunk(dump, l, k, cells, o, c), buffer)
+    read_into(dump, g, chunk(dump, g, cells, o, c), buffer)
 }
 
 // The valid bytes of chunk c of object o as a part of the dump, by its index.
-pub fn part<'a>(
-    dump: &'a [u8],
-    l: Layout,
-    k: u32,
-    cells: &[u32],
-    o: ObjectId,
-    c: ChunkNumber,
-) -> &'a [u8]
-    ensures { λ r. ⌜ now r ≡ partBy l (now (dump .entry)) (chunkFrom l k (now (dump .entry)) (now (cells .entry)) (o .0) (c .0)) ⌝ }
+pub fn part<'a>(dump: &'a [u8], g: Geometry, cells: &[u32], o: ObjectId, c: ChunkNumber) -> &'a [u8]
+    ensures { λ r. ⌜ now r ≡ partBy g (now (dump .entry)) (chunkFrom g (now (dump .entry)) (now (cells .entry)) (o .0) (c .0)) ⌝ }
 {
-    part_of(dump, l, chunk(dump, l, k, cells, o, c))
+    part_of(dump, g, chunk(dump, g, cells, o, c))
 }

@@ -2,7 +2,7 @@
 ghost use mathlib.Core.Path.{_≡_};
 ghost use Prim.Native.Nat.{_<_, _^_};
 ghost use lib.ListN.{length};
-ghost use Rattle.page.specs.Kinds.{kindAt};
+ghost use Rattle.page.specs.Records.{recordAt};
 ghost use Rattle.index.specs.Cells.{word, linkAt, firstAt, isMarked, linked};
 ghost use Rattle.index.specs.Slots.{firstIn};
 ghost use Rattle.index.specs.Places.{Recorded, Within, placeFrom};
@@ -14,7 +14,7 @@ use crate::cells::marked_link;
 use crate::chains::Step;
 use crate::chains::TOP;
 use crate::chains::follow;
-use page::layout::Layout;
+use page::geometry::Geometry;
 use page::number::ObjectId;
 use page::number::PageNumber;
 use page::refusal::Refusal;
@@ -29,7 +29,7 @@ pub enum Place {
 // is not newer, or the last link.
 fn place_from(
     dump: &[u8],
-    l: Layout,
+    g: Geometry,
     pages: u32,
     cells: &[u32],
     o: ObjectId,
@@ -37,15 +37,15 @@ fn place_from(
     age: u64,
     from: usize,
 ) -> Place
-    requires { ⌜ Recorded (kindAt l (now dump)) pages (now cells) (o .0) (p .0) age ⌝ }
+    requires { ⌜ Recorded (recordAt g (now dump)) pages (now cells) (o .0) (p .0) age ⌝ }
     requires { ⌜ from < length (now cells) ⌝ }
-    ensures { λ r. ⌜ r ≡ placeFrom (kindAt l (now (dump .entry))) pages (now (cells .entry)) (o .0) (p .0) (word (now (cells .entry)) from) from ⌝ }
+    ensures { λ r. ⌜ r ≡ placeFrom (recordAt g (now (dump .entry))) pages (now (cells .entry)) (o .0) (p .0) (word (now (cells .entry)) from) from ⌝ }
     ensures { λ r. ⌜ Within (length (now (cells .entry))) r ⌝ }
 {
     let mut at = from;
     let mut bound = TOP;
     loop {
-        let step = follow(dump, l, pages, o, bound, cells[at]);
+        let step = follow(dump, g, pages, o, bound, cells[at]);
         match step {
             Step::End => {
                 return Place::At(at);
@@ -53,7 +53,7 @@ fn place_from(
             Step::Damaged => {
                 return Place::Refused(Refusal::IndexDamaged);
             }
-            Step::Record(q, a, _, _) => {
+            Step::Record(q, a, _) => {
                 if a <= age {
                     if q.0 == p.0 {
                         return Place::Refused(Refusal::AlreadyAdded);
@@ -70,7 +70,7 @@ fn place_from(
 // Where the link to page p goes in the chain of its object o, whose slot is s; an object without a slot has an empty chain.
 pub(crate) fn place_of(
     dump: &[u8],
-    l: Layout,
+    g: Geometry,
     pages: u32,
     cells: &[u32],
     o: ObjectId,
@@ -78,9 +78,9 @@ pub(crate) fn place_of(
     age: u64,
     s: u32,
 ) -> Place
-    requires { ⌜ Recorded (kindAt l (now dump)) pages (now cells) (o .0) (p .0) age ⌝ }
+    requires { ⌜ Recorded (recordAt g (now dump)) pages (now cells) (o .0) (p .0) age ⌝ }
     requires { ⌜ s < pages ⌝ }
-    ensures { λ r. ⌜ r ≡ placeFrom (kindAt l (now (dump .entry))) pages (now (cells .entry)) (o .0) (p .0) (firstIn (now (cells .entry)) s (o .0)) (firstAt s) ⌝ }
+    ensures { λ r. ⌜ r ≡ placeFrom (recordAt g (now (dump .entry))) pages (now (cells .entry)) (o .0) (p .0) (firstIn (now (cells .entry)) s (o .0)) (firstAt s) ⌝ }
     ensures { λ r. ⌜ Within (length (now (cells .entry))) r ⌝ }
 {
     let from = first_at(s);
@@ -88,7 +88,7 @@ pub(crate) fn place_of(
     if cells[i] != o.0 {
         return Place::At(from);
     }
-    place_from(dump, l, pages, cells, o, p, age, from)
+    place_from(dump, g, pages, cells, o, p, age, from)
 }
 
 // Whether page p is marked as added.

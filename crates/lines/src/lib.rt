@@ -6,8 +6,8 @@ use chunk::list::object_count;
 use page::count::Counted;
 use page::count::Counts;
 use page::count::count_kinds;
-use page::layout::Layout;
-use page::layout::Opened;
+use page::geometry::Geometry;
+use page::geometry::Opened;
 use page::refusal::Refusal;
 
 // A name and a number, with more to come on their line.
@@ -28,11 +28,11 @@ pub fn refuse(r: Refusal) {
 }
 
 // The ten lines.
-fn lines(l: Layout, k: u32, pages: u32, c: Counts, objects: u32, live: u32) {
-    put(b"layout=", l.data as u64);
-    put(b"/", l.spare as u64);
-    line(b"/", l.tag as u64);
-    line(b"block=", k as u64);
+fn lines(g: Geometry, pages: u32, c: Counts, objects: u32, live: u32) {
+    put(b"layout=", g.layout.data as u64);
+    put(b"/", g.layout.spare as u64);
+    line(b"/", g.layout.tag as u64);
+    line(b"block=", g.block as u64);
     line(b"pages=", pages as u64);
     line(b"blank=", c.blank as u64);
     line(b"foreign=", c.foreign as u64);
@@ -43,23 +43,23 @@ fn lines(l: Layout, k: u32, pages: u32, c: Counts, objects: u32, live: u32) {
     line(b"live=", live as u64);
 }
 
-// The report of a dump of a layout that was found, in blocks of k pages. Nothing is refused any more then; each call is asked all the same.
-pub fn report(dump: &[u8], l: Layout, k: u32) {
-    let opened = l.opened(dump.len(), k);
+// The report of a dump of a layout that was found. Nothing is refused any more then; each call is asked all the same.
+pub fn report(dump: &[u8], g: Geometry) {
+    let opened = g.opened(dump.len());
     let Opened::Pages(pages) = opened else {
         return;
     };
-    let counted = count_kinds(dump, l, k);
+    let counted = count_kinds(dump, g);
     let Counted::Counts(c) = counted else {
         return;
     };
-    let objects = object_count(dump, l, k);
+    let objects = object_count(dump, g);
     let Tallied::Count(o) = objects else {
         return;
     };
-    let live = live_count(dump, l, k);
+    let live = live_count(dump, g);
     let Tallied::Count(a) = live else {
         return;
     };
-    lines(l, k, pages, c, o, a);
+    lines(g, pages, c, o, a);
 }

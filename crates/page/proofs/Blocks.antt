@@ -3,7 +3,6 @@
 -- A good page's sequence is its sequence word, so that a page with another word does not bear it, whatever else its tags say.
 use Prim.Native.Nat.{ℕ, suc, _+_, _-_, _*_, _/_, _%_, _^_, _≤_, _<_, zero-le}
 use mathlib.Core.Bool.{Bool, true, false}
-use mathlib.Core.List.{[], _∷_}
 use mathlib.Core.Path.{_≡_, refl, sym, _∙_}
 use mathlib.Core.Logic.{⊎-elim}
 use native.Mathlib.Nat.{suc-mul, mul-le-mul-right, div-add-mod', div-eq-of-lt-le, div-lt-iff-lt-mul, eq-or-lt-of-le, zero-mod, add-mod-right}
@@ -11,7 +10,7 @@ use native.Mathlib.Numerals.{add-one}
 use native.Mathlib.Omega.{arith}
 use lib.Arith.{mod-mul}
 use lib.Dec.{eqb, ltb}
-use types.Run.{OneOf}
+use types.Run.{OneOf, miss}
 use denote.Enum.Declared.{tagOf}
 use borrow.Author.Tests.{eqb-true, eq-eqb, ne-eqb}
 use Rattle.page.specs.Choice.{pick}
@@ -21,29 +20,34 @@ use Rattle.page.specs.Layouts.{pageLen}
 use Rattle.page.specs.Lengths.{wholeBlocks, pageCount}
 use Rattle.page.specs.Tags.{blankSequence, leastSequence, mostSequence, isTyped, objectIn, headerClaim, dataClaim, claimOf}
 use Rattle.page.specs.Find.{isGood, sequenceOf, isMarked, bearsSequence, firstSequence, blockSequence, isScored, scoreOf, markedAt, markedOf}
-use Rattle.page.specs.declared.layout.Layout.{Layout}
+use Rattle.page.specs.declared.geometry.Geometry.{Geometry}
 use Rattle.page.specs.declared.tags.Tags.{Tags}
 use Rattle.page.specs.declared.tags.Claim.{Claim}
 use Rattle.page.specs.declared.tags.Claim.the-variants.{Blank, Foreign, Damaged, Header, Data}
 use Rattle.page.proofs.tags.Claim.{the-type}
+use Rattle.page.proofs.Arms.{allBut, before}
 use Rattle.page.proofs.Searching.{by-test, count-step, count-none, count-le}
 use Rattle.page.proofs.Layouts.{product-pos}
 
+-- a header, by which the number of its variant is named: the good variants are the last two
+abbrev someHeader : Claim
+someHeader = Header 0 (record { 0 = 0 })
+
 -- a page is not good where neither good case was met
-pub not-good : (c : Claim) → OneOf (0 ∷ 1 ∷ 2 ∷ []) (tagOf the-type c) → isGood c ≡ false
+pub not-good : (c : Claim) → OneOf (before (tagOf the-type someHeader)) (tagOf the-type c) → isGood c ≡ false
 not-good Blank h = refl
 not-good Foreign h = refl
 not-good Damaged h = refl
-not-good (Header s o) h = absurd (⊎-elim (λ e. omega arith) (⊎-elim (λ e. omega arith) (λ e. omega arith)) h)
-not-good (Data s o c n) h = absurd (⊎-elim (λ e. omega arith) (⊎-elim (λ e. omega arith) (λ e. omega arith)) h)
+not-good (Header s o) h = absurd (miss (before (tagOf the-type someHeader)) (tagOf the-type someHeader) tt h)
+not-good (Data d) h = absurd (miss (before (tagOf the-type someHeader)) (tagOf the-type (Data d)) tt h)
 
 -- and marked where the blank case was not
-pub not-blank : (c : Claim) → OneOf (1 ∷ 2 ∷ 3 ∷ 4 ∷ []) (tagOf the-type c) → isMarked c ≡ true
-not-blank Blank h = absurd (⊎-elim (λ e. omega arith) (⊎-elim (λ e. omega arith) (⊎-elim (λ e. omega arith) (λ e. omega arith))) h)
+pub not-blank : (c : Claim) → OneOf (allBut (tagOf the-type Blank) 5) (tagOf the-type c) → isMarked c ≡ true
+not-blank Blank h = absurd (miss (allBut (tagOf the-type Blank) 5) (tagOf the-type Blank) tt h)
 not-blank Foreign h = refl
 not-blank Damaged h = refl
 not-blank (Header s o) h = refl
-not-blank (Data s o c n) h = refl
+not-blank (Data d) h = refl
 
 module _ (said : ℕ → Claim) where
   -- a search that is not at its end looks at the next page
@@ -99,15 +103,15 @@ block-ends k block pages h e f g =
     omega (arith, mul-le-mul-right k d, suc-mul (block / k) k)
 
 -- the pages of whole blocks come out even
-pub whole-pages : (l : Layout) (k n : ℕ) → 0 < k → 0 < pageLen l → wholeBlocks l k n ≡ true → pageCount l n % k ≡ 0
+pub whole-pages : (g : Geometry) (n : ℕ) → 0 < g .block → 0 < pageLen (g .layout) → wholeBlocks g n ≡ true → pageCount g n % g .block ≡ 0
 unfolding wholeBlocks
-whole-pages l k n h g e =
-    let z : n % (k * pageLen l) ≡ 0 = eqb-true _ _ e in
-    let s = mod-mul n h g in
-    let low : 0 ≤ pageCount l n % k = zero-le in
+whole-pages g n h long e =
+    let z : n % (g .block * pageLen (g .layout)) ≡ 0 = eqb-true _ _ e in
+    let s = mod-mul n h long in
+    let low : 0 ≤ pageCount g n % g .block = zero-le in
     ⊎-elim
     (λ q. sym q)
-    (λ some. let p : 0 < pageCount l n % k * pageLen l = product-pos some g in absurd (omega arith))
+    (λ some. let p : 0 < pageCount g n % g .block * pageLen (g .layout) = product-pos some long in absurd (omega arith))
     (eq-or-lt-of-le low)
 
 -- a page that is good bears this sequence

@@ -11,7 +11,7 @@ use Rattle.page.specs.Search.{count, more}
 use Rattle.page.specs.Lengths.{pageCount}
 use Rattle.page.specs.Kinds.{kindAt}
 use Rattle.page.specs.Counts.{countsBelow, withKind, AtMost, isBlank, isForeign, isDamaged, isHeader, isData}
-use Rattle.page.specs.declared.layout.Layout.{Layout}
+use Rattle.page.specs.declared.geometry.Geometry.{Geometry}
 use Rattle.page.specs.declared.count.Counts.{Counts}
 use Rattle.page.specs.declared.kind.Kind.{Kind}
 use Rattle.page.specs.declared.kind.Kind.the-variants.{Blank, Foreign, Damaged, Header, Data}
@@ -26,17 +26,17 @@ pub one-kind : (k : Kind) → one (isBlank k) + one (isForeign k) + one (isDamag
 one-kind Blank = refl
 one-kind Foreign = refl
 one-kind Damaged = refl
-one-kind (Header s o t p z m) = refl
-one-kind (Data s o c n) = refl
+one-kind (Header h) = refl
+one-kind (Data d) = refl
 
-module _ (l : Layout) (dump : List ℕ) where
+module _ (g : Geometry) (dump : List ℕ) where
   -- the next page counted too
-  pub counts-next : (n : ℕ) → countsBelow l dump (n + 1) ≡ withKind (countsBelow l dump n) (kindAt l dump n)
+  pub counts-next : (n : ℕ) → countsBelow g dump (n + 1) ≡ withKind (countsBelow g dump n) (kindAt g dump n)
   unfolding countsBelow count
   counts-next n = rw add-one
 
   -- no count is above the number of pages counted
-  pub counts-at-most : (n m : ℕ) (c : Counts) → c ≡ countsBelow l dump n → n ≤ m → AtMost m c
+  pub counts-at-most : (n m : ℕ) (c : Counts) → c ≡ countsBelow g dump n → n ≤ m → AtMost m c
   unfolding countsBelow
   counts-at-most n m c e h =
       rw e record {
@@ -56,15 +56,15 @@ total-with : (c : Counts) (k : Kind) → total (withKind c k) ≡ total c + 1
 total-with c Blank = omega arith
 total-with c Foreign = omega arith
 total-with c Damaged = omega arith
-total-with c (Header s o t p z m) = omega arith
-total-with c (Data s o n b) = omega arith
+total-with c (Header h) = omega arith
+total-with c (Data d) = omega arith
 
 -- the five counts of the first n pages add up to n
-pub adds-up : (l : Layout) (dump : List ℕ) (n : ℕ) → total (countsBelow l dump n) ≡ n
+pub adds-up : (g : Geometry) (dump : List ℕ) (n : ℕ) → total (countsBelow g dump n) ≡ n
 unfolding countsBelow count
-adds-up l dump zero = refl
-adds-up l dump (suc n) = omega (arith, total-with (countsBelow l dump n) (kindAt l dump n), adds-up l dump n)
+adds-up g dump zero = refl
+adds-up g dump (suc n) = omega (arith, total-with (countsBelow g dump n) (kindAt g dump n), adds-up g dump n)
 
 -- those of a dump add up to its length / (P + S), for any P and S
-pub counts-add-up : (l : Layout) (dump : List ℕ) → total (countsBelow l dump (pageCount l (length dump))) ≡ length dump / (l .«data» + l .spare)
-counts-add-up l dump = adds-up l dump (pageCount l (length dump))
+pub counts-add-up : (g : Geometry) (dump : List ℕ) → total (countsBelow g dump (pageCount g (length dump))) ≡ length dump / (g .layout .«data» + g .layout .spare)
+counts-add-up g dump = adds-up g dump (pageCount g (length dump))

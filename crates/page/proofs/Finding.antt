@@ -10,7 +10,7 @@ use borrow.Author.Tests.{eqb-true, eqb-false}
 use Rattle.page.specs.Layouts.{layouts, layoutAt}
 use Rattle.page.specs.Lengths.{blockFits, lengthFits, wholeBlocks, pageCount}
 use Rattle.page.specs.Tags.{claimAt}
-use Rattle.page.specs.Find.{scoreOf, markedOf, scoreFits, fittingScore, candidateScore, winnerOf, findOf}
+use Rattle.page.specs.Find.{candidateAt, scoreOf, markedOf, scoreFits, fittingScore, candidateScore, winnerOf, findOf}
 use Rattle.page.specs.declared.layout.Layout.{Layout}
 use Rattle.page.specs.declared.layout.Named.{Named}
 use Rattle.page.specs.declared.layout.Named.the-variants as named
@@ -20,14 +20,14 @@ use Rattle.page.proofs.Leading.{winning, highest-bounds, won-named, won
 
 -- what the pages of a candidate score, and whether it fits
 abbrev pub ownScore : List ℕ → ℕ → ℕ → ℕ
-ownScore dump k c = scoreOf (claimAt (layoutAt c) dump) k (pageCount (layoutAt c) (length dump))
+ownScore dump k c = scoreOf (claimAt (candidateAt k c) dump) k (pageCount (candidateAt k c) (length dump))
 
 abbrev pub ownFits : List ℕ → ℕ → ℕ → Bool
-ownFits dump k c = scoreFits (ownScore dump k c) (markedOf (claimAt (layoutAt c) dump) (pageCount (layoutAt c) (length dump)))
+ownFits dump k c = scoreFits (ownScore dump k c) (markedOf (claimAt (candidateAt k c) dump) (pageCount (candidateAt k c) (length dump)))
 
 -- a candidate that divides the dump into whole blocks and fits, with its score
 pub record Fitting (dump : List ℕ) (k c : ℕ) : Type 0 where
-  pub divides : wholeBlocks (layoutAt c) k (length dump) ≡ true
+  pub divides : wholeBlocks (candidateAt k c) (length dump) ≡ true
   pub fits : ownFits dump k c ≡ true
   pub scores : candidateScore dump k c ≡ ownScore dump k c
 
@@ -35,14 +35,14 @@ pub record Fitting (dump : List ℕ) (k c : ℕ) : Type 0 where
 pub fitting : (dump : List ℕ) (k c : ℕ) → 0 < candidateScore dump k c → Fitting dump k c
 unfolding candidateScore fittingScore
 fitting dump k c h =
-    pick-cases (wholeBlocks (layoutAt c) k (length dump)) _ _ _ _ refl
+    pick-cases (wholeBlocks (candidateAt k c) (length dump)) _ _ _ _ refl
     (λ d z. pick-cases (ownFits dump k c) _ _ _ _ z
     (λ f y. record { divides = d; fits = f; scores = sym y })
     (λ f y. absurd (omega arith)))
     (λ d z. absurd (omega arith))
 
 -- and has one
-pub fitting-scores : (dump : List ℕ) (k c : ℕ) → wholeBlocks (layoutAt c) k (length dump) ≡ true → ownFits dump k c ≡ true → candidateScore dump k c ≡ ownScore dump k c
+pub fitting-scores : (dump : List ℕ) (k c : ℕ) → wholeBlocks (candidateAt k c) (length dump) ≡ true → ownFits dump k c ≡ true → candidateScore dump k c ≡ ownScore dump k c
 unfolding candidateScore fittingScore
 fitting-scores dump k c d f = rw (d, f)
 

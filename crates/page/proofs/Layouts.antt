@@ -1,13 +1,15 @@
 -- What every layout of the table has, and every layout with room. Sizes are argued for any P and S; the table is one computed test.
 use Prim.Native.Nat.{ℕ, zero, suc, _+_, _*_, _<_, _≤_}
 use mathlib.Core.Bool.{Bool, true, false, _&&_}
+use mathlib.Core.List.{List}
 use mathlib.Core.Path.{_≡_, refl}
 use mathlib.Core.Logic.{⊎-elim}
 use native.Mathlib.Nat.{le-of-suc-le-suc, not-suc-le-zero, eq-or-lt-of-le, le-trans, mul-le-mul-right, mul-le-mul-left}
 use native.Mathlib.Omega.{arith}
-use lib.Dec.{leb, eqb}
-use borrow.Author.Tests.{leb-true, eqb-true}
-use Rattle.page.specs.Layouts.{layoutOf, layoutAt, dataSizes, spareSizes, tagOffsets, hasSizes, numberOfSizes, numberOf, roomy}
+use lib.Dec.{leb, ltb, eqb}
+use lib.ListN.{getD}
+use borrow.Author.Tests.{leb-true, ltb-true, eqb-true}
+use Rattle.page.specs.Layouts.{headerBytes, tagLength, mostBytes, pageLen, layoutOf, layoutAt, dataSizes, spareSizes, tagOffsets, hasSizes, numberOfSizes, numberOf, roomy}
 use Rattle.page.specs.declared.layout.Layout.{Layout}
 use Rattle.page.proofs.Searching.{first-passes}
 
@@ -21,18 +23,21 @@ and-right false b e = let z : _≡_ {A = ℕ} 0 1 = cc in absurd (omega arith)
 
 -- the one condition on sizes, as facts
 pub record Roomy (l : Layout) : Type 0 where
-  pub header : 480 ≤ l .«data»
-  pub tags : l .tag + 16 ≤ l .spare
+  pub header : headerBytes ≤ l .«data»
+  pub tags : l .tag + tagLength ≤ l .spare
+  pub long : pageLen l ≤ mostBytes
 
 pub roomy-facts : (l : Layout) → roomy l ≡ true → Roomy l
 unfolding roomy
 roomy-facts l e =
-    let a = leb 480 (l .«data») in
-    let b = leb (l .tag + 16) (l .spare) in
-    record { header = leb-true _ _ (and-left a b e); tags = leb-true _ _ (and-right a b e) }
+    let a = leb headerBytes (l .«data») in
+    let b = leb (l .tag + tagLength) (l .spare) in
+    let c = leb (pageLen l) mostBytes in
+    let r = and-left (a && b) c e in
+    record { header = leb-true _ _ (and-left a b r); tags = leb-true _ _ (and-right a b r); long = leb-true _ _ (and-right (a && b) c e) }
 
 -- whether every number below n passes
-allBelow : (ℕ → Bool) → ℕ → Bool
+unfoldable pub allBelow : (ℕ → Bool) → ℕ → Bool
 allBelow test zero = true
 allBelow test (suc n) = test n && allBelow test n
 
@@ -49,6 +54,10 @@ all-at test (suc n) e k h =
 pub row-roomy : (n : ℕ) → n < 13 → roomy (layoutAt n) ≡ true
 unfolding allBelow roomy layoutAt dataSizes spareSizes tagOffsets
 row-roomy n h = all-at (λ k. roomy (layoutAt k)) 13 refl n h
+
+-- the numbers of a column fit two bytes, where a computed test says so
+pub column-small : (column : List ℕ) → allBelow (λ k. ltb (getD column k 0) 65536) 13 ≡ true → (n : ℕ) → n < 13 → getD column n 0 < 65536
+column-small column e n h = ltb-true _ _ (all-at (λ k. ltb (getD column k 0) 65536) 13 e n h)
 
 layout-equal : (a b c d e f : ℕ) → a ≡ d → b ≡ e → c ≡ f → layoutOf a b c ≡ layoutOf d e f
 layout-equal a b c d e f p q r = cc

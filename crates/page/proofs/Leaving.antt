@@ -3,6 +3,7 @@
 use Prim.Native.Nat.{ℕ, zero, suc, _+_, _-_, _*_, _%_, _^_, _≤_, _<_, zero-le}
 use mathlib.Core.Bool.{Bool, true, false}
 use mathlib.Core.List.{List}
+use mathlib.Core.Logic.{_⊎_, inl, inr, ⊎-elim}
 use mathlib.Core.Path.{_≡_, refl, sym, _∙_}
 use native.Mathlib.Nat.{add-zero, zero-mod, div-le-self}
 use native.Mathlib.Omega.{arith}
@@ -10,13 +11,13 @@ use lib.Dec.{ltb, leb}
 use lib.ListN.{length}
 use borrow.Author.Tests.{ltb-true, ltb-false, leb-false, le-leb, lt-leb}
 use Rattle.page.specs.Search.{count, more}
-use Rattle.page.specs.Layouts.{layoutAt, pageLen}
+use Rattle.page.specs.Layouts.{pageLen}
 use Rattle.page.specs.Lengths.{lengthFits, wholeBlocks}
 use Rattle.page.specs.Tags.{claimAt}
-use Rattle.page.specs.Find.{isMarked, bearsSequence, blockSequence, isScored, scoreOf, markedAt, markedOf, scoreFits, fittingScore, candidateScore}
-use Rattle.page.specs.Leaving.{pagesUnder, Gained, isLost}
+use Rattle.page.specs.Find.{candidateAt, isMarked, bearsSequence, blockSequence, isScored, scoreOf, markedAt, markedOf, scoreFits, fittingScore, candidateScore}
+use Rattle.page.specs.Leaving.{pagesUnder, Gained, isLost, atLeast}
 use Rattle.page.specs.declared.find.Gain.{Gain}
-use Rattle.page.specs.declared.layout.Layout.{Layout}
+use Rattle.page.specs.declared.geometry.Geometry.{Geometry}
 use Rattle.page.specs.declared.tags.Claim.{Claim}
 use Rattle.page.specs.declared.tags.Claim.the-variants.{Blank, Foreign, Damaged, Header, Data}
 use Rattle.page.proofs.Searching.{by-test, pick-cases, count-step, count-none, count-le}
@@ -59,24 +60,24 @@ bears-marked s Blank e = e
 bears-marked s Foreign e = refl
 bears-marked s Damaged e = refl
 bears-marked s (Header q o) e = refl
-bears-marked s (Data q o c n) e = refl
+bears-marked s (Data d) e = refl
 
 scored-marked : (said : ℕ → Claim) (k i : ℕ) → isScored said k i ≡ true → markedAt said i ≡ true
 unfolding isScored
 scored-marked said k i e = bears-marked (blockSequence said k i) (said i) e
 
 -- a dump of an accepted length has few pages under any layout
-pub pages-few : (l : Layout) (k n : ℕ) → lengthFits n ≡ true → pagesUnder l k n < 2 ^ 31
+pub pages-few : (g : Geometry) (n : ℕ) → lengthFits n ≡ true → pagesUnder g n < 2 ^ 31
 unfolding pagesUnder
-pages-few l k n h =
-    by-test (wholeBlocks l k n) _
-    (λ t. rw t (omega (arith, length-most n h, div-le-self n (pageLen l))))
+pages-few g n h =
+    by-test (wholeBlocks g n) _
+    (λ t. rw t (omega (arith, length-most n h, div-le-self n (pageLen (g .layout)))))
     (λ t. rw t (omega arith))
 
 -- and they come out even
-pages-even : (l : Layout) (k n : ℕ) → 0 < k → 0 < pageLen l → pagesUnder l k n % k ≡ 0
+pages-even : (g : Geometry) (n : ℕ) → 0 < g .block → 0 < pageLen (g .layout) → pagesUnder g n % g .block ≡ 0
 unfolding pagesUnder
-pages-even l k n h g = by-test (wholeBlocks l k n) _ (λ t. rw t (whole-pages l k n h g t)) (λ t. rw t (zero-mod k))
+pages-even g n h long = by-test (wholeBlocks g n) _ (λ t. rw t (whole-pages g n h long t)) (λ t. rw t (zero-mod (g .block)))
 
 -- no page, no score
 fitting-none : (said : ℕ → Claim) (k : ℕ) → fittingScore said k 0 ≡ 0
@@ -84,12 +85,12 @@ unfolding fittingScore
 fitting-none said k = by-test (scoreFits (scoreOf said k 0) (markedOf said 0)) _ (λ t. rw (t, count-none (isScored said k))) (λ t. rw t)
 
 -- so that a candidate's score is that of these pages, whether it divides the dump or not
-pub score-pages : (dump : List ℕ) (k c : ℕ) → candidateScore dump k c ≡ fittingScore (claimAt (layoutAt c) dump) k (pagesUnder (layoutAt c) k (length dump))
+pub score-pages : (dump : List ℕ) (k c : ℕ) → candidateScore dump k c ≡ fittingScore (claimAt (candidateAt k c) dump) k (pagesUnder (candidateAt k c) (length dump))
 unfolding candidateScore pagesUnder
 score-pages dump k c =
-    by-test (wholeBlocks (layoutAt c) k (length dump)) _
+    by-test (wholeBlocks (candidateAt k c) (length dump)) _
     (λ t. rw t)
-    (λ t. rw t (sym (fitting-none (claimAt (layoutAt c) dump) k)))
+    (λ t. rw t (sym (fitting-none (claimAt (candidateAt k c) dump) k)))
 
 -- a score that is too low beside the pages that are not blank does not fit
 unfit : (said : ℕ → Claim) (k n : ℕ) → 2 * scoreOf said k n < markedOf said n → fittingScore said k n ≡ 0
@@ -109,72 +110,95 @@ fitting-le : (said : ℕ → Claim) (k n : ℕ) → fittingScore said k n ≤ sc
 unfolding fittingScore
 fitting-le said k n = by-test (scoreFits (scoreOf said k n) (markedOf said n)) _ (λ t. rw t (omega arith)) (λ t. rw t zero-le)
 
--- candidate n, of layout l, whose blocks before `next` are gone through
-pub record Underway (dump : List ℕ) (k n : ℕ) (l : Layout) (pages next score marked : ℕ) : Type 0 where
-  pub row : l ≡ layoutAt n
-  pub all : pages ≡ pagesUnder l k (length dump)
-  pub through : Through (claimAt l dump) k pages next score marked
-
--- at first none is
-pub under-none :
-    (dump : List ℕ) (k n : ℕ) (l : Layout) (pages : ℕ) → l ≡ layoutAt n → pages ≡ pagesUnder l k (length dump) → 0 < k → 0 < pageLen l → lengthFits (length dump) ≡ true →
-    Underway dump k n l pages 0 0 0
-under-none dump k n l pages row all some long fits =
-    record {
-      row = row;
-      all = all;
-      through = through-none (claimAt l dump) k pages some (rw all (pages-few l k (length dump) fits)) (rw all (pages-even l k (length dump) some long));
-    }
-
-module _ {dump : List ℕ} {k n : ℕ} {l : Layout} {pages next score marked : ℕ} (u : Underway dump k n l pages next score marked) where
-  -- one block more
-  pub under-on : (g : Gain) → next < pages → Gained (claimAt l dump) k next g → Underway dump k n l pages (next + k) (score + g .score) (marked + g .marked)
-  under-on g h a = record { row = u .row; all = u .all; through = through-on (u .through) (g .score) (g .marked) h (a .scored) (a .counted) }
-
-  -- the candidate's score
-  own-score : candidateScore dump k n ≡ fittingScore (claimAt l dump) k pages
-  own-score = score-pages dump k n ∙ rw (u .all, u .row)
-
+-- pages whose blocks before `next` are gone through
+module _ {said : ℕ → Claim} {k pages next score marked : ℕ} (t : Through said k pages next score marked) where
   -- what the pages left can add
-  left-score : scoreOf (claimAt l dump) k pages ≤ score + (pages - next)
+  left-score : scoreOf said k pages ≤ score + (pages - next)
   left-score =
-      let e : next + (pages - next) ≡ pages = omega (arith, u .through .within) in
-      let b = rw e at (count-by (isScored (claimAt l dump) k) next (pages - next)) in
-      omega (arith, b, u .through .scored)
+      let e : next + (pages - next) ≡ pages = omega (arith, t .within) in
+      let b = rw e at (count-by (isScored said k) next (pages - next)) in
+      omega (arith, b, t .scored)
 
-  left-both : scoreOf (claimAt l dump) k pages + marked ≤ score + markedOf (claimAt l dump) pages
+  left-both : scoreOf said k pages + marked ≤ score + markedOf said pages
   left-both =
-      let e : next + (pages - next) ≡ pages = omega (arith, u .through .within) in
-      let b = rw e at (count-both (isScored (claimAt l dump) k) (markedAt (claimAt l dump)) (scored-marked (claimAt l dump) k) next (pages - next)) in
-      omega (arith, b, u .through .scored, u .through .counted)
+      let e : next + (pages - next) ≡ pages = omega (arith, t .within) in
+      let b = rw e at (count-both (isScored said k) (markedAt said) (scored-marked said k) next (pages - next)) in
+      omega (arith, b, t .scored, t .counted)
 
-  -- a candidate that is lost does not reach what it needs
-  pub under-lost : (need : ℕ) → 0 < need → isLost score marked (pages - next) need ≡ true → candidateScore dump k n < need
+  -- once they are lost they do not reach what they need, or do not fit
+  pub through-lost : (need : ℕ) → isLost score marked (pages - next) need ≡ true → (fittingScore said k pages < need) ⊎ (fittingScore said k pages ≡ 0)
   unfolding isLost
-  under-lost need some t =
-      let said = claimAt l dump in
-      pick-cases (ltb (score + (pages - next)) need) true (ltb (2 * score + (pages - next)) marked) true _ t
-      (λ low _. let b : score + (pages - next) < need = ltb-true _ _ low in omega (arith, own-score, fitting-le said k pages, left-score))
-      (λ _ high. let b : 2 * score + (pages - next) < marked = ltb-true _ _ high in omega (arith, own-score, unfit said k pages (omega (arith, left-score, left-both))))
+  through-lost need lost =
+      pick-cases (ltb (score + (pages - next)) need) true (ltb (2 * score + (pages - next)) marked) true _ lost
+      (λ low _. let b : score + (pages - next) < need = ltb-true _ _ low in inl (omega (arith, fitting-le said k pages, left-score)))
+      (λ _ high. let b : 2 * score + (pages - next) < marked = ltb-true _ _ high in inr (unfit said k pages (omega (arith, left-score, left-both))))
 
-  -- one that is gone through and is not does
-  pub under-won : (need : ℕ) → next ≡ pages → isLost score marked (pages - next) need ≡ false → (need ≤ score) × (candidateScore dump k n ≡ score)
+  -- gone through and not lost they do
+  pub through-won : (need : ℕ) → next ≡ pages → isLost score marked (pages - next) need ≡ false → (need ≤ score) × (fittingScore said k pages ≡ score)
   unfolding isLost
-  under-won need e t =
-      let said = claimAt l dump in
-      let s : score ≡ scoreOf said k pages = u .through .scored ∙ rw e in
-      let m : marked ≡ markedOf said pages = u .through .counted ∙ rw e in
-      pick-cases (ltb (score + (pages - next)) need) true (ltb (2 * score + (pages - next)) marked) false _ t
+  through-won need e won =
+      let s : score ≡ scoreOf said k pages = t .scored ∙ rw e in
+      let m : marked ≡ markedOf said pages = t .counted ∙ rw e in
+      pick-cases (ltb (score + (pages - next)) need) true (ltb (2 * score + (pages - next)) marked) false _ won
       (λ _ z. let n : _≡_ {A = ℕ} 0 1 = cc in absurd (omega arith))
       (λ low high.
       let a : need ≤ score + (pages - next) = ltb-false _ _ low in
       let b : marked ≤ 2 * score + (pages - next) = ltb-false _ _ high in
-      (omega arith, own-score ∙ fit said k pages (omega arith) ∙ sym s))
+      (omega arith, fit said k pages (omega arith) ∙ sym s))
 
   -- what is counted fits a word
-  pub under-fits : (2 * score + (pages - next) < 2 ^ 32) × (score < 2 ^ 31) × (marked < 2 ^ 31) × (next < 2 ^ 31)
-  under-fits =
-      let t = u .through in
-      let s : score ≤ next = omega (arith, t .scored, count-le (isScored (claimAt l dump) k) next) in
-      let m : marked ≤ next = omega (arith, t .counted, count-le (markedAt (claimAt l dump)) next) in
+  pub through-fits : (2 * score + (pages - next) < 2 ^ 32) × (score < 2 ^ 31) × (marked < 2 ^ 31) × (next < 2 ^ 31)
+  through-fits =
+      let s : score ≤ next = omega (arith, t .scored, count-le (isScored said k) next) in
+      let m : marked ≤ next = omega (arith, t .counted, count-le (markedAt said) next) in
       (omega (arith, t .few, t .within), omega (arith, t .few, t .within), omega (arith, t .few, t .within), omega (arith, t .few, t .within))
+
+-- candidate n, whose blocks before `next` are gone through
+pub record Underway (dump : List ℕ) (k n : ℕ) (g : Geometry) (pages next score marked : ℕ) : Type 0 where
+  pub row : g ≡ candidateAt k n
+  pub all : pages ≡ pagesUnder g (length dump)
+  pub through : Through (claimAt g dump) k pages next score marked
+
+-- at first none is
+pub under-none :
+    (dump : List ℕ) (k n : ℕ) (g : Geometry) (pages : ℕ) → g ≡ candidateAt k n → pages ≡ pagesUnder g (length dump) → 0 < k → 0 < pageLen (g .layout) → lengthFits (length dump) ≡ true →
+    Underway dump k n g pages 0 0 0
+under-none dump k n g pages row all some long fits =
+    let even : pagesUnder g (length dump) % k ≡ 0 = rw row (pages-even (candidateAt k n) (length dump) some (rw row at long)) in
+    record {
+      row = row;
+      all = all;
+      through = through-none (claimAt g dump) k pages some (rw all (pages-few g (length dump) fits)) (rw all even);
+    }
+
+module _ {dump : List ℕ} {k n : ℕ} {g : Geometry} {pages next score marked : ℕ} (u : Underway dump k n g pages next score marked) where
+  -- one block more
+  pub under-on : (gain : Gain) → next < pages → Gained (claimAt g dump) k next gain → Underway dump k n g pages (next + k) (score + gain .score) (marked + gain .marked)
+  under-on gain h a = record { row = u .row; all = u .all; through = through-on (u .through) (gain .score) (gain .marked) h (a .scored) (a .counted) }
+
+  -- the candidate's score
+  own-score : candidateScore dump k n ≡ fittingScore (claimAt g dump) k pages
+  own-score = score-pages dump k n ∙ rw (u .all, u .row)
+
+  -- a candidate that is lost does not reach what it needs
+  pub under-lost : (need : ℕ) → 0 < need → isLost score marked (pages - next) need ≡ true → candidateScore dump k n < need
+  under-lost need some lost =
+      rw own-score
+      (⊎-elim (λ less. less) (λ (none : fittingScore (claimAt g dump) k pages ≡ 0). omega arith) (through-lost (u .through) need lost))
+
+  -- one that is gone through and is not does
+  pub under-won : (need : ℕ) → next ≡ pages → isLost score marked (pages - next) need ≡ false → (need ≤ score) × (candidateScore dump k n ≡ score)
+  under-won need e won = let w = through-won (u .through) need e won in (w .0, own-score ∙ w .1)
+
+  pub under-fits : (2 * score + (pages - next) < 2 ^ 32) × (score < 2 ^ 31) × (marked < 2 ^ 31) × (next < 2 ^ 31)
+  under-fits = through-fits (u .through)
+
+-- a score of which at least so much is asked: reached, or not
+module _ (need : ℕ) where
+  pub at-least : (s : ℕ) → need ≤ s → atLeast need s ≡ s
+  unfolding atLeast
+  at-least s h = rw (le-leb need s h)
+
+  pub not-least : (s : ℕ) → (s < need) ⊎ (s ≡ 0) → atLeast need s ≡ 0
+  unfolding atLeast
+  not-least s h = ⊎-elim (λ (less : s < need). rw (lt-leb need s less)) (λ (none : s ≡ 0). rw none (by-test (leb need 0) _ (λ t. rw t) (λ t. rw t))) h

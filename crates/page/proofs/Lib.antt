@@ -1,4 +1,5 @@
 pub mod Tests
+pub mod Arms
 pub mod Searching
 pub mod Layouts
 pub mod Lengths

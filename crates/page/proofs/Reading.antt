@@ -16,8 +16,9 @@ use Rattle.page.specs.Layouts.{layouts, layoutAt, tagLength, pageLen, ta
 use Rattle.page.specs.Lengths.{blockFits, lengthFits, wholeBlocks, pageIn}
 use Rattle.page.specs.Pages.{pageAt}
 use Rattle.page.specs.Tags.{tagBytes, claimOn, claimAt}
-use Rattle.page.specs.Find.{candidateScore, findOf}
+use Rattle.page.specs.Find.{candidateAt, candidateScore, findOf}
 use Rattle.page.specs.Reading.{inSpare, inTags, tagsOfCandidate, isRead, SameClaims, SameRead}
+use Rattle.page.specs.declared.geometry.Geometry.{Geometry}
 use Rattle.page.specs.declared.layout.Layout.{Layout}
 use Rattle.page.proofs.Searching.{by-test}
 use Rattle.page.proofs.Layouts.{roomy-facts}
@@ -26,31 +27,31 @@ use Rattle.page.proofs.Naming.{beyond}
 use Rattle.page.proofs.Texts.{part-of-part}
 
 -- no page lies in a dump under a number that the table lacks
-unlisted : (c n i : ℕ) → layouts ≤ c → pageIn (layoutAt c) n i ≡ false
+unlisted : (k c n i : ℕ) → layouts ≤ c → pageIn (candidateAt k c) n i ≡ false
 unfolding pageIn roomy
-unlisted c n i h = rw (beyond c h)
+unlisted k c n i h = rw (beyond c h)
 
 -- a page that is not in the dump says nothing, whatever the dump
-outside-same : (l : Layout) (a b : List ℕ) (i : ℕ) → length a ≡ length b → pageIn l (length a) i ≡ false → claimAt l a i ≡ claimAt l b i
+outside-same : (g : Geometry) (a b : List ℕ) (i : ℕ) → length a ≡ length b → pageIn g (length a) i ≡ false → claimAt g a i ≡ claimAt g b i
 unfolding claimAt
-outside-same l a b i e h = rw (← e, h)
+outside-same g a b i e h = rw (← e, h)
 
 -- two dumps whose tags say the same have the same scores
 module _ {a b : List ℕ} {k : ℕ} (s : SameClaims a b k) where
   scores-same : blockFits k ≡ true → lengthFits (length a) ≡ true → (c : ℕ) → candidateScore a k c ≡ candidateScore b k c
   unfolding candidateScore
   scores-same f g c =
-      by-test (wholeBlocks (layoutAt c) k (length a)) _
+      by-test (wholeBlocks (candidateAt k c) (length a)) _
       (λ w. rw (← s .long, w, fun-ext (said w)))
       (λ w. rw (← s .long, w))
     where
-      said : wholeBlocks (layoutAt c) k (length a) ≡ true → (i : ℕ) → claimAt (layoutAt c) a i ≡ claimAt (layoutAt c) b i
+      said : wholeBlocks (candidateAt k c) (length a) ≡ true → (i : ℕ) → claimAt (candidateAt k c) a i ≡ claimAt (candidateAt k c) b i
       said w i =
-          by-test (pageIn (layoutAt c) (length a) i) _
+          by-test (pageIn (candidateAt k c) (length a) i) _
           (λ p. by-test (ltb c layouts) _
           (λ h. s .claims f g c i (ltb-true c layouts h) w p)
-          (λ h. outside-same (layoutAt c) a b i (s .long) (unlisted c (length a) i (ltb-false c layouts h))))
-          (λ p. outside-same (layoutAt c) a b i (s .long) p)
+          (λ h. outside-same (candidateAt k c) a b i (s .long) (unlisted k c (length a) i (ltb-false c layouts h))))
+          (λ p. outside-same (candidateAt k c) a b i (s .long) p)
 
   -- and so the same answer
   pub finding-by-claims : findOf a k ≡ findOf b k
@@ -63,17 +64,17 @@ module _ {a b : List ℕ} {k : ℕ} (s : SameClaims a b k) where
       (λ f. rw f)
 
 -- the tag bytes of a page, where they lie in the dump
-tag-part : (l : Layout) (dump : List ℕ) (i : ℕ) → pageIn l (length dump) i ≡ true → tagBytes l (pageAt l dump i) ≡ take tagLength (drop (i * pageLen l + tagPlace l) dump)
+tag-part : (g : Geometry) (dump : List ℕ) (i : ℕ) → pageIn g (length dump) i ≡ true → tagBytes (g .layout) (pageAt g dump i) ≡ take tagLength (drop (i * pageLen (g .layout) + tagPlace (g .layout)) dump)
 unfolding tagBytes pageAt
-tag-part l dump i h =
-    let r = roomy-facts l (page-within l (length dump) i h .room) in
-    rw (drop-drop) (part-of-part dump (i * pageLen l) (pageLen l) (tagPlace l) tagLength (omega (arith, r)))
+tag-part g dump i h =
+    let r = roomy-facts (g .layout) (page-within g (length dump) i h .room) in
+    rw (drop-drop) (part-of-part dump (i * pageLen (g .layout)) (pageLen (g .layout)) (tagPlace (g .layout)) tagLength (omega (arith, r)))
 
 -- each is a tag byte
-tag-byte : (l : Layout) (n i j : ℕ) → pageIn l n i ≡ true → j < tagLength → inTags l (i * pageLen l + tagPlace l + j) ≡ true
+tag-byte : (l : Layout) (i j : ℕ) → roomy l ≡ true → j < tagLength → inTags l (i * pageLen l + tagPlace l + j) ≡ true
 unfolding inTags
-tag-byte l n i j h g =
-    let r = roomy-facts l (page-within l n i h .room) in
+tag-byte l i j h g =
+    let r = roomy-facts l h in
     let e : (i * pageLen l + tagPlace l + j) % pageLen l ≡ tagPlace l + j =
     rw (add-assoc (i * pageLen l) (tagPlace l) j) (mul-add-mod-self-right i (pageLen l) (tagPlace l + j) ∙ mod-eq-of-lt (omega (arith, r))) in
     rw (e, le-leb (tagPlace l) (tagPlace l + j) (omega arith), lt-ltb (tagPlace l + j) (tagPlace l + tagLength) (omega arith))
@@ -94,7 +95,7 @@ count-some test (suc n) c h t =
 
 -- a tag byte of a candidate that divides the dump is read
 tag-read :
-    (k n at c : ℕ) → blockFits k ≡ true → lengthFits n ≡ true → c < layouts → wholeBlocks (layoutAt c) k n ≡ true → inTags (layoutAt c) at ≡ true → isRead k n at ≡ true
+    (k n at c : ℕ) → blockFits k ≡ true → lengthFits n ≡ true → c < layouts → wholeBlocks (candidateAt k c) n ≡ true → inTags (layoutAt c) at ≡ true → isRead k n at ≡ true
 unfolding isRead
 tag-read k n at c f g h w t =
     let here : tagsOfCandidate k n at c ≡ true = rw (w, t) in
@@ -103,20 +104,20 @@ tag-read k n at c f g h w t =
 -- two dumps that agree on every byte that is read have the same tag bytes under every candidate that divides them
 module _ {a b : List ℕ} {k : ℕ} (s : SameRead a b k) where
   tags-same :
-      blockFits k ≡ true → lengthFits (length a) ≡ true → (c i : ℕ) → c < layouts → wholeBlocks (layoutAt c) k (length a) ≡ true → pageIn (layoutAt c) (length a) i ≡ true →
-      tagBytes (layoutAt c) (pageAt (layoutAt c) a i) ≡ tagBytes (layoutAt c) (pageAt (layoutAt c) b i)
+      blockFits k ≡ true → lengthFits (length a) ≡ true → (c i : ℕ) → c < layouts → wholeBlocks (candidateAt k c) (length a) ≡ true → pageIn (candidateAt k c) (length a) i ≡ true →
+      tagBytes (layoutAt c) (pageAt (candidateAt k c) a i) ≡ tagBytes (layoutAt c) (pageAt (candidateAt k c) b i)
   tags-same f g c i h w p =
       let l = layoutAt c in
       let place = i * pageLen l + tagPlace l in
-      let ends = page-within l (length a) i p in
+      let ends = page-within (candidateAt k c) (length a) i p in
       let r = roomy-facts l (ends .room) in
-      tag-part l a i p
+      tag-part (candidateAt k c) a i p
       ∙ ext-getD 0 (take tagLength (drop place a)) (take tagLength (drop place b)) (simp (length-take, length-drop, s .long))
       (λ j q.
       let m : j < tagLength = omega (arith, simp length-take at q) in
       rw (getD-take, getD-drop, getD-take, getD-drop)
-      (s .bytes (place + j) (omega (arith, ends .ends, r)) (tag-read k (length a) (place + j) c f g h w (tag-byte l (length a) i j p m))))
-      ∙ sym (tag-part l b i (rw (s .long) at p))
+      (s .bytes (place + j) (omega (arith, ends .ends, r)) (tag-read k (length a) (place + j) c f g h w (tag-byte l i j (ends .room) m))))
+      ∙ sym (tag-part (candidateAt k c) b i (rw (s .long) at p))
 
   claims-same : SameClaims a b k
   unfolding claimAt claimOn
@@ -145,15 +146,15 @@ tags-spare l at h =
     let less : at % pageLen l < l .«data» = leb-false (l .«data») (at % pageLen l) h in
     rw (lt-leb (tagPlace l) (at % pageLen l) (omega arith))
 
-none-read : (k n at : ℕ) → ((c : ℕ) → c < layouts → wholeBlocks (layoutAt c) k n ≡ true → inSpare (layoutAt c) at ≡ false) → isRead k n at ≡ false
+none-read : (k n at : ℕ) → ((c : ℕ) → c < layouts → wholeBlocks (candidateAt k c) n ≡ true → inSpare (layoutAt c) at ≡ false) → isRead k n at ≡ false
 unfolding isRead
 none-read k n at f =
     let none : count (tagsOfCandidate k n at) layouts ≡ 0 = count-no (tagsOfCandidate k n at) layouts
-    (λ c h. by-test (wholeBlocks (layoutAt c) k n) _ (λ w. rw (w, tags-spare (layoutAt c) at (f c h w))) (λ w. rw w)) in
+    (λ c h. by-test (wholeBlocks (candidateAt k c) n) _ (λ w. rw (w, tags-spare (layoutAt c) at (f c h w))) (λ w. rw w)) in
     rw (none, lt-leb 1 0 (omega arith)) (by-test (blockFits k) _ (λ a. rw a (by-test (lengthFits n) _ (λ b. rw b) (λ b. rw b))) (λ a. rw a))
 
 -- so may one that lies in no spare of a candidate that divides the dump
 pub outside-spares :
-    (dump : List ℕ) (k at v : ℕ) → ((c : ℕ) → c < layouts → wholeBlocks (layoutAt c) k (length dump) ≡ true → inSpare (layoutAt c) at ≡ false) →
+    (dump : List ℕ) (k at v : ℕ) → ((c : ℕ) → c < layouts → wholeBlocks (candidateAt k c) (length dump) ≡ true → inSpare (layoutAt c) at ≡ false) →
     findOf (set dump at v) k ≡ findOf dump k
 outside-spares dump k at v f = byte-unread dump k at v (none-read k (length dump) at f)

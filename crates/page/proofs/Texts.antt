@@ -1,16 +1,18 @@
 -- Where a header field that is bytes stands in the dump, for crates above that hand out places.
 use Prim.Native.Nat.{ℕ, _+_, _*_, _≤_, _<_}
 use mathlib.Core.List.{List, []}
+use mathlib.Core.Bool.{true}
 use mathlib.Core.Path.{_≡_, refl}
 use native.Mathlib.Nat.{add-assoc}
 use native.Mathlib.Omega.{arith}
 use lib.ListN.{length, take, drop, length-take, length-drop}
 use lib.Seq.{ext-getD, getD-take, getD-drop}
 use Rattle.page.specs.Layouts.{pageLen}
+use Rattle.page.specs.Lengths.{pageIn}
 use Rattle.page.specs.Pages.{pageAt}
 use Rattle.page.specs.Headers.{fieldsOf, textPlace, textLength, textOf}
 use Rattle.page.specs.Asked.{askedOf, headedBy, headedOf, textBy, textAt}
-use Rattle.page.specs.declared.layout.Layout.{Layout}
+use Rattle.page.specs.declared.geometry.Geometry.{Geometry}
 use Rattle.page.specs.declared.fields.Fields.{Fields}
 use Rattle.page.specs.declared.fields.Text.{Text}
 use Rattle.page.specs.declared.header.Asked.{Asked}
@@ -40,17 +42,22 @@ unfolding headedBy textBy
 no-text asked.Header v r s e = let z : _≡_ {A = ℕ} 0 1 = cc in absurd (omega arith)
 no-text (asked.Refused q) v r s e = refl
 
-module _ (f : Text) (l : Layout) (k : ℕ) (dump : List ℕ) (i : ℕ) where
+-- a page whose fields were given lies in the dump
+pub headed-in : (g : Geometry) (dump : List ℕ) (i : ℕ) (v : Fields) → headedOf g dump i ≡ headed.Fields v → pageIn g (length dump) i ≡ true
+unfolding headedOf
+headed-in g dump i v e = asked-in g dump i (header-asked (askedOf g dump i) (fieldsOf (pageAt g dump i)) v e)
+
+module _ (f : Text) (g : Geometry) (dump : List ℕ) (i : ℕ) where
   -- the field of a header stands at its offset from the page's begin
-  pub headed-text : (g : Fields) → headedOf l k dump i ≡ headed.Fields g → textAt f l k dump i ≡ take (textLength f) (drop (i * pageLen l + textPlace f) dump)
+  pub headed-text : (v : Fields) → headedOf g dump i ≡ headed.Fields v → textAt f g dump i ≡ take (textLength f) (drop (i * pageLen (g .layout) + textPlace f) dump)
   unfolding headedOf textAt textBy textOf pageAt
-  headed-text g e =
-      let h = header-asked (askedOf l k dump i) (fieldsOf (pageAt l dump i)) g e in
-      let w = page-within l (length dump) i (asked-in l k dump i h) in
-      let r = roomy-facts l (w .room) in
-      rw h (part-of-part dump (i * pageLen l) (pageLen l) (textPlace f) (textLength f) (omega (arith, text-fits f, r)))
+  headed-text v e =
+      let h = header-asked (askedOf g dump i) (fieldsOf (pageAt g dump i)) v e in
+      let w = page-within g (length dump) i (headed-in g dump i v e) in
+      let r = roomy-facts (g .layout) (w .room) in
+      rw h (part-of-part dump (i * pageLen (g .layout)) (pageLen (g .layout)) (textPlace f) (textLength f) (omega (arith, text-fits f, r)))
 
   -- a refused page has none
-  pub refused-text : (r : Refusal) → headedOf l k dump i ≡ headed.Refused r → textAt f l k dump i ≡ []
+  pub refused-text : (r : Refusal) → headedOf g dump i ≡ headed.Refused r → textAt f g dump i ≡ []
   unfolding headedOf textAt
-  refused-text r e = no-text (askedOf l k dump i) (fieldsOf (pageAt l dump i)) r (textOf f (pageAt l dump i)) e
+  refused-text r e = no-text (askedOf g dump i) (fieldsOf (pageAt g dump i)) r (textOf f (pageAt g dump i)) e

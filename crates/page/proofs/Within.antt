@@ -4,30 +4,34 @@
 use Prim.Native.Nat.{ℕ, _+_, _*_, _<_, _≤_, _^_}
 use mathlib.Core.Bool.{Bool, true, false, not, _||_}
 use mathlib.Core.List.{List}
-use mathlib.Core.Path.{_≡_, refl, sym, _∙_}
+use mathlib.Core.Path.{_≡_, refl, _∙_}
 use lib.Dec.{eqb, ltb}
 use lib.ListN.{length, getD}
 use lib.Seq.{getD-take, getD-drop}
 use native.Mathlib.Omega.{arith}
-use borrow.Author.Tests.{eqb-false, ltb-false, ltb-true, lt-ltb, le-ltb, ne-eqb}
+use borrow.Author.Tests.{eqb-false, ltb-false, lt-ltb, le-ltb, ne-eqb}
 use Rattle.page.specs.Choice.{pick}
 use Rattle.page.specs.Words.{le32}
 use Rattle.page.specs.Numbers.{mostObject, mostChunk, badObject, badChunk}
-use Rattle.page.specs.Lengths.{pageIn, openedOf}
+use Rattle.page.specs.Lengths.{inBlocks, pageIn, openedOf}
 use Rattle.page.specs.Pages.{pageAt}
 use Rattle.page.specs.Layouts.{pageLen}
-use Rattle.page.specs.Headers.{atType, atParent, atSize, fieldsOf}
+use Rattle.page.specs.Headers.{atType, atParent, atSize, atShrink, fieldsOf}
 use Rattle.page.specs.Tags.{blankSequence, leastSequence, mostSequence, isTyped, objectIn, tagsOf, tagBytes, headerClaim, dataClaim, claimOf, claimOn}
+use Rattle.page.specs.Records.{recordOf, recordAt}
 use Rattle.page.specs.Kinds.{badType, typeDiffers, headerOf, kindBy, kindOf, kindAt}
-use Rattle.page.specs.declared.layout.Layout.{Layout}
-use Rattle.page.specs.declared.layout.Opened.the-variants.{Pages}
+use Rattle.page.specs.declared.geometry.Geometry.{Geometry}
+use Rattle.page.specs.declared.geometry.Opened.the-variants.{Pages}
 use Rattle.page.specs.declared.fields.Fields.{Fields}
 use Rattle.page.specs.declared.number.ObjectId.{ObjectId}
-use Rattle.page.specs.declared.number.ChunkNumber.{ChunkNumber}
 use Rattle.page.specs.declared.tags.Tags.{Tags}
 use Rattle.page.specs.declared.tags.Claim.{Claim}
 use Rattle.page.specs.declared.tags.Claim.the-variants as claim
+use Rattle.page.specs.declared.kind.Kind.{Kind}
 use Rattle.page.specs.declared.kind.Kind.the-variants.{Blank, Foreign, Damaged, Header, Data}
+use Rattle.page.specs.declared.record.Header as header
+use Rattle.page.specs.declared.record.Data as «data»
+use Rattle.page.specs.declared.record.Record.the-variants as recorded
 use Rattle.page.proofs.Lengths.{opened-facts, page-in, page-within}
 use Rattle.page.proofs.Layouts.{roomy-facts}
 use Rattle.page.proofs.Searching.{pick-cases}
@@ -92,11 +96,11 @@ pub record HeaderClaimed (s : ℕ) (o : ObjectId) : Type 0 where
   pub object : Between 1 mostObject (o .0)
 
 -- what tags that claim data are, on a page of p data bytes
-pub record DataClaimed (p s : ℕ) (o : ObjectId) (c : ChunkNumber) (n : ℕ) : Type 0 where
-  pub sequence : Between leastSequence mostSequence s
-  pub object : Between 1 mostObject (o .0)
-  pub chunk : Between 1 mostChunk (c .0)
-  pub count : Between 1 p n
+pub record DataClaimed (p : ℕ) (d : «data».Data) : Type 0 where
+  pub sequence : Between leastSequence mostSequence (d .sequence)
+  pub object : Between 1 mostObject (d .object .0)
+  pub chunk : Between 1 mostChunk (d .chunk .0)
+  pub count : Between 1 p (d .count)
 
 module _ (p : ℕ) (t : Tags) where
   -- what is claimed behind the tests on the sequence
@@ -144,196 +148,221 @@ module _ (p : ℕ) (t : Tags) where
         (λ w e₁. pick-cases (isTyped t) _ _ _ (HeaderClaimed s o) e₁ (λ _ q. by-header w q)
         (λ _ e₂. pick-cases (eqb (t .chunk) 0) _ _ _ (HeaderClaimed s o) e₂ (λ _ q. by-header w q) (λ _ q. no-header q)))
 
-    module _ (c : ChunkNumber) (n : ℕ) where
-      no-data : headerClaim t ≡ claim.Data s o c n → DataClaimed p s o c n
-      unfolding headerClaim
-      no-data e = pick-cases (badObject (objectIn t)) _ _ _ (DataClaimed p s o c n) e (λ _ q. clash (cc)) (λ _ q. clash (cc))
+  module _ (d : «data».Data) where
+    no-data : headerClaim t ≡ claim.Data d → DataClaimed p d
+    unfolding headerClaim
+    no-data e = pick-cases (badObject (objectIn t)) _ _ _ (DataClaimed p d) e (λ _ q. clash (cc)) (λ _ q. clash (cc))
 
-      by-data :
-          Between leastSequence mostSequence (t .sequence) →
-          eqb (t .chunk) 0 ≡ false →
-          dataClaim p t ≡ claim.Data s o c n →
-          DataClaimed p s o c n
-      unfolding dataClaim
-      by-data w z e =
-          pick-cases (badObject (t .object)) _ _ _ (DataClaimed p s o c n) e (λ _ q. clash (cc))
-          (λ h₁ e₁. pick-cases (ltb mostChunk (t .chunk)) _ _ _ (DataClaimed p s o c n) e₁ (λ _ q. clash (cc))
-          (λ h₂ e₂. pick-cases (eqb (t .count) 0) _ _ _ (DataClaimed p s o c n) e₂ (λ _ q. clash (cc))
-          (λ h₃ e₃. pick-cases (ltb p (t .count)) _ _ _ (DataClaimed p s o c n) e₃ (λ _ q. clash (cc))
-          (λ h₄ q.
-          let a : t .sequence ≡ s = cc in
-          let b : t .object ≡ o .0 = cc in
-          let d : t .chunk ≡ c .0 = cc in
-          let f : t .count ≡ n = cc in
-          record {
-            sequence = rw a at w;
-            object = rw b at (object-within (t .object) h₁);
-            chunk = rw d at (above-zero mostChunk (t .chunk) z h₂);
-            count = rw f at (above-zero p (t .count) h₃ h₄);
-          }))))
+    by-data :
+        Between leastSequence mostSequence (t .sequence) →
+        eqb (t .chunk) 0 ≡ false →
+        dataClaim p t ≡ claim.Data d →
+        DataClaimed p d
+    unfolding dataClaim
+    by-data w z e =
+        pick-cases (badObject (t .object)) _ _ _ (DataClaimed p d) e (λ _ q. clash (cc))
+        (λ h₁ e₁. pick-cases (ltb mostChunk (t .chunk)) _ _ _ (DataClaimed p d) e₁ (λ _ q. clash (cc))
+        (λ h₂ e₂. pick-cases (eqb (t .count) 0) _ _ _ (DataClaimed p d) e₂ (λ _ q. clash (cc))
+        (λ h₃ e₃. pick-cases (ltb p (t .count)) _ _ _ (DataClaimed p d) e₃ (λ _ q. clash (cc))
+        (λ h₄ q.
+        let v : d ≡ record { sequence = t .sequence; object = record { 0 = t .object }; chunk = record { 0 = t .chunk }; count = t .count } = cc in
+        rw v
+        (record {
+          sequence = w;
+          object = object-within (t .object) h₁;
+          chunk = above-zero mostChunk (t .chunk) z h₂;
+          count = above-zero p (t .count) h₃ h₄;
+        })))))
 
-      -- tags that claim data have the sequence, the object, the chunk and the byte count of a record
-      pub data-claimed : claimOf p t ≡ claim.Data s o c n → DataClaimed p s o c n
-      unfolding claimBehind
-      data-claimed e =
-          passed (claim.Data s o c n) (DataClaimed p s o c n) e (λ q. clash (cc)) (λ q. clash (cc))
-          (λ w e₁. pick-cases (isTyped t) _ _ _ (DataClaimed p s o c n) e₁ (λ _ q. no-data q)
-          (λ _ e₂. pick-cases (eqb (t .chunk) 0) _ _ _ (DataClaimed p s o c n) e₂ (λ _ q. no-data q) (λ z q. by-data w z q)))
+    -- tags that claim data have the sequence, the object, the chunk and the byte count of a record
+    pub data-claimed : claimOf p t ≡ claim.Data d → DataClaimed p d
+    unfolding claimBehind
+    data-claimed e =
+        passed (claim.Data d) (DataClaimed p d) e (λ q. clash (cc)) (λ q. clash (cc))
+        (λ w e₁. pick-cases (isTyped t) _ _ _ (DataClaimed p d) e₁ (λ _ q. no-data q)
+        (λ _ e₂. pick-cases (eqb (t .chunk) 0) _ _ _ (DataClaimed p d) e₂ (λ _ q. no-data q) (λ z q. by-data w z q)))
 
 -- what a header's values are bounded by, and that its page is in the dump
-pub record HeaderWithin (l : Layout) (dump : List ℕ) (i s : ℕ) (o : ObjectId) (t : ℕ) : Type 0 where
-  pub page : pageIn l (length dump) i ≡ true
-  pub sequence : Between leastSequence mostSequence s
-  pub object : Between 1 mostObject (o .0)
-  pub page-type : Between 1 5 t
+pub record HeaderWithin (g : Geometry) (dump : List ℕ) (i : ℕ) (h : header.Header) : Type 0 where
+  pub page : pageIn g (length dump) i ≡ true
+  pub sequence : Between leastSequence mostSequence (h .sequence)
+  pub object : Between 1 mostObject (h .object .0)
+  pub page-type : Between 1 5 (h .«page_type»)
 
 -- what a data page's values are bounded by, and that it is in the dump
-pub record DataWithin (l : Layout) (dump : List ℕ) (i s : ℕ) (o : ObjectId) (c : ChunkNumber) (n : ℕ) : Type 0 where
-  pub page : pageIn l (length dump) i ≡ true
-  pub sequence : Between leastSequence mostSequence s
-  pub object : Between 1 mostObject (o .0)
-  pub chunk : Between 1 mostChunk (c .0)
-  pub count : Between 1 (l .«data») n
+pub record DataWithin (g : Geometry) (dump : List ℕ) (i : ℕ) (d : «data».Data) : Type 0 where
+  pub page : pageIn g (length dump) i ≡ true
+  pub sequence : Between leastSequence mostSequence (d .sequence)
+  pub object : Between 1 mostObject (d .object .0)
+  pub chunk : Between 1 mostChunk (d .chunk .0)
+  pub count : Between 1 (g .layout .«data») (d .count)
 
 -- a header's values are the fields of its page
-pub record HeaderSays (f : Fields) (t : ℕ) (p : ObjectId) (z : ℕ) (m : Bool) : Type 0 where
-  pub type-is : t ≡ f .«page_type»
-  pub parent-is : p .0 ≡ f .parent
-  pub size-is : z ≡ f .«file_size»
-  pub mark-is : m ≡ not (eqb (f .shrink) 0)
+pub record HeaderSays (f : Fields) (h : header.Header) : Type 0 where
+  pub type-is : h .«page_type» ≡ f .«page_type»
+  pub parent-is : h .parent .0 ≡ f .parent
+  pub size-is : h .size ≡ f .«file_size»
+  pub mark-is : h .shrink ≡ not (eqb (f .shrink) 0)
 
 -- the tags of a header claim one, its type is one of the five, and its page says its values
-record HeaderBy (page : List ℕ) (r : Claim) (s : ℕ) (o : ObjectId) (t : ℕ) (p : ObjectId) (z : ℕ) (m : Bool) : Type 0 where
-  claimed : r ≡ claim.Header s o
-  page-type : Between 1 5 t
-  says : HeaderSays (fieldsOf page) t p z m
+record HeaderBy (page : List ℕ) (r : Claim) (h : header.Header) : Type 0 where
+  claimed : r ≡ claim.Header (h .sequence) (h .object)
+  page-type : Between 1 5 (h .«page_type»)
+  says : HeaderSays (fieldsOf page) h
 
 module _ (page : List ℕ) (t : Tags) where
-  module _ (s : ℕ) (o : ObjectId) (y : ℕ) (p : ObjectId) (z : ℕ) (m : Bool) where
-    header-by : (r : Claim) → kindBy page t r ≡ Header s o y p z m → HeaderBy page r s o y p z m
-    unfolding kindBy headerOf fieldsOf
-    header-by claim.Blank e = clash (cc)
-    header-by claim.Foreign e = clash (cc)
-    header-by claim.Damaged e = clash (cc)
-    header-by (claim.Header s′ o′) e =
-        pick-cases (badType (le32 page atType)) _ _ _ (HeaderBy page (claim.Header s′ o′) s o y p z m) e (λ _ q. clash (cc))
-        (λ h e₁. pick-cases (typeDiffers t (le32 page atType)) _ _ _ (HeaderBy page (claim.Header s′ o′) s o y p z m) e₁ (λ _ q. clash (cc))
-        (λ _ q.
-        let a : le32 page atType ≡ y = cc in
-        record {
-          claimed = cc;
-          page-type = rw a at (type-within (le32 page atType) h);
-          says = record { type-is = cc; parent-is = cc; size-is = cc; mark-is = cc };
-        }))
-    header-by (claim.Data s′ o′ c n) e = clash (cc)
-
-  module _ (s : ℕ) (o : ObjectId) (c : ChunkNumber) (n : ℕ) where
-    data-by : (r : Claim) → kindBy page t r ≡ Data s o c n → r ≡ claim.Data s o c n
-    unfolding kindBy headerOf
-    data-by claim.Blank e = clash (cc)
-    data-by claim.Foreign e = clash (cc)
-    data-by claim.Damaged e = clash (cc)
-    data-by (claim.Header s′ o′) e =
-        pick-cases (badType (le32 page atType)) _ _ _ _ e (λ _ q. clash (cc))
-        (λ _ e₁. pick-cases (typeDiffers t (le32 page atType)) _ _ _ _ e₁ (λ _ q. clash (cc)) (λ _ q. clash (cc)))
-    data-by (claim.Data s′ o′ c′ n′) e = cc
-
-module _ (l : Layout) (dump : List ℕ) (i : ℕ) where
-  -- a header's values are within their limits
-  pub header-within :
-      (s : ℕ) (o : ObjectId) (t : ℕ) (p : ObjectId) (z : ℕ) (m : Bool) → kindAt l dump i ≡ Header s o t p z m → HeaderWithin l dump i s o t
-  unfolding kindAt kindOf claimOn
-  header-within s o t p z m e =
-      pick-cases (pageIn l (length dump) i) _ _ _ (HeaderWithin l dump i s o t) e
-      (λ h q.
-      let tags = tagsOf (tagBytes l (pageAt l dump i)) in
-      let b = header-by (pageAt l dump i) tags s o t p z m (claimOf (l .«data») tags) q in
-      let w = header-claimed (l .«data») tags s o (b .claimed) in
-      record { page = h; sequence = w .sequence; object = w .object; page-type = b .page-type })
-      (λ _ q. clash (cc))
-
-  -- and are those that `header` gives
-  pub header-says :
-      (s : ℕ) (o : ObjectId) (t : ℕ) (p : ObjectId) (z : ℕ) (m : Bool) →
-      kindAt l dump i ≡ Header s o t p z m →
-      HeaderSays (fieldsOf (pageAt l dump i)) t p z m
-  unfolding kindAt kindOf claimOn
-  header-says s o t p z m e =
-      pick-cases (pageIn l (length dump) i) _ _ _ (HeaderSays (fieldsOf (pageAt l dump i)) t p z m) e
+  header-by : (h : header.Header) (r : Claim) → kindBy page t r ≡ Header h → HeaderBy page r h
+  unfolding kindBy headerOf fieldsOf
+  header-by h claim.Blank e = clash (cc)
+  header-by h claim.Foreign e = clash (cc)
+  header-by h claim.Damaged e = clash (cc)
+  header-by h (claim.Header s o) e =
+      pick-cases (badType (le32 page atType)) _ _ _ (HeaderBy page (claim.Header s o) h) e (λ _ q. clash (cc))
+      (λ b e₁. pick-cases (typeDiffers t (le32 page atType)) _ _ _ (HeaderBy page (claim.Header s o) h) e₁ (λ _ q. clash (cc))
       (λ _ q.
-      let tags = tagsOf (tagBytes l (pageAt l dump i)) in
-      header-by (pageAt l dump i) tags s o t p z m (claimOf (l .«data») tags) q .says)
+      let v : h ≡ record {
+        sequence = s;
+        object = o;
+        «page_type» = le32 page atType;
+        parent = record { 0 = le32 page atParent };
+        size = le32 page atSize;
+        shrink = not (eqb (le32 page atShrink) 0);
+      } = cc in
+      rw v
+      (record {
+        claimed = refl;
+        page-type = type-within (le32 page atType) b;
+        says = record { type-is = refl; parent-is = refl; size-is = refl; mark-is = refl };
+      })))
+  header-by h (claim.Data d) e = clash (cc)
+
+  data-by : (d : «data».Data) (r : Claim) → kindBy page t r ≡ Data d → r ≡ claim.Data d
+  unfolding kindBy headerOf
+  data-by d claim.Blank e = clash (cc)
+  data-by d claim.Foreign e = clash (cc)
+  data-by d claim.Damaged e = clash (cc)
+  data-by d (claim.Header s o) e =
+      pick-cases (badType (le32 page atType)) _ _ _ _ e (λ _ q. clash (cc))
+      (λ _ e₁. pick-cases (typeDiffers t (le32 page atType)) _ _ _ _ e₁ (λ _ q. clash (cc)) (λ _ q. clash (cc)))
+  data-by d (claim.Data d′) e = cc
+
+module _ (g : Geometry) (dump : List ℕ) (i : ℕ) where
+  abbrev tags : Tags
+  tags = tagsOf (tagBytes (g .layout) (pageAt g dump i))
+
+  -- a header's values are within their limits
+  kind-header : (h : header.Header) → kindAt g dump i ≡ Header h → HeaderWithin g dump i h × HeaderSays (fieldsOf (pageAt g dump i)) h
+  unfolding kindAt kindOf claimOn
+  kind-header h e =
+      pick-cases (pageIn g (length dump) i) _ _ _ (HeaderWithin g dump i h × HeaderSays (fieldsOf (pageAt g dump i)) h) e
+      (λ p q.
+      let b = header-by (pageAt g dump i) tags h (claimOf (g .layout .«data») tags) q in
+      let w = header-claimed (g .layout .«data») tags (h .sequence) (h .object) (b .claimed) in
+      (record { page = p; sequence = w .sequence; object = w .object; page-type = b .page-type }, b .says))
       (λ _ q. clash (cc))
 
-  -- a data page's values are within their limits
-  pub data-within : (s : ℕ) (o : ObjectId) (c : ChunkNumber) (n : ℕ) → kindAt l dump i ≡ Data s o c n → DataWithin l dump i s o c n
+  kind-data : (d : «data».Data) → kindAt g dump i ≡ Data d → DataWithin g dump i d
   unfolding kindAt kindOf claimOn
-  data-within s o c n e =
-      pick-cases (pageIn l (length dump) i) _ _ _ (DataWithin l dump i s o c n) e
+  kind-data d e =
+      pick-cases (pageIn g (length dump) i) _ _ _ (DataWithin g dump i d) e
       (λ h q.
-      let tags = tagsOf (tagBytes l (pageAt l dump i)) in
-      let w = data-claimed (l .«data») tags s o c n (data-by (pageAt l dump i) tags s o c n (claimOf (l .«data») tags) q) in
+      let w = data-claimed (g .layout .«data») tags d (data-by (pageAt g dump i) tags d (claimOf (g .layout .«data») tags) q) in
       record { page = h; sequence = w .sequence; object = w .object; chunk = w .chunk; count = w .count })
       (λ _ q. clash (cc))
 
+  -- a page that is a record is of that kind
+  header-kind : (h : header.Header) (k : Kind) → recordOf k ≡ recorded.Header h → k ≡ Header h
+  header-kind h Blank e = clash (cc)
+  header-kind h Foreign e = clash (cc)
+  header-kind h Damaged e = clash (cc)
+  header-kind h (Header h′) e = cc
+  header-kind h (Data d) e = clash (cc)
+
+  data-kind : (d : «data».Data) (k : Kind) → recordOf k ≡ recorded.Data d → k ≡ Data d
+  data-kind d Blank e = clash (cc)
+  data-kind d Foreign e = clash (cc)
+  data-kind d Damaged e = clash (cc)
+  data-kind d (Header h) e = clash (cc)
+  data-kind d (Data d′) e = cc
+
+  -- a header's values are within their limits, and are those that `header` gives
+  pub header-within : (h : header.Header) → recordAt g dump i ≡ recorded.Header h → HeaderWithin g dump i h
+  unfolding recordAt
+  header-within h e = kind-header h (header-kind h (kindAt g dump i) e) .0
+
+  pub header-says : (h : header.Header) → recordAt g dump i ≡ recorded.Header h → HeaderSays (fieldsOf (pageAt g dump i)) h
+  unfolding recordAt
+  header-says h e = kind-header h (header-kind h (kindAt g dump i) e) .1
+
+  -- a data page's values are within their limits
+  pub data-within : (d : «data».Data) → recordAt g dump i ≡ recorded.Data d → DataWithin g dump i d
+  unfolding recordAt
+  data-within d e = kind-data d (data-kind d (kindAt g dump i) e)
+
   -- a page that is not in the dump is blank
-  pub blank-outside : pageIn l (length dump) i ≡ false → kindAt l dump i ≡ Blank
+  pub blank-outside : pageIn g (length dump) i ≡ false → kindAt g dump i ≡ Blank
   unfolding kindAt
   blank-outside h = rw h
 
-module _ (l : Layout) (k : ℕ) (dump : List ℕ) (m : ℕ) (e : openedOf l k (length dump) ≡ Pages m) where
-  opened-in : (i : ℕ) → pageIn l (length dump) i ≡ ltb i m
-  opened-in i = let f = opened-facts l k (length dump) m e in rw (← f .pages) (page-in l (length dump) i (f .room))
+  -- and no record
+  pub other-outside : pageIn g (length dump) i ≡ false → recordAt g dump i ≡ recorded.Other
+  unfolding recordAt
+  other-outside h = rw (blank-outside h)
+
+module _ (g : Geometry) (dump : List ℕ) (m : ℕ) (e : openedOf g (length dump) ≡ Pages m) where
+  opened-in : (i : ℕ) → pageIn g (length dump) i ≡ ltb i m
+  opened-in i = let f = opened-facts g (length dump) m e in rw (← f .pages) (page-in g (length dump) i (f .room))
 
   -- of an accepted dump the pages below its page count are in the dump
-  pub page-below : (i : ℕ) → i < m → pageIn l (length dump) i ≡ true
+  pub page-below : (i : ℕ) → i < m → pageIn g (length dump) i ≡ true
   page-below i h = opened-in i ∙ lt-ltb i m h
 
   -- and those from it on are not
-  pub page-beyond : (i : ℕ) → m ≤ i → pageIn l (length dump) i ≡ false
+  pub page-beyond : (i : ℕ) → m ≤ i → pageIn g (length dump) i ≡ false
   page-beyond i h = opened-in i ∙ le-ltb i m h
 
   -- so that they are blank
-  pub blank-beyond : (i : ℕ) → m ≤ i → kindAt l dump i ≡ Blank
-  blank-beyond i h = blank-outside l dump i (page-beyond i h)
+  pub blank-beyond : (i : ℕ) → m ≤ i → kindAt g dump i ≡ Blank
+  blank-beyond i h = blank-outside g dump i (page-beyond i h)
+
+-- what a page says does not depend on how many pages a block has
+pub records-any-block : (g : Geometry) (k : ℕ) (dump : List ℕ) → recordAt (inBlocks g k) dump ≡ recordAt g dump
+unfolding recordAt kindAt pageIn pageAt
+records-any-block g k dump = refl
 
 -- whether every number of a list is a byte
 abbrev pub AllBytes : List ℕ → Type 0
 AllBytes s = (i : ℕ) → getD s i 0 < 256
 
 -- the bytes of a page are bytes of the dump
-page-byte : (l : Layout) (dump : List ℕ) (i j : ℕ) → AllBytes dump → j < pageLen l → getD (pageAt l dump i) j 0 < 256
+page-byte : (g : Geometry) (dump : List ℕ) (i j : ℕ) → AllBytes dump → j < pageLen (g .layout) → getD (pageAt g dump i) j 0 < 256
 unfolding pageAt
-page-byte l dump i j b h = rw (getD-take, getD-drop) (b (i * pageLen l + j))
+page-byte g dump i j b h = rw (getD-take, getD-drop) (b (i * pageLen (g .layout) + j))
 
 -- a word of a page is below 2^32
-pub word-below : (l : Layout) (dump : List ℕ) (i at : ℕ) → AllBytes dump → at + 4 ≤ pageLen l → le32 (pageAt l dump i) at < 2 ^ 32
+pub word-below : (g : Geometry) (dump : List ℕ) (i at : ℕ) → AllBytes dump → at + 4 ≤ pageLen (g .layout) → le32 (pageAt g dump i) at < 2 ^ 32
 unfolding le32
-word-below l dump i at b h =
+word-below g dump i at b h =
     omega (
       arith,
-      page-byte l dump i at b (omega arith),
-      page-byte l dump i (at + 1) b (omega arith),
-      page-byte l dump i (at + 2) b (omega arith),
-      page-byte l dump i (at + 3) b (omega arith),
+      page-byte g dump i at b (omega arith),
+      page-byte g dump i (at + 1) b (omega arith),
+      page-byte g dump i (at + 2) b (omega arith),
+      page-byte g dump i (at + 3) b (omega arith),
     )
 
 -- a header's parent and size are machine words
-pub record HeaderWords (p : ObjectId) (z : ℕ) : Type 0 where
-  pub parent : p .0 < 2 ^ 32
-  pub size : z < 2 ^ 32
+pub record HeaderWords (h : header.Header) : Type 0 where
+  pub parent : h .parent .0 < 2 ^ 32
+  pub size : h .size < 2 ^ 32
 
-pub header-words :
-    (l : Layout) (dump : List ℕ) (i s : ℕ) (o : ObjectId) (t : ℕ) (p : ObjectId) (z : ℕ) (m : Bool) →
-    AllBytes dump →
-    kindAt l dump i ≡ Header s o t p z m →
-    HeaderWords p z
+pub header-words : (g : Geometry) (dump : List ℕ) (i : ℕ) (h : header.Header) → AllBytes dump → recordAt g dump i ≡ recorded.Header h → HeaderWords h
 unfolding fieldsOf
-header-words l dump i s o t p z m b e =
-    let f = header-says l dump i s o t p z m e in
-    let w = header-within l dump i s o t p z m e in
-    let r = roomy-facts l (page-within l (length dump) i (w .page) .room) in
+header-words g dump i h b e =
+    let f = header-says g dump i h e in
+    let w = header-within g dump i h e in
+    let r = roomy-facts (g .layout) (page-within g (length dump) i (w .page) .room) in
     record {
-      parent = rw (f .parent-is) (word-below l dump i atParent b (omega arith));
-      size = rw (f .size-is) (word-below l dump i atSize b (omega arith));
+      parent = rw (f .parent-is) (word-below g dump i atParent b (omega arith));
+      size = rw (f .size-is) (word-below g dump i atSize b (omega arith));
     }

@@ -6,7 +6,7 @@ use Rattle.page.specs.Pages.{pageAt}
 use Rattle.page.specs.Headers.{fieldsOf, textOf}
 use Rattle.page.specs.Kinds.{toldOf}
 use Rattle.page.specs.Counts.{isHeader}
-use Rattle.page.specs.declared.layout.Layout.{Layout}
+use Rattle.page.specs.declared.geometry.Geometry.{Geometry}
 use Rattle.page.specs.declared.fields.Fields.{Fields}
 use Rattle.page.specs.declared.fields.Text.{Text}
 use Rattle.page.specs.declared.kind.Told.{Told}
@@ -22,22 +22,22 @@ unfoldable pub askedBy : Told → Asked
 askedBy (told.Refused r) = Refused r
 askedBy (told.Kind k) = pick (isHeader k) Header (Refused NotHeader)
 
--- whether page i of a dump of a named layout in blocks of k is a header
-unfoldable pub askedOf : Layout → ℕ → List ℕ → ℕ → Asked
-askedOf l k dump i = askedBy (toldOf l k dump i)
+-- whether page i of a dump is a header
+unfoldable pub askedOf : Geometry → List ℕ → ℕ → Asked
+askedOf g dump i = askedBy (toldOf g dump i)
 
 unfoldable pub headedBy : Asked → Fields → Headed
 headedBy (Refused r) f = headed.Refused r
 headedBy Header f = headed.Fields f
 
 -- its fields that are numbers
-unfoldable pub headedOf : Layout → ℕ → List ℕ → ℕ → Headed
-headedOf l k dump i = headedBy (askedOf l k dump i) (fieldsOf (pageAt l dump i))
+unfoldable pub headedOf : Geometry → List ℕ → ℕ → Headed
+headedOf g dump i = headedBy (askedOf g dump i) (fieldsOf (pageAt g dump i))
 
 unfoldable pub textBy : Asked → List ℕ → List ℕ
 textBy (Refused r) s = []
 textBy Header s = s
 
 -- a field of it that is bytes; no bytes where the page is refused
-unfoldable pub textAt : Text → Layout → ℕ → List ℕ → ℕ → List ℕ
-textAt f l k dump i = textBy (askedOf l k dump i) (textOf f (pageAt l dump i))
+unfoldable pub textAt : Text → Geometry → List ℕ → ℕ → List ℕ
+textAt f g dump i = textBy (askedOf g dump i) (textOf f (pageAt g dump i))

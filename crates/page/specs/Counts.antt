@@ -6,9 +6,9 @@ use lib.ListN.{length}
 use Rattle.page.specs.Search.{count, more}
 use Rattle.page.specs.Lengths.{openedOf}
 use Rattle.page.specs.Kinds.{kindAt}
-use Rattle.page.specs.declared.layout.Layout.{Layout}
-use Rattle.page.specs.declared.layout.Opened.{Opened}
-use Rattle.page.specs.declared.layout.Opened.the-variants as opened
+use Rattle.page.specs.declared.geometry.Geometry.{Geometry}
+use Rattle.page.specs.declared.geometry.Opened.{Opened}
+use Rattle.page.specs.declared.geometry.Opened.the-variants as opened
 use Rattle.page.specs.declared.kind.Kind.{Kind}
 use Rattle.page.specs.declared.kind.Kind.the-variants.{Blank, Foreign, Damaged, Header, Data}
 use Rattle.page.specs.declared.count.Counts.{Counts}
@@ -20,49 +20,49 @@ abbrev pub isBlank : Kind → Bool
 isBlank Blank = true
 isBlank Foreign = false
 isBlank Damaged = false
-isBlank (Header s o t p z m) = false
-isBlank (Data s o c n) = false
+isBlank (Header h) = false
+isBlank (Data d) = false
 
 abbrev pub isForeign : Kind → Bool
 isForeign Blank = false
 isForeign Foreign = true
 isForeign Damaged = false
-isForeign (Header s o t p z m) = false
-isForeign (Data s o c n) = false
+isForeign (Header h) = false
+isForeign (Data d) = false
 
 abbrev pub isDamaged : Kind → Bool
 isDamaged Blank = false
 isDamaged Foreign = false
 isDamaged Damaged = true
-isDamaged (Header s o t p z m) = false
-isDamaged (Data s o c n) = false
+isDamaged (Header h) = false
+isDamaged (Data d) = false
 
 abbrev pub isHeader : Kind → Bool
 isHeader Blank = false
 isHeader Foreign = false
 isHeader Damaged = false
-isHeader (Header s o t p z m) = true
-isHeader (Data s o c n) = false
+isHeader (Header h) = true
+isHeader (Data d) = false
 
 abbrev pub isData : Kind → Bool
 isData Blank = false
 isData Foreign = false
 isData Damaged = false
-isData (Header s o t p z m) = false
-isData (Data s o c n) = true
+isData (Header h) = false
+isData (Data d) = true
 
 -- how many of the first n pages are of one kind
-abbrev pub kindsBelow : (Kind → Bool) → Layout → List ℕ → ℕ → ℕ
-kindsBelow is l dump n = count (λ i. is (kindAt l dump i)) n
+abbrev pub kindsBelow : (Kind → Bool) → Geometry → List ℕ → ℕ → ℕ
+kindsBelow is g dump n = count (λ i. is (kindAt g dump i)) n
 
 -- the five counts of the first n pages
-unfoldable pub countsBelow : Layout → List ℕ → ℕ → Counts
-countsBelow l dump n = record {
-  blank = kindsBelow isBlank l dump n;
-  foreign = kindsBelow isForeign l dump n;
-  damaged = kindsBelow isDamaged l dump n;
-  headers = kindsBelow isHeader l dump n;
-  «data» = kindsBelow isData l dump n;
+unfoldable pub countsBelow : Geometry → List ℕ → ℕ → Counts
+countsBelow g dump n = record {
+  blank = kindsBelow isBlank g dump n;
+  foreign = kindsBelow isForeign g dump n;
+  damaged = kindsBelow isDamaged g dump n;
+  headers = kindsBelow isHeader g dump n;
+  «data» = kindsBelow isData g dump n;
 }
 
 -- a page of kind k counted too
@@ -83,10 +83,10 @@ pub record AtMost (n : ℕ) (c : Counts) : Type 0 where
   pub header : c .headers ≤ n
   pub datas : c .«data» ≤ n
 
-unfoldable pub countedIn : Opened → Layout → List ℕ → Counted
-countedIn (opened.Refused r) l dump = counted.Refused r
-countedIn (opened.Pages n) l dump = counted.Counts (countsBelow l dump n)
+unfoldable pub countedIn : Opened → Geometry → List ℕ → Counted
+countedIn (opened.Refused r) g dump = counted.Refused r
+countedIn (opened.Pages n) g dump = counted.Counts (countsBelow g dump n)
 
--- the five counts of a dump of a named layout in blocks of k
-unfoldable pub countedOf : Layout → ℕ → List ℕ → Counted
-countedOf l k dump = countedIn (openedOf l k (length dump)) l dump
+-- the five counts of a dump
+unfoldable pub countedOf : Geometry → List ℕ → Counted
+countedOf g dump = countedIn (openedOf g (length dump)) g dump

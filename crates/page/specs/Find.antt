@@ -7,8 +7,11 @@ use lib.Dec.{eqb, leb}
 use Rattle.page.specs.Choice.{pick}
 use Rattle.page.specs.Search.{firstFrom, count}
 use Rattle.page.specs.Layouts.{layouts, layoutAt}
-use Rattle.page.specs.Lengths.{blockFits, lengthFits, wholeBlocks, pageCount}
+use Rattle.page.specs.Lengths.{geometryOf, blockFits, lengthFits, wholeBlocks, pageCount, openedOf}
 use Rattle.page.specs.Tags.{claimAt}
+use Rattle.page.specs.declared.geometry.Geometry.{Geometry}
+use Rattle.page.specs.declared.geometry.Opened.{Opened}
+use Rattle.page.specs.declared.geometry.Opened.the-variants as opened
 use Rattle.page.specs.declared.layout.Named.{Named}
 use Rattle.page.specs.declared.layout.Named.the-variants as named
 use Rattle.page.specs.declared.refusal.Refusal.the-variants.{BadLayout, BadLength, NoLayout}
@@ -21,7 +24,7 @@ isGood Blank = false
 isGood Foreign = false
 isGood Damaged = false
 isGood (Header s o) = true
-isGood (Data s o c n) = true
+isGood (Data d) = true
 
 -- the sequence of a good page
 abbrev pub sequenceOf : Claim → ℕ
@@ -29,7 +32,7 @@ sequenceOf Blank = 0
 sequenceOf Foreign = 0
 sequenceOf Damaged = 0
 sequenceOf (Header s o) = s
-sequenceOf (Data s o c n) = s
+sequenceOf (Data d) = d .sequence
 
 -- a page that is not blank
 abbrev pub isMarked : Claim → Bool
@@ -37,7 +40,7 @@ isMarked Blank = false
 isMarked Foreign = true
 isMarked Damaged = true
 isMarked (Header s o) = true
-isMarked (Data s o c n) = true
+isMarked (Data d) = true
 
 -- a good page bearing this sequence
 unfoldable pub bearsSequence : ℕ → Claim → Bool
@@ -76,11 +79,24 @@ scoreFits score marked = leb 1 score && leb marked (2 * score)
 unfoldable pub fittingScore : (ℕ → Claim) → ℕ → ℕ → ℕ
 fittingScore said k n = pick (scoreFits (scoreOf said k n) (markedOf said n)) (scoreOf said k n) 0
 
+-- the same for a dump of so many pages, or none
+unfoldable pub scoreIn : Opened → (ℕ → Claim) → ℕ → ℕ
+scoreIn (opened.Refused r) said k = 0
+scoreIn (opened.Pages n) said k = fittingScore said k n
+
+-- the score of a dump that is read so; 0 where it is refused
+unfoldable pub scoreUnder : List ℕ → Geometry → ℕ
+scoreUnder dump g = scoreIn (openedOf g (length dump)) (claimAt g dump) (g .block)
+
+-- the candidate with the number c in the table, in blocks of k pages
+abbrev pub candidateAt : ℕ → ℕ → Geometry
+candidateAt k c = geometryOf (layoutAt c) k
+
 -- the same for the candidate with the number c in the table; 0 too where it does not divide the dump into whole blocks
 unfoldable pub candidateScore : List ℕ → ℕ → ℕ → ℕ
 candidateScore dump k c =
-    pick (wholeBlocks (layoutAt c) k (length dump))
-    (fittingScore (claimAt (layoutAt c) dump) k (pageCount (layoutAt c) (length dump)))
+    pick (wholeBlocks (candidateAt k c) (length dump))
+    (fittingScore (claimAt (candidateAt k c) dump) k (pageCount (candidateAt k c) (length dump)))
     0
 
 -- the highest of the first n scores

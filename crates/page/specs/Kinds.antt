@@ -10,9 +10,10 @@ use Rattle.page.specs.Lengths.{pageIn, placedOf}
 use Rattle.page.specs.Pages.{pageAt}
 use Rattle.page.specs.Tags.{tagsOf, tagBytes, isTyped, typeIn, claimOn}
 use Rattle.page.specs.Headers.{atType, atParent, atSize, atShrink}
+use Rattle.page.specs.declared.geometry.Geometry.{Geometry}
 use Rattle.page.specs.declared.layout.Layout.{Layout}
-use Rattle.page.specs.declared.layout.Placed.{Placed}
-use Rattle.page.specs.declared.layout.Placed.the-variants as placed
+use Rattle.page.specs.declared.geometry.Placed.{Placed}
+use Rattle.page.specs.declared.geometry.Placed.the-variants as placed
 use Rattle.page.specs.declared.number.ObjectId.{ObjectId}
 use Rattle.page.specs.declared.tags.Tags.{Tags}
 use Rattle.page.specs.declared.tags.Claim.{Claim}
@@ -35,7 +36,14 @@ unfoldable pub headerOf : List ℕ → Tags → ℕ → ObjectId → Kind
 headerOf page t sequence object =
     pick (badType (le32 page atType)) Damaged
     (pick (typeDiffers t (le32 page atType)) Damaged
-    (Header sequence object (le32 page atType) (record { 0 = le32 page atParent }) (le32 page atSize) (not (eqb (le32 page atShrink) 0))))
+    (Header (record {
+      sequence = sequence;
+      object = object;
+      «page_type» = le32 page atType;
+      parent = record { 0 = le32 page atParent };
+      size = le32 page atSize;
+      shrink = not (eqb (le32 page atShrink) 0);
+    })))
 
 -- the kind of a page whose tags say this
 unfoldable pub kindBy : List ℕ → Tags → Claim → Kind
@@ -43,21 +51,21 @@ kindBy page t claim.Blank = Blank
 kindBy page t claim.Foreign = Foreign
 kindBy page t claim.Damaged = Damaged
 kindBy page t (claim.Header s o) = headerOf page t s o
-kindBy page t (claim.Data s o c n) = Data s o c n
+kindBy page t (claim.Data d) = Data d
 
 -- the kind of a page of a layout
 unfoldable pub kindOf : Layout → List ℕ → Kind
 kindOf l page = kindBy page (tagsOf (tagBytes l page)) (claimOn l page)
 
 -- the kind of page i; one that is not in the dump says nothing, as a blank one
-unfoldable pub kindAt : Layout → List ℕ → ℕ → Kind
-kindAt l dump i = pick (pageIn l (length dump) i) (kindOf l (pageAt l dump i)) Blank
+unfoldable pub kindAt : Geometry → List ℕ → ℕ → Kind
+kindAt g dump i = pick (pageIn g (length dump) i) (kindOf (g .layout) (pageAt g dump i)) Blank
 
 -- the kind where the page is placed
 unfoldable pub toldIn : Placed → Kind → Told
 toldIn (placed.Refused r) k = told.Refused r
 toldIn placed.Here k = told.Kind k
 
--- the kind of page i of a dump of a named layout in blocks of k
-unfoldable pub toldOf : Layout → ℕ → List ℕ → ℕ → Told
-toldOf l k dump i = toldIn (placedOf l k (length dump) i) (kindAt l dump i)
+-- the kind of page i of a dump
+unfoldable pub toldOf : Geometry → List ℕ → ℕ → Told
+toldOf g dump i = toldIn (placedOf g (length dump) i) (kindAt g dump i)

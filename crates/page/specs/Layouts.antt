@@ -3,9 +3,10 @@ use Prim.Native.Nat.{ℕ, _+_}
 use mathlib.Core.Bool.{Bool, _&&_}
 use mathlib.Core.List.{List, [], _∷_}
 use lib.ListN.{getD}
-use lib.Dec.{eqb, ltb, leb}
+use lib.Dec.{eqb, leb}
 use Rattle.page.specs.Choice.{pick}
 use Rattle.page.specs.Search.{firstFrom}
+use Rattle.page.specs.Headers.{atShrink}
 use Rattle.page.specs.declared.layout.Layout.{Layout}
 use Rattle.page.specs.declared.layout.Named.{Named}
 use Rattle.page.specs.declared.layout.Named.the-variants as named
@@ -19,12 +20,16 @@ layoutOf p s t = record { «data» = p; spare = s; tag = t }
 abbrev pub layouts : ℕ
 layouts = 13
 
--- how many bytes the tags of a page are, and those of a header that are read
+-- how many bytes the tags of a page are, and those of a header, whose last field is the shrink word
 abbrev pub tagLength : ℕ
 tagLength = 16
 
 abbrev pub headerBytes : ℕ
-headerBytes = 480
+headerBytes = atShrink + 4
+
+-- the most bytes of a dump
+abbrev pub mostBytes : ℕ
+mostBytes = 1073741824
 
 -- the columns of the table
 unfoldable pub dataSizes : List ℕ
@@ -68,6 +73,6 @@ pageLen l = l .«data» + l .spare
 abbrev pub tagPlace : Layout → ℕ
 tagPlace l = l .«data» + l .tag
 
--- the one condition on sizes: a header has room in the data, and the 16 tag bytes at T in the spare
+-- the one condition on sizes: a header has room in the data, the 16 tag bytes at T in the spare, and a page is no longer than a dump may be
 unfoldable pub roomy : Layout → Bool
-roomy l = leb headerBytes (l .«data») && leb (l .tag + tagLength) (l .spare)
+roomy l = leb headerBytes (l .«data») && leb (l .tag + tagLength) (l .spare) && leb (pageLen l) mostBytes

@@ -3,12 +3,12 @@
 use Prim.Native.Nat.{ℕ, _+_, _*_}
 use mathlib.Core.Bool.{Bool, true}
 use mathlib.Core.Path.{_≡_}
-use lib.Dec.{eqb, ltb}
+use lib.Dec.{eqb, ltb, leb}
 use Rattle.page.specs.Choice.{pick}
 use Rattle.page.specs.Lengths.{wholeBlocks, pageCount}
 use Rattle.page.specs.Find.{scoreOf, markedOf}
 use Rattle.page.specs.declared.find.Gain.{Gain}
-use Rattle.page.specs.declared.layout.Layout.{Layout}
+use Rattle.page.specs.declared.geometry.Geometry.{Geometry}
 use Rattle.page.specs.declared.tags.Claim.{Claim}
 
 -- the candidate of a turn, where the one that was guessed and the first of the table have changed places
@@ -19,9 +19,9 @@ inTurn guess turn = pick (eqb turn 0) guess (pick (eqb turn guess) 0 turn)
 unfoldable pub needOf : ℕ → ℕ → ℕ → ℕ
 needOf n found best = pick (ltb n found) best (best + 1)
 
--- how many pages n bytes are in whole blocks of k under a layout; none where they are not whole blocks
-unfoldable pub pagesUnder : Layout → ℕ → ℕ → ℕ
-pagesUnder l k n = pick (wholeBlocks l k n) (pageCount l n) 0
+-- how many pages n bytes are in whole blocks; none where they are not whole blocks
+unfoldable pub pagesUnder : Geometry → ℕ → ℕ
+pagesUnder g n = pick (wholeBlocks g n) (pageCount g n) 0
 
 -- what the block of k pages from `block` on adds to its candidate
 pub record Gained (said : ℕ → Claim) (k block : ℕ) (g : Gain) : Type 0 where
@@ -32,3 +32,7 @@ pub record Gained (said : ℕ → Claim) (k block : ℕ) (g : Gain) : Type 0 whe
 -- one more that is not blank
 unfoldable pub isLost : ℕ → ℕ → ℕ → ℕ → Bool
 isLost score marked left need = pick (ltb (score + left) need) true (ltb (2 * score + left) marked)
+
+-- a score of which at least so much is asked; 0 where it is less
+unfoldable pub atLeast : ℕ → ℕ → ℕ
+atLeast need score = pick (leb need score) score 0

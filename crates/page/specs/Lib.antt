@@ -3,12 +3,13 @@ pub mod Search
 pub mod Refusals
 pub mod Numbers
 pub mod Words
+pub mod Headers
 pub mod Layouts
 pub mod Lengths
 pub mod Pages
 pub mod Tags
-pub mod Headers
 pub mod Kinds
+pub mod Records
 pub mod Counts
 pub mod Asked
 pub mod Find

@@ -3,8 +3,8 @@ use Prim.Native.Nat.{ℕ, _*_}
 use mathlib.Core.List.{List}
 use lib.ListN.{take, drop}
 use Rattle.page.specs.Layouts.{pageLen}
-use Rattle.page.specs.declared.layout.Layout.{Layout}
+use Rattle.page.specs.declared.geometry.Geometry.{Geometry}
 
 -- page i: P data bytes and then S spare bytes
-unfoldable pub pageAt : Layout → List ℕ → ℕ → List ℕ
-pageAt l dump i = take (pageLen l) (drop (i * pageLen l) dump)
+unfoldable pub pageAt : Geometry → List ℕ → ℕ → List ℕ
+pageAt g dump i = take (pageLen (g .layout)) (drop (i * pageLen (g .layout)) dump)

@@ -9,6 +9,7 @@ use Rattle.page.specs.Search.{count}
 use Rattle.page.specs.Layouts.{layouts, layoutAt, tagLength, pageLen, tagPlace}
 use Rattle.page.specs.Lengths.{blockFits, lengthFits, wholeBlocks, pageIn}
 use Rattle.page.specs.Tags.{claimAt}
+use Rattle.page.specs.Find.{candidateAt}
 use Rattle.page.specs.Shelf.{tagged, erased}
 use Rattle.page.specs.declared.layout.Layout.{Layout}
 
@@ -22,7 +23,7 @@ inTags l at = leb (tagPlace l) (at % pageLen l) && ltb (at % pageLen l) (tagPlac
 
 -- whether candidate c divides n bytes into whole blocks of k pages, and byte `at` is one of its tag bytes
 abbrev pub tagsOfCandidate : ℕ → ℕ → ℕ → ℕ → Bool
-tagsOfCandidate k n at c = wholeBlocks (layoutAt c) k n && inTags (layoutAt c) at
+tagsOfCandidate k n at c = wholeBlocks (candidateAt k c) n && inTags (layoutAt c) at
 
 -- whether byte `at` of n bytes in blocks of k pages is read: neither K nor the length is refused, and it is a tag byte of some candidate that
 -- divides them
@@ -38,8 +39,8 @@ pub record SameRead (a b : List ℕ) (k : ℕ) : Type 0 where
 pub record SameClaims (a b : List ℕ) (k : ℕ) : Type 0 where
   pub long : length a ≡ length b
   pub claims :
-      blockFits k ≡ true → lengthFits (length a) ≡ true → (c i : ℕ) → c < layouts → wholeBlocks (layoutAt c) k (length a) ≡ true → pageIn (layoutAt c) (length a) i ≡ true →
-      claimAt (layoutAt c) a i ≡ claimAt (layoutAt c) b i
+      blockFits k ≡ true → lengthFits (length a) ≡ true → (c i : ℕ) → c < layouts → wholeBlocks (candidateAt k c) (length a) ≡ true → pageIn (candidateAt k c) (length a) i ≡ true →
+      claimAt (candidateAt k c) a i ≡ claimAt (candidateAt k c) b i
 
 -- a dump of one page of 512/16 with these tags, and another value for one of their bytes
 pub record TagCase : Type 0 where

@@ -6,13 +6,17 @@ use mathlib.Core.List.{List, [], _∷_, _++_}
 use lib.ListN.{getD, set, take, replicate}
 use Rattle.page.specs.Layouts.{layoutOf}
 use Rattle.page.specs.Kinds.{kindAt}
+use Rattle.page.specs.declared.geometry.Geometry.{Geometry}
 use Rattle.page.specs.declared.layout.Layout.{Layout}
 use Rattle.page.specs.declared.kind.Kind.{Kind}
 use Rattle.page.specs.declared.kind.Kind.the-variants.{Blank, Foreign, Damaged, Header, Data}
 
--- the layout of W
+-- the layout of W, and how W is read
 abbrev pub shelfLayout : Layout
 shelfLayout = layoutOf 512 16 0
+
+abbrev pub shelfGeometry : Geometry
+shelfGeometry = record { layout = shelfLayout; block = 4 }
 
 -- the 4 bytes of a word, least first
 unfoldable pub wordBytes : ℕ → List ℕ
@@ -66,16 +70,23 @@ unfoldable pub retagged : ℕ → List ℕ → List (List ℕ) → List (List �
 retagged i tags pages = set pages i (take 512 (getD pages i []) ++ tags)
 
 -- the kinds of n pages of a dump, from page i on
-unfoldable pub kindsFrom : Layout → List ℕ → ℕ → ℕ → List Kind
-kindsFrom l dump i zero = []
-kindsFrom l dump i (suc n) = kindAt l dump i ∷ kindsFrom l dump (i + 1) n
+unfoldable pub kindsFrom : Geometry → List ℕ → ℕ → ℕ → List Kind
+kindsFrom g dump i zero = []
+kindsFrom g dump i (suc n) = kindAt g dump i ∷ kindsFrom g dump (i + 1) n
 
 -- a header and a data page of object 257, as kinds
 abbrev pub shelfHeader : ℕ → ℕ → Bool → Kind
-shelfHeader sequence size shrink = Header sequence (record { 0 = 257 }) 1 (record { 0 = 1 }) size shrink
+shelfHeader sequence size shrink = Header (record {
+  sequence = sequence;
+  object = record { 0 = 257 };
+  «page_type» = 1;
+  parent = record { 0 = 1 };
+  size = size;
+  shrink = shrink;
+})
 
 abbrev pub shelfData : ℕ → ℕ → ℕ → Kind
-shelfData sequence chunk count = Data sequence (record { 0 = 257 }) (record { 0 = chunk }) count
+shelfData sequence chunk count = Data (record { sequence = sequence; object = record { 0 = 257 }; chunk = record { 0 = chunk }; count = count })
 
 -- the kinds of W's pages
 unfoldable pub shelfKinds : List Kind
@@ -112,4 +123,4 @@ pageCases =
 
 -- what the definitions say of a case
 unfoldable pub kindIn : PageCase → Kind
-kindIn c = kindAt shelfLayout (dumpOf (retagged (c .page) (c .tags) shelfPages)) (c .page)
+kindIn c = kindAt shelfGeometry (dumpOf (retagged (c .page) (c .tags) shelfPages)) (c .page)

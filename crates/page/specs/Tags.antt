@@ -9,6 +9,7 @@ use Rattle.page.specs.Numbers.{badObject, mostChunk}
 use Rattle.page.specs.Words.{le32}
 use Rattle.page.specs.Lengths.{pageIn}
 use Rattle.page.specs.Pages.{pageAt}
+use Rattle.page.specs.declared.geometry.Geometry.{Geometry}
 use Rattle.page.specs.declared.layout.Layout.{Layout}
 use Rattle.page.specs.declared.tags.Tags.{Tags}
 use Rattle.page.specs.declared.tags.Claim.{Claim}
@@ -63,7 +64,7 @@ dataClaim p t =
     (pick (ltb mostChunk (t .chunk)) Damaged
     (pick (eqb (t .count) 0) Damaged
     (pick (ltb p (t .count)) Damaged
-    (Data (t .sequence) (record { 0 = t .object }) (record { 0 = t .chunk }) (t .count)))))
+    (Data (record { sequence = t .sequence; object = record { 0 = t .object }; chunk = record { 0 = t .chunk }; count = t .count })))))
 
 -- the tags of a page of p data bytes, first match wins
 unfoldable pub claimOf : ℕ → Tags → Claim
@@ -80,5 +81,5 @@ unfoldable pub claimOn : Layout → List ℕ → Claim
 claimOn l page = claimOf (l .«data») (tagsOf (tagBytes l page))
 
 -- what the tags of page i say; one that is not in the dump says nothing, as a blank one
-unfoldable pub claimAt : Layout → List ℕ → ℕ → Claim
-claimAt l dump i = pick (pageIn l (length dump) i) (claimOn l (pageAt l dump i)) Blank
+unfoldable pub claimAt : Geometry → List ℕ → ℕ → Claim
+claimAt g dump i = pick (pageIn g (length dump) i) (claimOn (g .layout) (pageAt g dump i)) Blank

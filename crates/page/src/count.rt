@@ -2,10 +2,10 @@
 ghost use mathlib.Core.Path.{_≡_};
 ghost use Prim.Native.Nat.{_<_, _^_};
 ghost use Rattle.page.specs.Counts.{countsBelow, countedOf, withKind, AtMost};
+use crate::geometry::Geometry;
+use crate::geometry::Opened;
 use crate::kind::Kind;
 use crate::kind::kind_at;
-use crate::layout::Layout;
-use crate::layout::Opened;
 use crate::number::PageNumber;
 use crate::refusal::Refusal;
 
@@ -33,17 +33,17 @@ impl Counts {
             Kind::Blank => self.blank += 1,
             Kind::Foreign => self.foreign += 1,
             Kind::Damaged => self.damaged += 1,
-            Kind::Header { .. } => self.headers += 1,
-            Kind::Data { .. } => self.data += 1,
+            Kind::Header(_) => self.headers += 1,
+            Kind::Data(_) => self.data += 1,
         }
         self
     }
 }
 
 // The counts of the first pages of a dump.
-fn count_pages(dump: &[u8], l: Layout, pages: u32) -> Counts
+fn count_pages(dump: &[u8], g: Geometry, pages: u32) -> Counts
     requires { ⌜ pages < 2 ^ 31 ⌝ }
-    ensures { λ r. ⌜ r ≡ countsBelow l (now (dump .entry)) pages ⌝ }
+    ensures { λ r. ⌜ r ≡ countsBelow g (now (dump .entry)) pages ⌝ }
 {
     let mut c = Counts {
         blank: 0,
@@ -54,19 +54,19 @@ fn count_pages(dump: &[u8], l: Layout, pages: u32) -> Counts
     };
     let mut i: u32 = 0;
     while i < pages {
-        c = c.with(kind_at(dump, l, PageNumber(i)));
+        c = c.with(kind_at(dump, g, PageNumber(i)));
         i += 1;
     }
     c
 }
 
-// The five counts of a dump of a named layout in blocks of k.
-pub fn count_kinds(dump: &[u8], l: Layout, k: u32) -> Counted
-    ensures { λ r. ⌜ r ≡ countedOf l k (now (dump .entry)) ⌝ }
+// The five counts of a dump.
+pub fn count_kinds(dump: &[u8], g: Geometry) -> Counted
+    ensures { λ r. ⌜ r ≡ countedOf g (now (dump .entry)) ⌝ }
 {
-    let o = l.opened(dump.len(), k);
+    let o = g.opened(dump.len());
     match o {
         Opened::Refused(r) => Counted::Refused(r),
-        Opened::Pages(pages) => Counted::Counts(count_pages(dump, l, pages)),
+        Opened::Pages(pages) => Counted::Counts(count_pages(dump, g, pages)),
     }
 }

@@ -7,8 +7,10 @@ ghost use lib.ListN.{length};
 ghost use Rattle.page.specs.Layouts.{layouts, roomy};
 ghost use Rattle.page.specs.Lengths.{blockFits, lengthFits};
 ghost use Rattle.page.specs.Tags.{claimAt};
-ghost use Rattle.page.specs.Find.{isGood, isMarked, bearsSequence, firstSequence, candidateScore, winnerOf, findOf};
-ghost use Rattle.page.specs.Leaving.{Gained, inTurn, isLost, needOf, pagesUnder};
+ghost use Rattle.page.specs.Find.{isGood, isMarked, bearsSequence, firstSequence, fittingScore, scoreUnder, candidateScore, winnerOf, findOf};
+ghost use Rattle.page.specs.Leaving.{atLeast, Gained, inTurn, isLost, needOf, pagesUnder};
+use crate::geometry::Geometry;
+use crate::geometry::Opened;
 use crate::layout::Layout;
 use crate::layout::Named;
 use crate::number::PageNumber;
@@ -45,87 +47,77 @@ fn is_good(claim: Claim) -> bool
             sequence: _,
             object: _,
         } => true,
-        Claim::Data {
-            sequence: _,
-            object: _,
-            chunk: _,
-            count: _,
-        } => true,
+        Claim::Data(_) => true,
         _ => false,
     }
 }
 
 // Whether page n is good and bears this sequence. The sequence is compared first: under a candidate that is not the dump's it mostly differs.
-fn bears(dump: &[u8], l: Layout, n: PageNumber, sequence: u32) -> bool
-    ensures { λ r. ⌜ r ≡ bearsSequence sequence (claimAt l (now (dump .entry)) (n .0)) ⌝ }
+fn bears(dump: &[u8], g: Geometry, n: PageNumber, sequence: u32) -> bool
+    ensures { λ r. ⌜ r ≡ bearsSequence sequence (claimAt g (now (dump .entry)) (n .0)) ⌝ }
 {
-    if !l.holds(dump.len(), n) {
+    if !g.holds(dump.len(), n) {
         return false;
     }
-    let t = tags_at(dump, l, n);
+    let t = tags_at(dump, g, n);
     if t.sequence != sequence {
         return false;
     }
-    is_good(t.claim(l.data))
+    is_good(t.claim(g.layout.data))
 }
 
-// The sequence of the first good page of a block of k pages, where the search ends; 0 where no page is good.
-fn first_sequence(dump: &[u8], l: Layout, k: u32, block: u32) -> u32
-    requires { ⌜ block + k < 2 ^ 32 ⌝ }
-    ensures { λ r. ⌜ r ≡ firstSequence (claimAt l (now (dump .entry))) block k ⌝ }
+// The sequence of the first good page of a block, where the search ends; 0 where no page is good.
+fn first_sequence(dump: &[u8], g: Geometry, block: u32) -> u32
+    requires { ⌜ block + g .block < 2 ^ 32 ⌝ }
+    ensures { λ r. ⌜ r ≡ firstSequence (claimAt g (now (dump .entry))) block (g .block) ⌝ }
 {
-    let end = block + k;
+    let end = block + g.block;
     let mut i = block;
     let sequence = loop {
         if end <= i {
             break 0;
         }
-        let claim = claim_at(dump, l, PageNumber(i));
+        let claim = claim_at(dump, g, PageNumber(i));
         i += 1;
         match claim {
             Claim::Header {
                 sequence,
                 object: _,
             } => break sequence,
-            Claim::Data {
-                sequence,
-                object: _,
-                chunk: _,
-                count: _,
-            } => break sequence,
+            Claim::Data(d) => break d.sequence,
             _ => continue,
         }
     };
     sequence
 }
 
-// How many pages a dump of this length has in whole blocks of k under layout l; none where it does not divide.
-fn pages_under(l: Layout, k: u32, len: usize) -> u32
-    requires { ⌜ roomy l ≡ true ⌝ }
-    requires { ⌜ blockFits k ≡ true ⌝ }
+// How many pages a dump of this length has in whole blocks; none where it does not divide.
+fn pages_under(g: Geometry, len: usize) -> u32
+    requires { ⌜ roomy (g .layout) ≡ true ⌝ }
+    requires { ⌜ blockFits (g .block) ≡ true ⌝ }
     requires { ⌜ lengthFits len ≡ true ⌝ }
-    ensures { λ r. ⌜ r ≡ pagesUnder l k len ⌝ }
+    ensures { λ r. ⌜ r ≡ pagesUnder g len ⌝ }
 {
-    if !l.divides(len, k) {
+    if !g.divides(len) {
         return 0;
     }
-    (len / l.page_len()) as u32
+    (len / g.layout.page_len()) as u32
 }
 
 // What a block adds to its candidate.
-fn gain_in(dump: &[u8], l: Layout, k: u32, block: u32) -> Gain
-    requires { ⌜ block % k ≡ 0 ⌝ }
-    requires { ⌜ block + k < 2 ^ 32 ⌝ }
-    ensures { λ r. ⌜ Gained (claimAt l (now (dump .entry))) k block r ⌝ }
+fn gain_in(dump: &[u8], g: Geometry, block: u32) -> Gain
+    requires { ⌜ block % g .block ≡ 0 ⌝ }
+    requires { ⌜ block + g .block < 2 ^ 32 ⌝ }
+    ensures { λ r. ⌜ Gained (claimAt g (now (dump .entry))) (g .block) block r ⌝ }
 {
-    let sequence = first_sequence(dump, l, k, block);
+    let sequence = first_sequence(dump, g, block);
     let mut score: u32 = 0;
     let mut marked: u32 = 0;
-    for i in block..block + k {
-        if is_marked(claim_at(dump, l, PageNumber(i))) {
+    for i in block..block + g.block {
+        if is_marked(claim_at(dump, g, PageNumber(i))) {
             marked += 1;
         }
-        if bears(dump, l, PageNumber(i), sequence) {
+        if bears(dump, g, PageNumber(i), sequence) {
             score += 1;
         }
     }
@@ -167,15 +159,18 @@ fn glance(dump: &[u8], k: u32, n: u32) -> u32
     requires { ⌜ blockFits k ≡ true ⌝ }
     requires { ⌜ lengthFits (length (now dump)) ≡ true ⌝ }
 {
-    let l = Layout::row(n);
-    let pages = pages_under(l, k, dump.len());
+    let g = Geometry {
+        layout: Layout::row(n),
+        block: k,
+    };
+    let pages = pages_under(g, dump.len());
     if pages == 0 {
         return 0;
     }
     let stride = pages / GLANCES / k * k;
     let mut score: u32 = 0;
     for i in 0..GLANCES {
-        score += gain_in(dump, l, k, stride * i).score;
+        score += gain_in(dump, g, stride * i).score;
     }
     score
 }
@@ -210,8 +205,11 @@ fn best_of(dump: &[u8], k: u32) -> Named
     let mut found: u32 = 0;
     'candidates: for turn in 0..Layout::COUNT {
         let n = in_turn(first, turn);
-        let l = Layout::row(n);
-        let pages = pages_under(l, k, dump.len());
+        let g = Geometry {
+            layout: Layout::row(n),
+            block: k,
+        };
+        let pages = pages_under(g, dump.len());
         let need = need_of(n, found, best);
         let mut score: u32 = 0;
         let mut marked: u32 = 0;
@@ -224,10 +222,10 @@ fn best_of(dump: &[u8], k: u32) -> Named
             if next == pages {
                 break 'blocks;
             }
-            let g = gain_in(dump, l, k, next);
+            let gain = gain_in(dump, g, next);
             next += k;
-            score += g.score;
-            marked += g.marked;
+            score += gain.score;
+            marked += gain.marked;
         }
         best = score;
         found = n;
@@ -242,11 +240,48 @@ fn best_of(dump: &[u8], k: u32) -> Named
 pub fn find(dump: &[u8], k: u32) -> Named
     ensures { λ r. ⌜ r ≡ findOf (now (dump .entry)) k ⌝ }
 {
-    if !Layout::block_fits(k) {
+    if !Geometry::block_fits(k) {
         return Named::Refused(Refusal::BadLayout);
     }
-    if !Layout::length_fits(dump.len()) {
+    if !Geometry::length_fits(dump.len()) {
         return Named::Refused(Refusal::BadLength);
     }
     best_of(dump, k)
+}
+
+// The score of so many pages of a dump that is read so, if it is at least what is needed; 0 else. It is left as soon as it cannot be.
+fn score_in(dump: &[u8], g: Geometry, pages: u32, need: u32) -> u32
+    requires { ⌜ 0 < g .block ⌝ }
+    requires { ⌜ g .block < 2 ^ 31 ⌝ }
+    requires { ⌜ pages < 2 ^ 31 ⌝ }
+    requires { ⌜ pages % g .block ≡ 0 ⌝ }
+    ensures { λ r. ⌜ r ≡ atLeast need (fittingScore (claimAt g (now (dump .entry))) (g .block) pages) ⌝ }
+{
+    let mut score: u32 = 0;
+    let mut marked: u32 = 0;
+    let mut next: u32 = 0;
+    loop {
+        if is_lost(score, marked, pages - next, need) {
+            return 0;
+        }
+        if next == pages {
+            return score;
+        }
+        let gain = gain_in(dump, g, next);
+        next += g.block;
+        score += gain.score;
+        marked += gain.marked;
+    }
+}
+
+// The score of finding the layout, for a dump that is read so: how many good pages bear their block's sequence, if it fits and they are at least
+// as many as needed; 0 else, and where the dump is refused.
+pub fn score(dump: &[u8], g: Geometry, need: u32) -> u32
+    ensures { λ r. ⌜ r ≡ atLeast need (scoreUnder (now (dump .entry)) g) ⌝ }
+{
+    let o = g.opened(dump.len());
+    match o {
+        Opened::Refused(_) => 0,
+        Opened::Pages(pages) => score_in(dump, g, pages, need),
+    }
 }

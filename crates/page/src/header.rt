@@ -6,10 +6,10 @@ ghost use Rattle.page.specs.Counts.{isHeader};
 ghost use Rattle.page.specs.Asked.{askedOf, headedOf, textAt};
 use crate::fields::Fields;
 use crate::fields::Text;
+use crate::geometry::Geometry;
 use crate::kind::Kind;
 use crate::kind::Told;
 use crate::kind::page_kind;
-use crate::layout::Layout;
 use crate::number::PageNumber;
 use crate::refusal::Refusal;
 use crate::tags::page_at;
@@ -30,25 +30,17 @@ pub enum Headed {
 pub fn is_header(k: Kind) -> bool
     ensures { λ r. ⌜ r ≡ isHeader k ⌝ }
 {
-    let Kind::Header {
-        sequence: _,
-        object: _,
-        page_type: _,
-        parent: _,
-        size: _,
-        shrink: _,
-    } = k
-    else {
+    let Kind::Header(_) = k else {
         return false;
     };
     true
 }
 
 // Whether the fields of page n can be read.
-fn ask_header(dump: &[u8], l: Layout, k: u32, n: PageNumber) -> Asked
-    ensures { λ r. ⌜ r ≡ askedOf l k (now (dump .entry)) (n .0) ⌝ }
+fn ask_header(dump: &[u8], g: Geometry, n: PageNumber) -> Asked
+    ensures { λ r. ⌜ r ≡ askedOf g (now (dump .entry)) (n .0) ⌝ }
 {
-    let t = page_kind(dump, l, k, n);
+    let t = page_kind(dump, g, n);
     match t {
         Told::Refused(r) => Asked::Refused(r),
         Told::Kind(kind) => {
@@ -61,25 +53,25 @@ fn ask_header(dump: &[u8], l: Layout, k: u32, n: PageNumber) -> Asked
 }
 
 // The header fields of page n that are numbers.
-pub fn header(dump: &[u8], l: Layout, k: u32, n: PageNumber) -> Headed
-    ensures { λ r. ⌜ r ≡ headedOf l k (now (dump .entry)) (n .0) ⌝ }
+pub fn header(dump: &[u8], g: Geometry, n: PageNumber) -> Headed
+    ensures { λ r. ⌜ r ≡ headedOf g (now (dump .entry)) (n .0) ⌝ }
 {
-    let a = ask_header(dump, l, k, n);
+    let a = ask_header(dump, g, n);
     match a {
         Asked::Refused(r) => Headed::Refused(r),
-        Asked::Header => Headed::Fields(Fields::of_page(page_at(dump, l, n))),
+        Asked::Header => Headed::Fields(Fields::of_page(page_at(dump, g, n))),
     }
 }
 
 // A header field of page n that is bytes, as a part of the dump; an empty part where `header` refuses.
-pub fn header_text(dump: &[u8], l: Layout, k: u32, n: PageNumber, f: Text) -> &[u8]
-    ensures { λ r. ⌜ now r ≡ textAt f l k (now (dump .entry)) (n .0) ⌝ }
+pub fn header_text(dump: &[u8], g: Geometry, n: PageNumber, f: Text) -> &[u8]
+    ensures { λ r. ⌜ now r ≡ textAt f g (now (dump .entry)) (n .0) ⌝ }
 {
-    let a = ask_header(dump, l, k, n);
+    let a = ask_header(dump, g, n);
     match a {
         Asked::Refused(_) => &dump[..0],
         Asked::Header => {
-            let page = page_at(dump, l, n);
+            let page = page_at(dump, g, n);
             let from = f.place();
             let end = from + f.length();
             &page[from..end]

@@ -6,11 +6,13 @@ ghost use lib.ListN.{length};
 ghost use Rattle.page.specs.Layouts.{headerBytes, pageLen, roomy};
 ghost use Rattle.page.specs.Kinds.{badType, typeDiffers, headerOf, kindBy, kindOf, kindAt, toldOf};
 use crate::fields::Fields;
+use crate::geometry::Geometry;
+use crate::geometry::Placed;
 use crate::layout::Layout;
-use crate::layout::Placed;
-use crate::number::ChunkNumber;
 use crate::number::ObjectId;
 use crate::number::PageNumber;
+use crate::record::Data;
+use crate::record::Header;
 use crate::refusal::Refusal;
 use crate::tags::Claim;
 use crate::tags::Tags;
@@ -21,20 +23,8 @@ pub enum Kind {
     Blank,
     Foreign,
     Damaged,
-    Header {
-        sequence: u32,
-        object: ObjectId,
-        page_type: u32,
-        parent: ObjectId,
-        size: u32,
-        shrink: bool,
-    },
-    Data {
-        sequence: u32,
-        object: ObjectId,
-        chunk: ChunkNumber,
-        count: u32,
-    },
+    Header(Header),
+    Data(Data),
 }
 
 // Whether a page type is none of the five.
@@ -69,14 +59,14 @@ fn header_kind(page: &[u8], t: Tags, sequence: u32, object: ObjectId) -> Kind
     if type_differs(t, page_type) {
         return Kind::Damaged;
     }
-    Kind::Header {
+    Kind::Header(Header {
         sequence,
         object,
         page_type,
         parent: ObjectId(word_at(page, Fields::PARENT)),
         size: word_at(page, Fields::FILE_SIZE),
         shrink: word_at(page, Fields::SHRINK) != 0,
-    }
+    })
 }
 
 // The kind of a page whose tags say this.
@@ -89,17 +79,7 @@ fn kind_by(page: &[u8], t: Tags, claim: Claim) -> Kind
         Claim::Foreign => Kind::Foreign,
         Claim::Damaged => Kind::Damaged,
         Claim::Header { sequence, object } => header_kind(page, t, sequence, object),
-        Claim::Data {
-            sequence,
-            object,
-            chunk,
-            count,
-        } => Kind::Data {
-            sequence,
-            object,
-            chunk,
-            count,
-        },
+        Claim::Data(d) => Kind::Data(d),
     }
 }
 
@@ -114,13 +94,13 @@ fn kind_on(page: &[u8], l: Layout) -> Kind
 }
 
 // The kind of page n; a page that is not in the dump says nothing, as a blank one.
-pub fn kind_at(dump: &[u8], l: Layout, n: PageNumber) -> Kind
-    ensures { λ r. ⌜ r ≡ kindAt l (now (dump .entry)) (n .0) ⌝ }
+pub fn kind_at(dump: &[u8], g: Geometry, n: PageNumber) -> Kind
+    ensures { λ r. ⌜ r ≡ kindAt g (now (dump .entry)) (n .0) ⌝ }
 {
-    if !l.holds(dump.len(), n) {
+    if !g.holds(dump.len(), n) {
         return Kind::Blank;
     }
-    kind_on(page_at(dump, l, n), l)
+    kind_on(page_at(dump, g, n), g.layout)
 }
 
 // The kind of a page, or why there is none.
@@ -129,13 +109,13 @@ pub enum Told {
     Refused(Refusal),
 }
 
-// The kind of page n of a dump of a named layout in blocks of k.
-pub fn page_kind(dump: &[u8], l: Layout, k: u32, n: PageNumber) -> Told
-    ensures { λ r. ⌜ r ≡ toldOf l k (now (dump .entry)) (n .0) ⌝ }
+// The kind of page n of a dump.
+pub fn page_kind(dump: &[u8], g: Geometry, n: PageNumber) -> Told
+    ensures { λ r. ⌜ r ≡ toldOf g (now (dump .entry)) (n .0) ⌝ }
 {
-    let p = l.placed(dump.len(), k, n);
+    let p = g.placed(dump.len(), n);
     match p {
         Placed::Refused(r) => Told::Refused(r),
-        Placed::Here => Told::Kind(kind_at(dump, l, n)),
+        Placed::Here => Told::Kind(kind_at(dump, g, n)),
     }
 }

@@ -7,10 +7,12 @@ ghost use Rattle.page.specs.Layouts.{tagLength, pageLen, roomy};
 ghost use Rattle.page.specs.Lengths.{pageIn};
 ghost use Rattle.page.specs.Pages.{pageAt};
 ghost use Rattle.page.specs.Tags.{tagsOf, tagBytes, objectIn, headerClaim, dataClaim, claimOf, claimAt};
+use crate::geometry::Geometry;
 use crate::layout::Layout;
 use crate::number::ChunkNumber;
 use crate::number::ObjectId;
 use crate::number::PageNumber;
+use crate::record::Data;
 use crate::word::word_at;
 
 // The four words of a page's tags.
@@ -26,16 +28,8 @@ pub enum Claim {
     Blank,
     Foreign,
     Damaged,
-    Header {
-        sequence: u32,
-        object: ObjectId,
-    },
-    Data {
-        sequence: u32,
-        object: ObjectId,
-        chunk: ChunkNumber,
-        count: u32,
-    },
+    Header { sequence: u32, object: ObjectId },
+    Data(Data),
 }
 
 impl Tags {
@@ -70,8 +64,8 @@ impl Tags {
         ensures { λ r. ⌜ r ≡ tagsOf (tagBytes l (now (page .entry))) ⌝ }
     {
         let d = l.data as usize;
-        let t = l.tag as usize;
         let spare = &page[d..];
+        let t = l.tag_place() - d;
         let e = t + Layout::TAG_BYTES;
         Tags::parse(&spare[t..e])
     }
@@ -99,7 +93,7 @@ impl Tags {
         }
     }
 
-    fn data_claim(self, data: u16) -> Claim
+    fn data_claim(self, data: u32) -> Claim
         ensures { λ r. ⌜ r ≡ dataClaim «data» self ⌝ }
     {
         let object = ObjectId(self.object);
@@ -112,19 +106,19 @@ impl Tags {
         if self.count == 0 {
             return Claim::Damaged;
         }
-        if (data as u32) < self.count {
+        if data < self.count {
             return Claim::Damaged;
         }
-        Claim::Data {
+        Claim::Data(Data {
             sequence: self.sequence,
             object,
             chunk: ChunkNumber(self.chunk),
             count: self.count,
-        }
+        })
     }
 
     // What the tags say of a page with so many data bytes, first match wins.
-    pub(crate) fn claim(self, data: u16) -> Claim
+    pub(crate) fn claim(self, data: u32) -> Claim
         ensures { λ r. ⌜ r ≡ claimOf «data» self ⌝ }
     {
         if self.sequence == Tags::BLANK {
@@ -147,30 +141,30 @@ impl Tags {
 }
 
 // The bytes of page n, which lies in the dump.
-pub(crate) fn page_at(dump: &[u8], l: Layout, n: PageNumber) -> &[u8]
-    requires { ⌜ pageIn l (length (now dump)) (n .0) ≡ true ⌝ }
-    ensures { λ r. ⌜ now r ≡ pageAt l (now (dump .entry)) (n .0) ⌝ }
+pub(crate) fn page_at(dump: &[u8], g: Geometry, n: PageNumber) -> &[u8]
+    requires { ⌜ pageIn g (length (now dump)) (n .0) ≡ true ⌝ }
+    ensures { λ r. ⌜ now r ≡ pageAt g (now (dump .entry)) (n .0) ⌝ }
 {
-    let size = l.page_len();
+    let size = g.layout.page_len();
     let a = (n.0 as usize) * size;
     let e = a + size;
     &dump[a..e]
 }
 
 // The tags of page n, which lies in the dump.
-pub(crate) fn tags_at(dump: &[u8], l: Layout, n: PageNumber) -> Tags
-    requires { ⌜ pageIn l (length (now dump)) (n .0) ≡ true ⌝ }
-    ensures { λ r. ⌜ r ≡ tagsOf (tagBytes l (pageAt l (now (dump .entry)) (n .0))) ⌝ }
+pub(crate) fn tags_at(dump: &[u8], g: Geometry, n: PageNumber) -> Tags
+    requires { ⌜ pageIn g (length (now dump)) (n .0) ≡ true ⌝ }
+    ensures { λ r. ⌜ r ≡ tagsOf (tagBytes (g .layout) (pageAt g (now (dump .entry)) (n .0))) ⌝ }
 {
-    Tags::of_page(page_at(dump, l, n), l)
+    Tags::of_page(page_at(dump, g, n), g.layout)
 }
 
 // What the tags of page n say; a page that is not in the dump says nothing, as a blank one.
-pub fn claim_at(dump: &[u8], l: Layout, n: PageNumber) -> Claim
-    ensures { λ r. ⌜ r ≡ claimAt l (now (dump .entry)) (n .0) ⌝ }
+pub fn claim_at(dump: &[u8], g: Geometry, n: PageNumber) -> Claim
+    ensures { λ r. ⌜ r ≡ claimAt g (now (dump .entry)) (n .0) ⌝ }
 {
-    if !l.holds(dump.len(), n) {
+    if !g.holds(dump.len(), n) {
         return Claim::Blank;
     }
-    tags_at(dump, l, n).claim(l.data)
+    tags_at(dump, g, n).claim(g.layout.data)
 }

@@ -10,6 +10,8 @@ use file::table::table;
 use index::additions::Added;
 use index::additions::add;
 use index::additions::start;
+use index::cells::PER_PAGE;
+use index::cells::SHARED;
 use index::cells::link_at;
 use index::list::list;
 use index::lookups::chunk;
@@ -19,9 +21,9 @@ use lines::put;
 use lines::refuse;
 use lines::report;
 use page::find::find;
-use page::layout::Layout;
+use page::geometry::Geometry;
+use page::geometry::Opened;
 use page::layout::Named;
-use page::layout::Opened;
 use page::number::ChunkNumber;
 use page::number::ObjectId;
 use page::number::PageNumber;
@@ -31,6 +33,8 @@ use page::refusal::Refusal;
 const MOST: usize = 65536;
 // The bytes of a vector before its dump.
 const AHEAD: usize = 4;
+// The words of an index of 124 pages, as many of the smallest as the input has room for.
+const CELLS: usize = SHARED + PER_PAGE * 124;
 // The last chunk that each object is asked for.
 const CHUNKS: u32 = 6;
 // An object that every dump is asked for, live or not.
@@ -90,10 +94,10 @@ fn added_line(a: Added) {
 }
 
 // The lines of chunks 1 to 6 of an object.
-fn chunk_lines(dump: &[u8], l: Layout, k: u32, cells: &[u32], o: ObjectId) {
+fn chunk_lines(dump: &[u8], g: Geometry, cells: &[u32], o: ObjectId) {
     let mut c: u32 = 1;
     while c <= CHUNKS {
-        chunk_line(chunk(dump, l, k, cells, o, ChunkNumber(c)));
+        chunk_line(chunk(dump, g, cells, o, ChunkNumber(c)));
         c += 1;
     }
 }
@@ -123,9 +127,9 @@ fn row_lines(words: &[u32], count: u32) {
 }
 
 // The lines of a file's table, or of its refusal where the table has more than 32 rows.
-fn table_lines(dump: &[u8], l: Layout, k: u32, cells: &[u32], o: ObjectId) {
+fn table_lines(dump: &[u8], g: Geometry, cells: &[u32], o: ObjectId) {
     let mut words = [0u32; 64];
-    let tabled = table(dump, l, k, cells, o, &mut words);
+    let tabled = table(dump, g, cells, o, &mut words);
     match tabled {
         Tabled::Refused(r, need) => short_line(r, need),
         Tabled::Rows(_, count) => row_lines(&words, count),
@@ -133,38 +137,38 @@ fn table_lines(dump: &[u8], l: Layout, k: u32, cells: &[u32], o: ObjectId) {
 }
 
 // The lines of an object.
-fn object_lines(dump: &[u8], l: Layout, k: u32, cells: &[u32], o: ObjectId) {
+fn object_lines(dump: &[u8], g: Geometry, cells: &[u32], o: ObjectId) {
     line(b"object=", o.0 as u64);
-    size_line(size(dump, l, k, cells, o));
-    chunk_lines(dump, l, k, cells, o);
-    table_lines(dump, l, k, cells, o);
+    size_line(size(dump, g, cells, o));
+    chunk_lines(dump, g, cells, o);
+    table_lines(dump, g, cells, o);
 }
 
 // The lines of so many listed objects.
-fn listed_lines(dump: &[u8], l: Layout, k: u32, cells: &[u32], ids: &[u32], count: u32) {
+fn listed_lines(dump: &[u8], g: Geometry, cells: &[u32], ids: &[u32], count: u32) {
     let mut i: u32 = 0;
     while i < count {
-        object_lines(dump, l, k, cells, ObjectId(word_at(ids, i as usize)));
+        object_lines(dump, g, cells, ObjectId(word_at(ids, i as usize)));
         i += 1;
     }
 }
 
 // The lines of the live objects: no more than the 124 smallest pages that the input has room for.
-fn live_lines(dump: &[u8], l: Layout, k: u32, cells: &[u32]) {
+fn live_lines(dump: &[u8], g: Geometry, cells: &[u32]) {
     let mut ids = [0u32; 128];
-    let listed = list(dump, l, k, cells, &mut ids);
+    let listed = list(dump, g, cells, &mut ids);
     match listed {
         Listed::Refused(r, need) => short_line(r, need),
-        Listed::Ids(count) => listed_lines(dump, l, k, cells, &ids, count),
+        Listed::Ids(count) => listed_lines(dump, g, cells, &ids, count),
     }
 }
 
 // Adds all pages, the last first, so that additions walk down the chains.
-fn add_pages(dump: &[u8], l: Layout, k: u32, pages: u32, cells: &mut [u32]) {
+fn add_pages(dump: &[u8], g: Geometry, pages: u32, cells: &mut [u32]) {
     let mut p = pages;
     while 0 < p {
         p -= 1;
-        added_line(add(dump, l, k, cells, PageNumber(p)));
+        added_line(add(dump, g, cells, PageNumber(p)));
     }
 }
 
@@ -186,17 +190,17 @@ fn cell_lines(cells: &[u32], pages: u32) {
 }
 
 // The lines of a dump whose layout was found: its report, then an index on the words lent, whatever they held, and the objects by it.
-fn dump_lines(dump: &[u8], l: Layout, k: u32, cells: &mut [u32]) {
-    report(dump, l, k);
-    let opened = l.opened(dump.len(), k);
+fn dump_lines(dump: &[u8], g: Geometry, cells: &mut [u32]) {
+    report(dump, g);
+    let opened = g.opened(dump.len());
     let Opened::Pages(pages) = opened else {
         return;
     };
-    added_line(start(dump, l, k, cells));
-    add_pages(dump, l, k, pages, cells);
+    added_line(start(dump, g, cells));
+    add_pages(dump, g, pages, cells);
     cell_lines(cells, pages);
-    live_lines(dump, l, k, cells);
-    object_lines(dump, l, k, cells, ObjectId(ALWAYS));
+    live_lines(dump, g, cells);
+    object_lines(dump, g, cells, ObjectId(ALWAYS));
 }
 
 // The lines of a dump in blocks of so many pages, or of the refusal to find its layout.
@@ -205,7 +209,7 @@ fn found_lines(dump: &[u8], block: u8, cells: &mut [u32]) {
     let found = find(dump, k);
     match found {
         Named::Refused(r) => refuse(r),
-        Named::Layout(l) => dump_lines(dump, l, k, cells),
+        Named::Layout(layout) => dump_lines(dump, Geometry { layout, block: k }, cells),
     }
 }
 
@@ -253,7 +257,6 @@ fn main() {
         refuse(Refusal::BadLength);
         return;
     }
-    // the index of 124 pages
-    let mut cells = [0u32; 512];
+    let mut cells = [0u32; CELLS];
     all_lines(&buffer[..n], &mut cells);
 }

@@ -3,6 +3,7 @@
 use lines::refuse;
 use lines::report;
 use page::find::find;
+use page::geometry::Geometry;
 use page::layout::Named;
 use page::refusal::Refusal;
 
@@ -21,6 +22,12 @@ fn main() {
     let found = find(&buffer[..n], BLOCK);
     match found {
         Named::Refused(r) => refuse(r),
-        Named::Layout(l) => report(&buffer[..n], l, BLOCK),
+        Named::Layout(layout) => report(
+            &buffer[..n],
+            Geometry {
+                layout,
+                block: BLOCK,
+            },
+        ),
     }
 }

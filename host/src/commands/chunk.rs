@@ -1,17 +1,16 @@
 //! `chunk DUMP OBJECT N`: where a chunk stands.
 
-use std::io::Write;
-
 use super::Opened;
-use crate::arguments::Typed;
 use crate::failure::Failure;
+use crate::fields::{Printer, Value};
 use crate::refusal::Asked;
+use crate::typed::Typed;
 
 pub fn chunk(
     opened: &Opened,
     object: &Typed,
     n: &Typed,
-    out: &mut impl Write,
+    out: &mut Printer<'_>,
 ) -> Result<(), Failure> {
     let (objects, asked) = opened.objects()?;
     let asked = Asked {
@@ -19,12 +18,15 @@ pub fn chunk(
         ..asked.of(object)
     };
     let chunk = opened.given(objects.chunk(object.number, n.number), asked)?;
-    match chunk.page() {
-        Some(page) => writeln!(out, "page={page}")?,
-        None => writeln!(out, "hole")?,
-    }
-    writeln!(out, "valid={}", chunk.valid)?;
-    writeln!(out, "shown={}", chunk.shown)?;
-    writeln!(out, "visits={}", chunk.visits)?;
-    Ok(())
+    let place = match chunk.page() {
+        Some(page) => ("page", page.into()),
+        None => ("hole", Value::Nothing),
+    };
+    let fields = [
+        place,
+        ("valid", chunk.valid.into()),
+        ("shown", chunk.shown.into()),
+        ("visits", chunk.visits.into()),
+    ];
+    Ok(out.lines(&fields)?)
 }

@@ -1,17 +1,16 @@
 //! `extract DUMP [OBJECT]`: which pages hold a file, or every live file.
 
-use std::io::Write;
-
 use super::Opened;
-use crate::arguments::Typed;
 use crate::failure::Failure;
+use crate::fields::Printer;
 use crate::refusal::NOT_A_FILE;
 use crate::table::Table;
+use crate::typed::Typed;
 
 pub fn extract(
     opened: &Opened,
     object: Option<&Typed>,
-    out: &mut impl Write,
+    out: &mut Printer<'_>,
 ) -> Result<(), Failure> {
     let (objects, asked) = opened.objects()?;
     if let Some(object) = object {
@@ -30,14 +29,15 @@ pub fn extract(
 }
 
 /// The four lines of each shown copy of a live file.
-fn copies(table: &Table, object: u32, out: &mut impl Write) -> Result<(), Failure> {
+fn copies(table: &Table, object: u32, out: &mut Printer<'_>) -> Result<(), Failure> {
     for row in table.rows() {
         if let Some(page) = row.page() {
-            let (n, valid) = (row.n, row.valid);
-            writeln!(
-                out,
-                "object={object}\nchunk={n}\npage={page}\nvalid={valid}"
-            )?;
+            out.lines(&[
+                ("object", object.into()),
+                ("chunk", row.n.into()),
+                ("page", page.into()),
+                ("valid", row.valid.into()),
+            ])?;
         }
     }
     Ok(())

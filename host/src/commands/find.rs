@@ -1,13 +1,9 @@
 //! `find DUMP`: the layout.
 
-use std::io::Write;
-
 use super::Opened;
 use crate::failure::Failure;
-use crate::ffi;
+use crate::fields::Printer;
 
-pub fn find(opened: &Opened, out: &mut impl Write) -> Result<(), Failure> {
-    let layout = opened.given(ffi::find(&opened.dump, opened.block.number), opened.asked())?;
-    writeln!(out, "layout={layout}")?;
-    Ok(())
+pub fn find(opened: &Opened, out: &mut Printer<'_>) -> Result<(), Failure> {
+    Ok(out.lines(&[("layout", opened.layout.to_string().into())])?)
 }

@@ -1,34 +1,21 @@
 //! `header DUMP PAGE`: the fields of a header page, a line each.
 
-use std::io::Write;
-
 use super::Opened;
-use crate::arguments::Typed;
 use crate::failure::Failure;
-use crate::ffi::{self, HeaderAnswer};
+use crate::ffi::{self, Geometry, HeaderAnswer};
+use crate::fields::{line, Field, Printer, Value};
 use crate::refusal::Asked;
+use crate::typed::Typed;
 
-pub fn header(opened: &Opened, page: &Typed, out: &mut impl Write) -> Result<(), Failure> {
-    let layout = opened.layout()?;
+pub fn header(opened: &Opened, page: &Typed, out: &mut Printer<'_>) -> Result<(), Failure> {
     let asked = Asked {
         page,
-        ..opened.asked_of(layout)
+        ..opened.asked()
     };
-    let header = Header::of(
-        &opened.dump,
-        layout.number,
-        opened.block.number,
-        page.number,
-    );
+    let header = Header::of(&opened.dump, opened.geometry(), page.number);
     opened.given(header.numbers, asked)?;
-    for (name, field) in header.fields() {
-        match field {
-            Field::Number(number) => writeln!(out, "{name}={number}")?,
-            Field::Text(bytes) => writeln!(out, "{name}={}", text(bytes))?,
-            Field::Bytes(bytes) => writeln!(out, "{name}={}", hex(bytes))?,
-        }
-    }
-    Ok(())
+    out.lines(&header.fields())?;
+    opened.check_length()
 }
 
 /// The fields of a header, or the refusal in `numbers`.
@@ -39,75 +26,52 @@ pub struct Header<'a> {
     reserved: &'a [u8],
 }
 
-/// A field: a number, text, or bytes that are no text.
-pub enum Field<'a> {
-    Number(u64),
-    Text(&'a [u8]),
-    Bytes(&'a [u8]),
-}
-
 impl<'a> Header<'a> {
-    pub fn of(dump: &'a [u8], layout: u32, k: u32, page: u32) -> Header<'a> {
+    pub fn of(dump: &'a [u8], on: Geometry, page: u32) -> Header<'a> {
         Header {
-            numbers: ffi::header(dump, layout, k, page),
-            name: ffi::header_name(dump, layout, k, page).of(dump),
-            alias: ffi::header_alias(dump, layout, k, page).of(dump),
-            reserved: ffi::header_reserved(dump, layout, k, page).of(dump),
+            numbers: ffi::header(dump, on, page),
+            name: ffi::header_name(dump, on, page).of(dump),
+            alias: ffi::header_alias(dump, on, page).of(dump),
+            reserved: ffi::header_reserved(dump, on, page).of(dump),
         }
     }
 
     /// The fields on one line, those that are bytes whole and in hex.
     pub fn line(&self) -> String {
-        let fields = self.fields().map(|(name, field)| match field {
-            Field::Number(number) => format!("{name}={number}"),
-            Field::Text(bytes) | Field::Bytes(bytes) => format!("{name}={}", hex(bytes)),
+        let fields = self.fields().map(|(name, value)| match value {
+            Value::Text(bytes) => (name, Value::Bytes(bytes)),
+            _ => (name, value),
         });
-        fields.join(" ")
+        line(&fields)
     }
 
     /// The fields with their names, in the order of document 01's table.
-    pub fn fields(&self) -> [(&'static str, Field<'a>); 23] {
+    pub fn fields(&self) -> [Field<'a>; 23] {
         let n = &self.numbers;
-        let word = |number: u32| Field::Number(u64::from(number));
         [
-            ("type", word(n.page_type)),
-            ("parent", word(n.parent)),
-            ("unused1", word(n.unused1)),
-            ("name", Field::Text(self.name)),
-            ("unused2", word(n.unused2)),
-            ("mode", word(n.mode)),
-            ("uid", word(n.uid)),
-            ("gid", word(n.gid)),
-            ("accessed", word(n.accessed)),
-            ("modified", word(n.modified)),
-            ("created", word(n.created)),
-            ("file_size", word(n.file_size)),
-            ("equivalent_id", word(n.equivalent_id)),
-            ("alias", Field::Text(self.alias)),
-            ("rdev", word(n.rdev)),
-            ("win_created", Field::Number(n.win_created)),
-            ("win_accessed", Field::Number(n.win_accessed)),
-            ("win_modified", Field::Number(n.win_modified)),
-            ("inband_shadow", word(n.inband_shadow)),
-            ("inband_shrink", word(n.inband_shrink)),
-            ("reserved", Field::Bytes(self.reserved)),
-            ("shadowed_id", word(n.shadowed_id)),
-            ("shrink", word(n.shrink)),
+            ("type", n.page_type.into()),
+            ("parent", n.parent.into()),
+            ("unused1", n.unused1.into()),
+            ("name", Value::Text(self.name)),
+            ("unused2", n.unused2.into()),
+            ("mode", n.mode.into()),
+            ("uid", n.uid.into()),
+            ("gid", n.gid.into()),
+            ("accessed", n.accessed.into()),
+            ("modified", n.modified.into()),
+            ("created", n.created.into()),
+            ("file_size", n.file_size.into()),
+            ("equivalent_id", n.equivalent_id.into()),
+            ("alias", Value::Text(self.alias)),
+            ("rdev", n.rdev.into()),
+            ("win_created", n.win_created.into()),
+            ("win_accessed", n.win_accessed.into()),
+            ("win_modified", n.win_modified.into()),
+            ("inband_shadow", n.inband_shadow.into()),
+            ("inband_shrink", n.inband_shrink.into()),
+            ("reserved", Value::Bytes(self.reserved)),
+            ("shadowed_id", n.shadowed_id.into()),
+            ("shrink", n.shrink.into()),
         ]
     }
-}
-
-/// Text up to the first zero byte; bytes that are not printable ASCII as \xHH.
-fn text(bytes: &[u8]) -> String {
-    let text = bytes.iter().take_while(|&&byte| byte != 0);
-    text.map(|&byte| match byte {
-        b' '..=b'~' => char::from(byte).to_string(),
-        _ => format!("\\x{byte:02X}"),
-    })
-    .collect()
-}
-
-/// Bytes as hex digits.
-pub fn hex(bytes: &[u8]) -> String {
-    bytes.iter().map(|byte| format!("{byte:02x}")).collect()
 }

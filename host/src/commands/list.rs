@@ -1,14 +1,13 @@
 //! `list DUMP`: the live objects.
 
-use std::io::Write;
-
 use super::Opened;
 use crate::failure::Failure;
+use crate::fields::Printer;
 
-pub fn list(opened: &Opened, out: &mut impl Write) -> Result<(), Failure> {
+pub fn list(opened: &Opened, out: &mut Printer<'_>) -> Result<(), Failure> {
     let (objects, asked) = opened.objects()?;
     for object in opened.done(objects.list(), asked)? {
-        writeln!(out, "object={object}")?;
+        out.line(&[("object", object.into())])?;
     }
     Ok(())
 }

@@ -1,40 +1,44 @@
 //! `pages DUMP`: a line for each page.
 
-use std::fmt;
-use std::io::Write;
-
 use super::Opened;
 use crate::failure::Failure;
 use crate::ffi::{self, KindAnswer};
+use crate::fields::{Field, Printer};
+use crate::progress::Progress;
 use crate::refusal::kind_name;
 
-pub fn pages(opened: &Opened, out: &mut impl Write) -> Result<(), Failure> {
-    let layout = opened.layout()?;
-    let asked = opened.asked_of(layout);
-    let (dump, number, block) = (&opened.dump, layout.number, opened.block.number);
-    let pages = opened.given(ffi::pages(dump, number, block), asked)?.pages;
-    for page in 0..pages {
-        let kind = opened.given(ffi::kind(dump, number, block, page), asked)?;
-        writeln!(out, "page={page} kind={kind}")?;
+pub fn pages(opened: &Opened, out: &mut Printer<'_>) -> Result<(), Failure> {
+    let on = opened.geometry();
+    let progress = Progress::beside_output("printing pages", opened.pages.into());
+    for page in 0..opened.pages {
+        let kind = ffi::kind(&opened.dump, on, page);
+        let mut fields = vec![("page", page.into()), ("kind", kind_name(kind.kind).into())];
+        fields.extend(kind.fields());
+        out.line(&fields)?;
+        progress.add(1);
     }
-    Ok(())
+    opened.check_length()
 }
 
-impl fmt::Display for KindAnswer {
-    fn fmt(&self, f: &mut fmt::Formatter<'_>) -> fmt::Result {
-        write!(f, "{}", kind_name(self.kind))?;
+impl KindAnswer {
+    /// What the page says, beside its kind.
+    pub fn fields(&self) -> Vec<Field<'static>> {
         match self.kind {
-            KindAnswer::HEADER => write!(
-                f,
-                " sequence={} object={} type={} parent={} size={} shrink={}",
-                self.sequence, self.object, self.page_type, self.parent, self.size, self.shrink
-            ),
-            KindAnswer::DATA => write!(
-                f,
-                " sequence={} object={} chunk={} count={}",
-                self.sequence, self.object, self.chunk, self.count
-            ),
-            _ => Ok(()),
+            KindAnswer::HEADER => vec![
+                ("sequence", self.sequence.into()),
+                ("object", self.object.into()),
+                ("type", self.page_type.into()),
+                ("parent", self.parent.into()),
+                ("size", self.size.into()),
+                ("shrink", self.shrink.into()),
+            ],
+            KindAnswer::DATA => vec![
+                ("sequence", self.sequence.into()),
+                ("object", self.object.into()),
+                ("chunk", self.chunk.into()),
+                ("count", self.count.into()),
+            ],
+            _ => Vec::new(),
         }
     }
 }

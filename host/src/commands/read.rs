@@ -1,116 +1,139 @@
 //! `read DUMP OBJECT [--out FILE]`: the bytes of a file as they stand.
 
 use std::ffi::OsStr;
-use std::fs::{self, File};
-use std::io::{self, ErrorKind, IoSlice, IsTerminal, Write};
+use std::hint::black_box;
+use std::io::{self, ErrorKind, IoSlice, Seek, SeekFrom, Write};
+
+use sha2::{Digest, Sha256};
 
 use super::Opened;
-use crate::arguments::Typed;
+use crate::arguments::On;
 use crate::failure::Failure;
+use crate::fields::{hex, Printer};
+use crate::new_file::NewFile;
+use crate::objects::Objects;
+use crate::progress::Progress;
+use crate::table::{Piece, Table};
+use crate::typed::Typed;
 
-/// How many pieces are handed to the system at once: no more than it takes.
+/// How many parts are handed to the system at once: no more than it takes.
 const AT_ONCE: usize = 1024;
 
+/// Fewer zeros than these would not be left sparse by a file system.
+const HOLE: u64 = 4096;
+
 pub fn read(
-    opened: &Opened,
+    on: &On,
     object: &Typed,
     name: Option<&OsStr>,
-    out: &mut impl Write,
+    out: &mut Printer<'_>,
 ) -> Result<(), Failure> {
+    let name = name.filter(|name| *name != "-");
+    if out.is_json() && name.is_none() {
+        let alone = "--json goes with read where --out names a file";
+        return Err(Failure::Usage(alone.to_string()));
+    }
+    let opened = Opened::on(on)?;
     let (objects, asked) = opened.objects()?;
     let table = opened.done(objects.table(object.number), asked.of(object))?;
-    let write = |out: &mut dyn Write, tell: &mut dyn FnMut(u64)| {
-        let mut batch = Batch::new(out, tell);
-        objects.hand_on(&table, |piece| batch.push(piece))?;
-        batch.write()
-    };
     let Some(name) = name else {
-        return Ok(write(out, &mut |_| ())?);
+        write(&objects, &table, out.raw())?;
+        return opened.check_length();
     };
     let unwritten = |error| Failure::File(format!("cannot write {}: {error}", name.display()));
-    let mut file = File::create_new(name).map_err(unwritten)?;
-    let mut progress = Progress::new(table.size);
-    let written = write(&mut file, &mut |count| progress.show(count));
-    progress.end();
-    if written.is_err() {
-        let _ = fs::remove_file(name);
-    }
-    written.map_err(unwritten)
+    let new = NewFile::create(name.as_ref()).map_err(unwritten)?;
+    let sum = fill(&new, &objects, &table).map_err(unwritten)?;
+    opened.check_length()?;
+    new.finish().map_err(unwritten)?;
+    Ok(out.lines(&[("size", table.size.into()), ("sha256", hex(&sum).into())])?)
 }
 
-/// Pieces that are not empty, to be written as they stand, many at once.
-struct Batch<'p, 'w> {
-    pieces: Vec<IoSlice<'p>>,
-    out: &'w mut dyn Write,
-    /// How many bytes are written, and who is told.
-    written: u64,
-    tell: &'w mut dyn FnMut(u64),
+/// Writes the bytes of a file as they stand.
+fn write(objects: &Objects<'_>, table: &Table, out: &mut dyn Write) -> io::Result<()> {
+    let mut batch = Batch::new(out);
+    let progress = Progress::beside_output("reading", table.size);
+    objects.hand_on(table, |piece| {
+        progress.add(piece.length());
+        batch.push(piece)
+    })?;
+    batch.write()
 }
 
-impl<'p, 'w> Batch<'p, 'w> {
-    fn new(out: &'w mut dyn Write, tell: &'w mut dyn FnMut(u64)) -> Batch<'p, 'w> {
-        Batch {
-            pieces: Vec::with_capacity(AT_ONCE),
-            out,
-            written: 0,
-            tell,
+/// Fills a new file, leaving holes sparse, and gives the SHA-256 of its bytes.
+fn fill(new: &NewFile, objects: &Objects<'_>, table: &Table) -> io::Result<Vec<u8>> {
+    let mut sum = Sha256::new();
+    let mut batch = Batch::new(&new.file);
+    let progress = Progress::new("reading", Some(table.size));
+    objects.hand_on(table, |piece| {
+        for part in piece.parts() {
+            sum.update(part);
+            progress.add(part.len() as u64);
         }
+        match piece {
+            Piece::Zeros(count) if count >= HOLE => {
+                batch.write()?;
+                batch.out.seek(SeekFrom::Current(count as i64))?;
+                Ok(())
+            }
+            _ => batch.push(piece),
+        }
+    })?;
+    batch.write()?;
+    new.file.set_len(table.size)?;
+    Ok(sum.finalize().to_vec())
+}
+
+/// Parts that are not empty, to be written as they stand, many at once.
+struct Batch<'p, W> {
+    parts: Vec<IoSlice<'p>>,
+    out: W,
+}
+
+impl<'p, W: Write> Batch<'p, W> {
+    fn new(out: W) -> Batch<'p, W> {
+        let parts = Vec::with_capacity(AT_ONCE);
+        Batch { parts, out }
     }
 
-    /// Adds a piece, and writes if there are enough.
-    fn push(&mut self, piece: &'p [u8]) -> io::Result<()> {
-        self.pieces.push(IoSlice::new(piece));
-        match self.pieces.len() {
-            AT_ONCE => self.write(),
-            _ => Ok(()),
+    /// Adds a piece, and writes whenever there are enough parts.
+    fn push(&mut self, piece: Piece<'p>) -> io::Result<()> {
+        for part in piece.parts() {
+            self.parts.push(IoSlice::new(part));
+            if self.parts.len() == AT_ONCE {
+                self.write()?;
+            }
         }
+        Ok(())
     }
 
-    /// Writes the pieces that were added since the last time, whole.
+    /// Writes the parts that were added since the last time, whole.
     fn write(&mut self) -> io::Result<()> {
-        let mut left = &mut self.pieces[..];
+        let mut left = &mut self.parts[..];
         while !left.is_empty() {
             match self.out.write_vectored(left) {
                 Ok(0) => return Err(ErrorKind::WriteZero.into()),
-                Ok(count) => {
-                    self.written += count as u64;
-                    IoSlice::advance_slices(&mut left, count);
-                }
+                Ok(count) => IoSlice::advance_slices(&mut left, count),
                 Err(error) if error.kind() == ErrorKind::Interrupted => {}
-                Err(error) => return Err(error),
+                Err(error) => {
+                    if error.raw_os_error() == Some(libc::EFAULT) {
+                        touch(left);
+                    }
+                    return Err(error);
+                }
             }
         }
-        self.pieces.clear();
-        (self.tell)(self.written);
+        self.parts.clear();
         Ok(())
     }
 }
 
-/// How much of a file is written, on standard error where that is a terminal.
-struct Progress {
-    size: u64,
-    /// The percentage that stands there, 0 for none; nothing without a terminal.
-    shown: Option<u64>,
-}
-
-impl Progress {
-    fn new(size: u64) -> Progress {
-        let shown = io::stderr().is_terminal().then_some(0);
-        Progress { size, shown }
-    }
-
-    fn show(&mut self, written: u64) {
-        let percent = written * 100 / self.size.max(1);
-        if self.shown.is_some_and(|shown| percent > shown) {
-            self.shown = Some(percent);
-            let _ = write!(io::stderr(), "\r{percent}% of {} bytes", self.size);
-        }
-    }
-
-    fn end(&self) {
-        if self.shown.is_some_and(|shown| shown > 0) {
-            let _ = writeln!(io::stderr());
-        }
+/// Reads what the system could not read: a byte that the dump has lost then
+/// ends the process with its sentence.
+fn touch(parts: &[IoSlice<'_>]) {
+    for part in parts {
+        part.iter().for_each(|byte| {
+            black_box(*byte);
+        });
     }
 }
 
@@ -143,9 +166,10 @@ mod tests {
     }
 
     /// Writes bytes in pieces of four.
-    fn write_all(bytes: &[u8], out: &mut dyn Write, tell: &mut dyn FnMut(u64)) -> io::Result<()> {
-        let mut batch = Batch::new(out, tell);
-        bytes.chunks(4).try_for_each(|piece| batch.push(piece))?;
+    fn write_all(bytes: &[u8], out: impl Write) -> io::Result<()> {
+        let mut batch = Batch::new(out);
+        let mut pieces = bytes.chunks(4).map(Piece::Bytes);
+        pieces.try_for_each(|piece| batch.push(piece))?;
         batch.write()
     }
 
@@ -159,13 +183,11 @@ mod tests {
                 most,
                 interrupted,
             };
-            let mut shown = 0;
-            write_all(&bytes, &mut slow, &mut |count| shown = count).unwrap();
+            write_all(&bytes, &mut slow).unwrap();
             assert!(slow.taken == bytes);
-            assert_eq!(shown, bytes.len() as u64);
         }
         let mut full: &mut [u8] = &mut [0; 9];
-        let error = write_all(&bytes, &mut full, &mut |_| ()).unwrap_err();
+        let error = write_all(&bytes, &mut full).unwrap_err();
         assert_eq!(error.kind(), ErrorKind::WriteZero);
     }
 }

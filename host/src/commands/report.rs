@@ -1,26 +1,27 @@
 //! `report DUMP`: layout, page kinds and objects, in ten lines.
 
-use std::io::Write;
-
 use super::Opened;
 use crate::failure::Failure;
 use crate::ffi;
+use crate::fields::Printer;
 
-pub fn report(opened: &Opened, out: &mut impl Write) -> Result<(), Failure> {
-    let layout = opened.layout()?;
-    let (objects, asked) = opened.objects_of(layout)?;
-    let (dump, number, block) = (&opened.dump, layout.number, opened.block.number);
-    let pages = opened.given(ffi::pages(dump, number, block), asked)?.pages;
-    let counts = opened.given(ffi::counts(dump, number, block), asked)?;
+pub fn report(opened: &Opened, out: &mut Printer<'_>) -> Result<(), Failure> {
+    let (objects, asked) = opened.objects()?;
+    let on = opened.geometry();
+    let counts = opened.given(ffi::counts(&opened.dump, on), asked)?;
     let live = opened.done(objects.list(), asked)?.len();
     let objects = opened.given(objects.count(), asked)?.count;
-    writeln!(out, "layout={layout}\nblock={block}\npages={pages}")?;
-    writeln!(out, "blank={}", counts.blank)?;
-    writeln!(out, "foreign={}", counts.foreign)?;
-    writeln!(out, "damaged={}", counts.damaged)?;
-    writeln!(out, "headers={}", counts.headers)?;
-    writeln!(out, "data={}", counts.data)?;
-    writeln!(out, "objects={objects}")?;
-    writeln!(out, "live={live}")?;
-    Ok(())
+    let fields = [
+        ("layout", opened.layout.to_string().into()),
+        ("block", on.block.into()),
+        ("pages", opened.pages.into()),
+        ("blank", counts.blank.into()),
+        ("foreign", counts.foreign.into()),
+        ("damaged", counts.damaged.into()),
+        ("headers", counts.headers.into()),
+        ("data", counts.data.into()),
+        ("objects", objects.into()),
+        ("live", (live as u64).into()),
+    ];
+    Ok(out.lines(&fields)?)
 }

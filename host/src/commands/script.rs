@@ -1,25 +1,47 @@
 //! `script DUMP [SCRIPT]`: an answer line for each request of a script.
 
 use std::ffi::OsStr;
-use std::fs;
-use std::io::{self, Write};
+use std::fs::File;
+use std::io::{self, Read};
 
-use super::Opened;
+use crate::arguments::Source;
+use crate::dump::Dump;
 use crate::failure::Failure;
+use crate::fields::Printer;
 use crate::script::request;
 use crate::script::runner::Runner;
+use crate::standard;
 
-pub fn script(opened: &Opened, name: &OsStr, out: &mut impl Write) -> Result<(), Failure> {
-    let unread = |error| Failure::File(format!("cannot read {}: {error}", name.display()));
-    let text = match name == "-" {
-        true => io::read_to_string(io::stdin()),
-        false => fs::read_to_string(name),
-    };
-    let wrong = |wrong| Failure::Usage(format!("{}: {wrong}", name.display()));
-    let requests = request::parse(&text.map_err(unread)?).map_err(wrong)?;
-    let mut runner = Runner::new(&opened.dump, &requests)?;
-    for request in &requests {
-        writeln!(out, "{}", runner.answer(request)?.line)?;
+/// The longest script, in bytes: some millions of requests.
+const LONGEST: u64 = 1 << 26;
+
+pub fn script(source: &Source, name: &OsStr, out: &mut Printer<'_>) -> Result<(), Failure> {
+    if source.dump == "-" && name == "-" {
+        let both = "dump and script cannot both be standard input";
+        return Err(Failure::Usage(both.to_string()));
     }
-    Ok(())
+    let dump = Dump::open(&source.dump, source.copy).map_err(Failure::File)?;
+    let unread = |error| Failure::File(format!("cannot read {}: {error}", name.display()));
+    let wrong = |wrong| Failure::Usage(format!("{}: {wrong}", name.display()));
+    let requests = request::parse(&text(name).map_err(unread)?).map_err(wrong)?;
+    let mut runner = Runner::new(&dump, &requests)?;
+    for request in &requests {
+        writeln!(out.raw(), "{}", runner.answer(request)?.line)?;
+    }
+    dump.check_length().map_err(Failure::File)
+}
+
+/// The text of a script that is not too long.
+fn text(name: &OsStr) -> io::Result<String> {
+    let file = match name == "-" {
+        true => standard::input()?,
+        false => File::open(name)?,
+    };
+    let mut bytes = Vec::new();
+    file.take(LONGEST + 1).read_to_end(&mut bytes)?;
+    if bytes.len() as u64 > LONGEST {
+        let long = format!("a script has at most {LONGEST} bytes");
+        return Err(io::Error::other(long));
+    }
+    String::from_utf8(bytes).map_err(|_| io::Error::other("stream did not contain valid UTF-8"))
 }

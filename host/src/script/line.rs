@@ -1,10 +1,13 @@
 //! Answers as lines.
 
-use crate::crc::crc32;
+use crc32fast::hash as crc32;
+
 use crate::ffi::{
-    ChunkAnswer, CountsAnswer, ListAnswer, PlaceAnswer, SizeAnswer, TableAnswer, TallyAnswer,
+    ChunkAnswer, CountsAnswer, KindAnswer, ListAnswer, PlaceAnswer, SizeAnswer, TableAnswer,
+    TallyAnswer,
 };
-use crate::refusal::SHORT_BUFFER;
+use crate::fields;
+use crate::refusal::{kind_name, SHORT_BUFFER};
 
 /// A refusal with its visits; with the length needed if a buffer was too short.
 pub fn refused(number: u32, visits: u32, need: u32) -> String {
@@ -19,6 +22,15 @@ pub fn done(number: u32) -> String {
     match number {
         0 => "done".to_string(),
         _ => refused(number, 0, 0),
+    }
+}
+
+/// What a page is, and what it says.
+pub fn kind(answer: KindAnswer) -> String {
+    let (name, fields) = (kind_name(answer.kind), answer.fields());
+    match fields.is_empty() {
+        true => name.to_string(),
+        false => format!("{name} {}", fields::line(&fields)),
     }
 }
 

@@ -1,6 +1,7 @@
 //! The requests of a script, and reading them.
 
-use crate::arguments::{layout, long, number};
+use crate::ffi::Geometry;
+use crate::typed::{layout, long, number};
 
 /// How each request is typed, for the help.
 pub const FORMS: &str = "\
@@ -20,13 +21,6 @@ index: under the layout and K of the last accepted start, with as many words.
 k=, words= and layout= behind the arguments of such a call give it others.
 ";
 
-/// A layout by its number in the table, and K.
-#[derive(Clone, Copy, Debug, PartialEq, Eq)]
-pub struct On {
-    pub layout: u32,
-    pub k: u32,
-}
-
 /// What a call on the index is given by options of its own: layout, K and how
 /// many words of the index it is lent.
 #[derive(Clone, Copy, Debug, Default, PartialEq, Eq)]
@@ -39,7 +33,7 @@ pub struct Lent {
 /// What a lookup reads: the dump alone, or the index.
 #[derive(Clone, Copy, Debug, PartialEq, Eq)]
 pub enum Over {
-    Dump(On),
+    Dump(Geometry),
     Index(Lent),
 }
 
@@ -48,11 +42,11 @@ pub enum Over {
 #[rustfmt::skip]
 pub enum Request {
     Find { k: u32 },
-    Pages { on: On },
-    Counts { on: On },
-    Kind { on: On, page: u32 },
-    Header { on: On, page: u32 },
-    Start { on: On, words: usize },
+    Pages { on: Geometry },
+    Counts { on: Geometry },
+    Kind { on: Geometry, page: u32 },
+    Header { on: Geometry, page: u32 },
+    Start { on: Geometry, words: usize },
     Add { lent: Lent, page: u32 },
     Size { over: Over, object: u32 },
     Chunk { over: Over, object: u32, n: u32 },
@@ -227,10 +221,10 @@ impl Words<'_> {
         self.next("X", |word| u32::try_from(long(word)?).ok())
     }
 
-    fn on(&mut self) -> Result<On, String> {
-        Ok(On {
+    fn on(&mut self) -> Result<Geometry, String> {
+        Ok(Geometry {
             layout: self.next("L", layout)?,
-            k: self.number("K")?,
+            block: self.number("K")?,
         })
     }
 
@@ -261,7 +255,10 @@ mod tests {
 
     #[test]
     fn lines_are_read() {
-        let on = On { layout: 6, k: 4 };
+        let on = Geometry {
+            layout: 6,
+            block: 4,
+        };
         let lines = [
             ("find 0x4 # K", Request::Find { k: 4 }),
             ("kind 512/16/0 4 3", Request::Kind { on, page: 3 }),

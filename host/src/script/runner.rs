@@ -2,10 +2,10 @@
 //! lent.
 
 use super::line;
-use super::request::{Lent, On, Over, Request};
+use super::request::{Lent, Over, Request};
 use crate::commands::header::Header;
 use crate::failure::Failure;
-use crate::ffi::{self, Answer as _};
+use crate::ffi::{self, Answer as _, Geometry};
 
 /// What a buffer holds before a call, and the index words before the first.
 const BYTE: u8 = 0xA5;
@@ -15,7 +15,7 @@ const WORD: u32 = 0xA5A5_A5A5;
 pub struct Runner<'d> {
     dump: &'d [u8],
     pub index: Vec<u32>,
-    started: Option<(On, usize)>,
+    started: Option<(Geometry, usize)>,
 }
 
 /// An answer: its line, and the lent buffer as the call left it.
@@ -27,9 +27,9 @@ pub struct Answer {
 }
 
 /// A layout and a K that every call refuses: those of no start.
-const NONE: On = On {
+const NONE: Geometry = Geometry {
     layout: u32::MAX,
-    k: 0,
+    block: 0,
 };
 
 impl<'d> Runner<'d> {
@@ -87,7 +87,11 @@ impl<'d> Runner<'d> {
                 layout,
                 place,
                 valid,
-            } => line::part(ffi::row(self.dump, layout, place, valid), self.dump),
+            } => {
+                // a row names a page, whatever its block
+                let on = Geometry { layout, block: 1 };
+                line::part(ffi::row(self.dump, on, place, valid), self.dump)
+            }
             _ => self.whole(request),
         };
         Ok(answer)
@@ -100,15 +104,13 @@ impl<'d> Runner<'d> {
             Request::Find { k } => ffi::find(dump, k)
                 .given()
                 .map(|found| format!("layout={found}")),
-            Request::Pages { on } => ffi::pages(dump, on.layout, on.k)
+            Request::Pages { on } => ffi::pages(dump, on)
                 .given()
                 .map(|answer| format!("pages={}", answer.pages)),
-            Request::Counts { on } => ffi::counts(dump, on.layout, on.k).given().map(line::counts),
-            Request::Kind { on, page } => ffi::kind(dump, on.layout, on.k, page)
-                .given()
-                .map(|kind| kind.to_string()),
+            Request::Counts { on } => ffi::counts(dump, on).given().map(line::counts),
+            Request::Kind { on, page } => ffi::kind(dump, on, page).given().map(line::kind),
             Request::Header { on, page } => {
-                let header = Header::of(dump, on.layout, on.k, page);
+                let header = Header::of(dump, on, page);
                 header.numbers.given().map(|_| header.line())
             }
             _ => unreachable!("not about the dump as a whole"),
@@ -117,16 +119,16 @@ impl<'d> Runner<'d> {
     }
 
     /// What a call on the index is given: layout and K, and how many words.
-    fn given(&self, lent: Lent) -> (On, usize) {
+    fn given(&self, lent: Lent) -> (Geometry, usize) {
         let (on, words) = self.started.unwrap_or((NONE, self.index.len()));
         let layout = lent.layout.unwrap_or(on.layout);
-        let k = lent.k.unwrap_or(on.k);
-        (On { layout, k }, lent.words.unwrap_or(words))
+        let block = lent.k.unwrap_or(on.block);
+        (Geometry { layout, block }, lent.words.unwrap_or(words))
     }
 
-    fn start(&mut self, on: On, words: usize) -> String {
+    fn start(&mut self, on: Geometry, words: usize) -> String {
         let cells = &mut self.index[..words];
-        let refusal = ffi::start(self.dump, on.layout, on.k, cells);
+        let refusal = ffi::start(self.dump, on, cells);
         if refusal == 0 {
             self.started = Some((on, words));
         }
@@ -136,36 +138,36 @@ impl<'d> Runner<'d> {
     fn add(&mut self, lent: Lent, page: u32) -> String {
         let (on, words) = self.given(lent);
         let cells = &mut self.index[..words];
-        line::done(ffi::add(self.dump, on.layout, on.k, cells, page))
+        line::done(ffi::add(self.dump, on, cells, page))
     }
 
     fn size(&self, over: Over, object: u32) -> String {
         line::size(match over {
-            Over::Dump(on) => ffi::dump_size(self.dump, on.layout, on.k, object),
+            Over::Dump(on) => ffi::dump_size(self.dump, on, object),
             Over::Index(lent) => {
                 let (on, words) = self.given(lent);
-                ffi::size(self.dump, on.layout, on.k, &self.index[..words], object)
+                ffi::size(self.dump, on, &self.index[..words], object)
             }
         })
     }
 
     fn chunk(&self, over: Over, object: u32, n: u32) -> String {
         line::chunk(match over {
-            Over::Dump(on) => ffi::dump_chunk(self.dump, on.layout, on.k, object, n),
+            Over::Dump(on) => ffi::dump_chunk(self.dump, on, object, n),
             Over::Index(lent) => {
                 let (on, words) = self.given(lent);
-                ffi::chunk(self.dump, on.layout, on.k, &self.index[..words], object, n)
+                ffi::chunk(self.dump, on, &self.index[..words], object, n)
             }
         })
     }
 
     fn read(&self, over: Over, object: u32, n: u32, buffer: &mut [u8]) -> String {
         let answer = match over {
-            Over::Dump(on) => ffi::dump_read(self.dump, on.layout, on.k, object, n, buffer),
+            Over::Dump(on) => ffi::dump_read(self.dump, on, object, n, buffer),
             Over::Index(lent) => {
                 let (on, words) = self.given(lent);
                 let cells = &self.index[..words];
-                ffi::read(self.dump, on.layout, on.k, cells, object, n, buffer)
+                ffi::read(self.dump, on, cells, object, n, buffer)
             }
         };
         line::read(answer, buffer)
@@ -173,10 +175,10 @@ impl<'d> Runner<'d> {
 
     fn part(&self, over: Over, object: u32, n: u32) -> String {
         let place = match over {
-            Over::Dump(on) => ffi::dump_part(self.dump, on.layout, on.k, object, n),
+            Over::Dump(on) => ffi::dump_part(self.dump, on, object, n),
             Over::Index(lent) => {
                 let (on, words) = self.given(lent);
-                ffi::part(self.dump, on.layout, on.k, &self.index[..words], object, n)
+                ffi::part(self.dump, on, &self.index[..words], object, n)
             }
         };
         line::part(place, self.dump)
@@ -184,10 +186,10 @@ impl<'d> Runner<'d> {
 
     fn list(&self, over: Over, words: &mut [u32]) -> String {
         let answer = match over {
-            Over::Dump(on) => ffi::dump_list(self.dump, on.layout, on.k, words),
+            Over::Dump(on) => ffi::dump_list(self.dump, on, words),
             Over::Index(lent) => {
                 let (on, count) = self.given(lent);
-                ffi::list(self.dump, on.layout, on.k, &self.index[..count], words)
+                ffi::list(self.dump, on, &self.index[..count], words)
             }
         };
         line::list(answer, words)
@@ -195,10 +197,10 @@ impl<'d> Runner<'d> {
 
     fn objects(&self, over: Over) -> String {
         line::objects(match over {
-            Over::Dump(on) => ffi::dump_objects(self.dump, on.layout, on.k),
+            Over::Dump(on) => ffi::dump_objects(self.dump, on),
             Over::Index(lent) => {
                 let (on, words) = self.given(lent);
-                ffi::objects(self.dump, on.layout, on.k, &self.index[..words])
+                ffi::objects(self.dump, on, &self.index[..words])
             }
         })
     }
@@ -206,7 +208,7 @@ impl<'d> Runner<'d> {
     fn table(&self, lent: Lent, object: u32, words: &mut [u32]) -> String {
         let (on, count) = self.given(lent);
         let cells = &self.index[..count];
-        let answer = ffi::table(self.dump, on.layout, on.k, cells, object, words);
+        let answer = ffi::table(self.dump, on, cells, object, words);
         line::table(answer, words)
     }
 

@@ -1,20 +1,23 @@
 //! W, and dumps made of it, in a folder of a test's own.
 
 use std::fs;
-use std::path::{Path, PathBuf};
+
+use tempfile::TempDir;
 
 pub const W: &[u8] = include_bytes!("../data/W");
 const PAGE: usize = 528;
 const DATA: usize = 512;
 
-/// A new folder with the dumps.
-pub fn folder(test: &str) -> PathBuf {
-    let folder = Path::new(env!("CARGO_TARGET_TMPDIR")).join(test);
-    let _ = fs::remove_dir_all(&folder);
-    fs::create_dir_all(&folder).unwrap();
-    let page = |i: usize| &W[i * PAGE..(i + 1) * PAGE];
-    let put = |name: &str, bytes: &[u8]| fs::write(folder.join(name), bytes).unwrap();
+/// Where a header has its name and its size.
+const NAME: usize = 0xA;
+const SIZE: usize = 0x124;
+
+/// A new folder with the dumps. It goes when this does.
+pub fn folder() -> TempDir {
+    let folder = tempfile::tempdir().unwrap();
+    let put = |name: &str, bytes: &[u8]| fs::write(folder.path().join(name), bytes).unwrap();
     put("W", W);
+    put("-W", W);
     put("empty", b"");
     put("one-byte-short", &W[..W.len() - 1]);
     put("data-alone", page(1));
@@ -23,7 +26,22 @@ pub fn folder(test: &str) -> PathBuf {
         "directory",
         &with(&with(page(0), 0, 3), DATA + 4, 3 << 28 | 257),
     );
+    put("blank", &[0xFF; PAGE]);
+    put("text", &b"a line of text\n".repeat(PAGE)[..PAGE]);
+    put("gzip", &[b"\x1F\x8B\x08\0", &W[..PAGE - 3]].concat());
+    put("newline", &named(b"a\nb"));
+    put("backslash", &named(b"a\\x0Ab"));
+    put(
+        "far",
+        &[page(0), &with(page(1), DATA + 8, 0xF_FFFF)].concat(),
+    );
+    put("half-gib", &with(page(0), SIZE, 1 << 29));
+    put("4-gib", &with(page(0), SIZE, u32::MAX));
     folder
+}
+
+fn page(number: usize) -> &'static [u8] {
+    &W[number * PAGE..(number + 1) * PAGE]
 }
 
 /// A page with one of its words changed.
@@ -31,4 +49,23 @@ fn with(page: &[u8], at: usize, word: u32) -> Vec<u8> {
     let mut page = page.to_vec();
     page[at..at + 4].copy_from_slice(&word.to_le_bytes());
     page
+}
+
+/// A header with this name, behind which a zero stands, as behind its alias.
+fn named(name: &[u8]) -> Vec<u8> {
+    let mut page = page(0).to_vec();
+    page[NAME..SIZE].fill(0);
+    page[NAME..NAME + name.len()].copy_from_slice(name);
+    with(&page, 0x12C, 0)
+}
+
+/// One file of so many whole chunks, each page of which is in a block of its
+/// own, header first.
+pub fn long(chunks: u32) -> Vec<u8> {
+    let size = chunks * DATA as u32;
+    let mut dump = with(page(0), SIZE, size);
+    for n in 1..=chunks {
+        dump.extend(with(page(1), DATA + 8, n));
+    }
+    dump
 }

@@ -1,19 +1,42 @@
 //! The command, run: what it prints, what it says, and its exit status.
 //!
 //! - `dumps`: W, and dumps made of it.
-//! - `transcript`: every command on W and every refusal, with stored output.
-//! - `files`: dumps and outputs that are no plain files, or fail.
+//! - `transcript`: every command on W, every refusal and every habit, with stored output.
+//! - `found`: K where it is not named.
+//! - `inputs`: dumps and scripts that are no plain files.
+//! - `shortened`: dumps that lose bytes while they are read.
+//! - `outputs`: standard output that is closed, full or left.
+//! - `out`: files that `read --out` writes.
+//! - `progress`: what is shown of long work.
 
 mod dumps;
-mod files;
+mod found;
+mod inputs;
+mod out;
+mod outputs;
+mod progress;
+mod shortened;
 mod transcript;
 
 use std::path::Path;
-use std::process::Command;
+use std::process::{Command, Output};
 
 /// The command, to be run in a folder.
 fn lohenarr(folder: &Path) -> Command {
     let mut command = Command::new(env!("CARGO_BIN_EXE_lohenarr"));
     command.current_dir(folder);
     command
+}
+
+/// Runs what is typed in a folder, on what is given as its standard input.
+fn run(folder: &Path, typed: &[&str], input: &[u8]) -> Output {
+    let mut command = lohenarr(folder);
+    command.args(typed);
+    let mut command = assert_cmd::Command::from_std(command);
+    command.write_stdin(input).output().unwrap()
+}
+
+/// What was said on standard error.
+fn said(output: &Output) -> &str {
+    str::from_utf8(&output.stderr).unwrap()
 }

@@ -2,36 +2,27 @@
 //! comes of it to the lines below: standard output, standard error behind
 //! `! `, and the exit status behind `= `. Lines behind `< ` are its input.
 
-use std::io::Write;
 use std::path::Path;
-use std::process::Stdio;
 
-use super::{dumps, lohenarr};
+use super::{dumps, run, said};
 
 const TRANSCRIPT: &str = include_str!("transcript.txt");
 
 /// The lines that a typed line and its input come to.
-fn run(folder: &Path, typed: &str, input: &str) -> String {
-    let mut child = lohenarr(folder)
-        .args(typed.split(' '))
-        .stdin(Stdio::piped())
-        .stdout(Stdio::piped())
-        .stderr(Stdio::piped())
-        .spawn()
-        .unwrap();
-    let mut stdin = child.stdin.take().unwrap();
-    stdin.write_all(input.as_bytes()).unwrap();
-    drop(stdin);
-    let output = child.wait_with_output().unwrap();
-    let said = String::from_utf8(output.stderr).unwrap();
-    let said: String = said.lines().map(|line| format!("! {line}\n")).collect();
-    let printed = String::from_utf8(output.stdout).unwrap();
+fn lines(folder: &Path, typed: &str, input: &str) -> String {
+    let typed: Vec<&str> = typed.split(' ').collect();
+    let output = run(folder, &typed, input.as_bytes());
+    let said: String = said(&output)
+        .lines()
+        .map(|line| format!("! {line}\n"))
+        .collect();
+    let printed = str::from_utf8(&output.stdout).unwrap();
     format!("{printed}{said}= {}\n", output.status.code().unwrap())
 }
 
 #[test]
 fn commands_print_what_is_stored() {
-    let folder = dumps::folder("transcript");
+    let folder = dumps::folder();
     let mut differences = String::new();
     let mut ran = 0;
     for part in TRANSCRIPT.split("\n$ ").skip(1) {
@@ -40,7 +31,7 @@ fn commands_print_what_is_stored() {
         let input: String = input.map(|line| format!("{line}\n")).collect();
         let expected = stored.lines().filter(|line| !line.starts_with("< "));
         let expected: String = expected.map(|line| format!("{line}\n")).collect();
-        let came = run(&folder, typed, &input);
+        let came = lines(folder.path(), typed, &input);
         if came != expected {
             differences += &format!("$ {typed}\n{came}\n");
         }

@@ -6,17 +6,19 @@
 //! - `library`: the library's answers to the same requests.
 //! - `corpus`: dumps that the YAFFS2 driver wrote.
 //! - `replay`: the vectors that the program of that name is held to.
+//! - `scores`: the scores of layouts, by which K is found.
 //! - `unread`: what stands beside all tags decides no layout.
 //!
 //! `LOHENARR_SEEDS=N` compares N dumps instead of the usual number.
 
 #[cfg(test)]
 mod corpus;
-mod digest;
 mod generator;
 mod library;
 #[cfg(test)]
 mod replay;
+#[cfg(test)]
+mod scores;
 mod second;
 #[cfg(test)]
 mod unread;
@@ -24,6 +26,7 @@ mod unread;
 use std::env;
 
 use lohenarr::ffi;
+use sha2::{Digest, Sha256};
 
 use generator::case;
 use library::Library;
@@ -66,4 +69,9 @@ fn the_shelf_dump_is_the_builders() {
         include_bytes!("../data/W")[..],
         generator::shelf::shelf().bytes
     );
+}
+
+/// The SHA-256 of bytes, in hex.
+fn sha256(bytes: &[u8]) -> String {
+    format!("{:x}", Sha256::digest(bytes))
 }

@@ -6,10 +6,10 @@ use Rattle.replay.proofs.add_pages.Statement.{statement}
 use Rattle.replay.proofs.add_pages.Tie as tie
 
 abbrev Inv-loop : tie.InvT-loop
-Inv-loop dump l k pages cells₀ p₀ cells p = length cells ≡ length cells₀
+Inv-loop dump g pages cells₀ p₀ cells p = length cells ≡ length cells₀
 
 abbrev μ-loop : tie.MeasureT-loop
-μ-loop dump l k pages cells₀ p₀ cells p = p
+μ-loop dump g pages cells₀ p₀ cells p = p
 
 pub add-pages-spec : {M : Type 1} → statement M
 add-pages-spec =

@@ -5,10 +5,10 @@ use Rattle.replay.proofs.chunk_lines.Statement.{statement}
 use Rattle.replay.proofs.chunk_lines.Tie as tie
 
 abbrev Inv-loop : tie.InvT-loop
-Inv-loop dump l k cells o c₀ c = c ≤ 7
+Inv-loop dump g cells o c₀ c = c ≤ 7
 
 abbrev μ-loop : tie.MeasureT-loop
-μ-loop dump l k cells o c₀ c = 7 - c
+μ-loop dump g cells o c₀ c = 7 - c
 
 pub chunk-lines-spec : {M : Type 1} → statement M
 chunk-lines-spec =

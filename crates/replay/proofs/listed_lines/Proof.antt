@@ -5,10 +5,10 @@ use Rattle.replay.proofs.listed_lines.Statement.{statement}
 use Rattle.replay.proofs.listed_lines.Tie as tie
 
 abbrev Inv-loop : tie.InvT-loop
-Inv-loop dump l k cells ids count i₀ i = i ≤ count
+Inv-loop dump g cells ids count i₀ i = i ≤ count
 
 abbrev μ-loop : tie.MeasureT-loop
-μ-loop dump l k cells ids count i₀ i = count - i
+μ-loop dump g cells ids count i₀ i = count - i
 
 pub listed-lines-spec : {M : Type 1} → statement M
 listed-lines-spec =

@@ -1,6 +1,10 @@
 //! The same index in plain Rust: chains, sizes, chunks, tables, the live list
 //! and whole files.
 
+use std::ops::Range;
+
+use lohenarr::ffi::{self, Geometry};
+
 use super::plain::{bad_type, claim_of, word, Claim, LAYOUTS};
 
 /// The last number that a chunk has.
@@ -21,19 +25,32 @@ pub struct Index<'d> {
     cells: Vec<u32>,
 }
 
-/// Where a page's link, a slot's object and its first link stand.
-const LINK: usize = 16;
-const KEY: usize = 17;
-const FIRST: usize = 18;
+/// The words for the whole index, and those of each page and of the slot with its
+/// number.
+const SHARED: usize = 16;
+const PER_PAGE: usize = 4;
+
+/// Where a page's link stands, a slot's object and its first link.
+fn link_of(page: usize) -> usize {
+    SHARED + PER_PAGE * page
+}
+
+fn key_of(slot: usize) -> usize {
+    link_of(slot) + 1
+}
+
+fn first_of(slot: usize) -> usize {
+    link_of(slot) + 2
+}
 
 impl<'d> Index<'d> {
-    /// Adds the pages block by block, the blocks by the sequences of their
-    /// first records.
-    pub fn of(dump: &'d [u8], layout: u32, k: usize) -> Index<'d> {
-        let (data, spare, tag) = LAYOUTS[layout as usize];
+    /// Adds the pages in runs of one sequence, the oldest first.
+    pub fn of(dump: &'d [u8], on: Geometry) -> Index<'d> {
+        let (data, spare, tag) = LAYOUTS[on.layout as usize];
         let page = data + spare;
         let pages = dump.len() / page;
-        let cells = vec![0; 4 * pages + 16];
+        let cells = vec![0; ffi::cells(pages as u32)];
+        assert_eq!(cells.len(), link_of(pages), "the library's words");
         let mut index = Index {
             dump,
             data,
@@ -42,16 +59,17 @@ impl<'d> Index<'d> {
             pages,
             cells,
         };
-        let first = |b: usize| (b * k..(b + 1) * k).find(|&page| index.is_record(page));
-        let sequence = |page| word(index.tags(page), 0);
-        let mut blocks: Vec<_> = (0..pages / k)
-            .map(|b| (first(b).map(sequence), b))
-            .collect();
-        blocks.sort_unstable();
-        for (_, block) in blocks {
-            for page in block * k..(block + 1) * k {
-                index.add(page);
+        let mut runs: Vec<(u32, Range<usize>)> = Vec::new();
+        for page in 0..pages {
+            let sequence = word(index.tags(page), 0);
+            match runs.last_mut() {
+                Some((same, run)) if *same == sequence => run.end = page + 1,
+                _ => runs.push((sequence, page..page + 1)),
             }
+        }
+        runs.sort_unstable_by_key(|(sequence, run)| (*sequence, run.start));
+        for page in runs.into_iter().flat_map(|(_, run)| run) {
+            index.add(page);
         }
         index
     }
@@ -76,7 +94,7 @@ impl<'d> Index<'d> {
     fn slot(&self, object: u32) -> usize {
         let home = object as usize % self.pages;
         let serves = |&s: &usize| {
-            let key = self.cells[4 * s + KEY];
+            let key = self.cells[key_of(s)];
             key == 0 || key == object
         };
         let near = (0..=home).rev().find(serves);
@@ -85,13 +103,13 @@ impl<'d> Index<'d> {
 
     fn add(&mut self, page: usize) {
         if !self.is_record(page) {
-            self.cells[4 * page + LINK] = 1;
+            self.cells[link_of(page)] = 1;
             return;
         }
         let tags = self.tags(page);
         let (sequence, object) = (word(tags, 0), word(tags, 4) & 0x0FFF_FFFF);
         let slot = self.slot(object);
-        self.cells[4 * slot + KEY] = object;
+        self.cells[key_of(slot)] = object;
         let mut walk = self.walk(object, slot);
         let mut at = walk.at;
         while walk.next(self).is_some() {
@@ -100,7 +118,7 @@ impl<'d> Index<'d> {
             }
             at = walk.at;
         }
-        self.cells[4 * page + LINK] = self.cells[at].max(1);
+        self.cells[link_of(page)] = self.cells[at].max(1);
         self.cells[at] = page as u32 + 2;
     }
 
@@ -108,7 +126,7 @@ impl<'d> Index<'d> {
         Walk {
             object,
             bound: u64::MAX,
-            at: 4 * slot + FIRST,
+            at: first_of(slot),
         }
     }
 
@@ -156,7 +174,7 @@ impl<'d> Index<'d> {
 
     /// The ids of the live objects, ascending.
     pub fn list(&self) -> Vec<u32> {
-        let keys = (0..self.pages).map(|slot| self.cells[4 * slot + KEY]);
+        let keys = (0..self.pages).map(|slot| self.cells[key_of(slot)]);
         let mut ids: Vec<u32> = keys.filter(|&key| key != 0 && self.is_live(key)).collect();
         ids.sort_unstable();
         ids
@@ -175,7 +193,7 @@ impl<'d> Index<'d> {
 
     /// How many objects have a record. The links met are those of a listing.
     pub fn objects(&self) -> u32 {
-        let keys = (0..self.pages).map(|slot| self.cells[4 * slot + KEY]);
+        let keys = (0..self.pages).map(|slot| self.cells[key_of(slot)]);
         let mut count = 0;
         for object in keys.filter(|&key| key != 0) {
             let mut walk = self.walk(object, self.slot(object));
@@ -282,7 +300,7 @@ impl Walk {
             return None;
         }
         self.bound = age;
-        self.at = 4 * page + LINK;
+        self.at = link_of(page);
         Some((page, chunk))
     }
 }

@@ -35,8 +35,8 @@ use std::hint::black_box;
 use std::path::PathBuf;
 use std::process::{self, ExitCode};
 
-use lohenarr::ffi;
-use lohenarr::map::Dump;
+use lohenarr::dump::Dump;
+use lohenarr::ffi::{self, Geometry};
 use lohenarr::objects::Objects;
 
 use dump::LONG;
@@ -87,40 +87,39 @@ fn generated(file: &Temporary, mib: usize, tag: u32) -> Result<Dump, String> {
     dump::write(path, mib, tag as usize)
         .map_err(|error| format!("cannot write {}: {error}", path.display()))?;
     Dump::open(path.as_os_str(), false)
-        .map_err(|error| format!("cannot read {}: {error}", path.display()))
 }
 
 /// The rows of the dump that are not about its layout.
 fn pages(dump: &[u8], rounds: usize) {
     let layout = ffi::find(dump, BLOCK);
     assert_eq!(layout.refusal, 0, "the generated dump has a layout");
+    let on = Geometry {
+        layout: layout.number,
+        block: BLOCK,
+    };
     timing::compare(
         "counts",
         rounds,
         || {
-            let c = ffi::counts(dump, layout.number, BLOCK);
+            let c = ffi::counts(dump, on);
             [c.blank, c.foreign, c.damaged, c.headers, c.data]
         },
-        || plain::counts(dump, layout.number),
+        || plain::counts(dump, on.layout),
     );
-    lookups(dump, layout.number, rounds);
+    lookups(dump, on, rounds);
 }
 
 /// The index of every page, and lookups by it.
-fn lookups(dump: &[u8], layout: u32, rounds: usize) {
+fn lookups(dump: &[u8], on: Geometry, rounds: usize) {
     let anonymous = memory("RssAnon");
-    let library = Objects::of(dump, layout, BLOCK).expect("the dump is accepted");
+    let library = Objects::of(dump, on).expect("the dump is accepted");
     let anonymous = memory("RssAnon").saturating_sub(anonymous);
-    let plain = Index::of(dump, layout, BLOCK as usize);
+    let plain = Index::of(dump, on);
     timing::compare(
         "index",
         rounds,
-        || Objects::of(dump, layout, BLOCK).map(|objects| objects.size(LONG).size),
-        || {
-            Ok(Index::of(dump, layout, BLOCK as usize)
-                .size(LONG)
-                .unwrap_or(0))
-        },
+        || Objects::of(dump, on).map(|objects| objects.size(LONG).size),
+        || Ok(Index::of(dump, on).size(LONG).unwrap_or(0)),
     );
     let files = || LONG..LONG + dump::SHORT;
     let often = || (0..TIMES).flat_map(|_| files());
@@ -149,7 +148,7 @@ fn lookups(dump: &[u8], layout: u32, rounds: usize) {
         || plain.objects(),
     );
     contents(&library, &plain, rounds);
-    let pages = ffi::pages(dump, layout, BLOCK).pages;
+    let pages = ffi::pages(dump, on).pages;
     println!("dump: {} bytes, {pages} pages, mapped", dump.len());
     println!("files: the long one has {} bytes", library.size(LONG).size);
     println!(
@@ -199,7 +198,7 @@ fn contents(library: &Objects<'_>, plain: &Index<'_>, rounds: usize) {
 fn read(library: &Objects<'_>, object: u32, mut hand_on: impl FnMut(&[u8])) {
     if let Ok(table) = library.table(object) {
         let taken = library.hand_on(&table, |piece| {
-            hand_on(piece);
+            piece.parts().for_each(&mut hand_on);
             Ok::<_, Infallible>(())
         });
         let Ok(()) = taken;

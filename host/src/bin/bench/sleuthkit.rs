@@ -8,7 +8,7 @@ use std::path::Path;
 use std::process::{Command, Stdio};
 use std::time::{Duration, Instant};
 
-use lohenarr::arguments::Arguments;
+use lohenarr::arguments::{Arguments, Parsed};
 use lohenarr::commands;
 
 /// A run that is not repeated.
@@ -58,7 +58,9 @@ fn best(out: &Path, work: impl Fn(File) -> Option<Duration>) -> Option<Duration>
 fn command(words: &[&OsStr], out: File) -> Option<Duration> {
     let start = Instant::now();
     let mut out = BufWriter::new(out);
-    let arguments = Arguments::parse(words.iter().map(OsString::from)).ok()?;
+    let Ok(Parsed::Run(arguments)) = Arguments::parse(words.iter().map(OsString::from)) else {
+        return None;
+    };
     commands::run(&arguments, &mut out).ok()?;
     out.flush().ok()?;
     Some(start.elapsed())

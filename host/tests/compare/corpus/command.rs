@@ -3,20 +3,24 @@
 use std::ffi::OsString;
 use std::fs;
 use std::path::{Path, PathBuf};
+use std::process::Command;
 
-use lohenarr::arguments::Arguments;
+use lohenarr::arguments::{Arguments, Parsed};
 use lohenarr::commands;
+use tempfile::TempDir;
 
 use super::{cases, Case, DRIVERS_OWN};
-use crate::digest::sha256;
+use crate::sha256;
 
 /// What the command writes.
 fn run(command: &str, dump: &Path, rest: &[&str]) -> Vec<u8> {
     let words = [OsString::from(command), dump.into()].into_iter();
     let words = words.chain(rest.iter().map(OsString::from));
-    let arguments = Arguments::parse(words);
+    let Ok(Parsed::Run(arguments)) = Arguments::parse(words) else {
+        panic!("{command} {rest:?} is no command");
+    };
     let mut out = Vec::new();
-    let done = arguments.and_then(|arguments| commands::run(&arguments, &mut out));
+    let done = commands::run(&arguments, &mut out);
     assert!(done.is_ok(), "{command} {} {rest:?}", dump.display());
     out
 }
@@ -25,17 +29,36 @@ fn lines(command: &str, dump: &Path, rest: &[&str]) -> String {
     String::from_utf8(run(command, dump, rest)).unwrap()
 }
 
-/// The dump of a case as a file.
-fn written(case: &Case) -> PathBuf {
-    let path = Path::new(env!("CARGO_TARGET_TMPDIR")).join(format!("{}.bin", case.name));
+/// The dump of a case as a file in a test's own folder.
+fn written(case: &Case, folder: &TempDir) -> PathBuf {
+    let path = folder.path().join("dump");
     fs::write(&path, &case.dump).unwrap();
     path
 }
 
+/// Layout and K, which nobody names, are those that the driver had.
+#[test]
+fn the_command_finds_what_the_driver_had() {
+    let folder = tempfile::tempdir().unwrap();
+    for case in cases() {
+        let mut report = Command::new(env!("CARGO_BIN_EXE_lohenarr"));
+        report.arg("report").arg(written(&case, &folder));
+        let output = report.output().unwrap();
+        let printed = String::from_utf8(output.stdout).unwrap();
+        let (name, layout, block) = (&case.name, &case.layout, &case.block);
+        let found = format!("layout={layout}\nblock={block}\n");
+        assert!(printed.starts_with(&found), "{name}: {printed}");
+        let said = String::from_utf8(output.stderr).unwrap();
+        let taken = format!("lohenarr: K is {block}, ");
+        assert!(said.starts_with(&taken), "{name}: {said}");
+    }
+}
+
 #[test]
 fn the_command_reads_what_the_driver_shows() {
+    let folder = tempfile::tempdir().unwrap();
     for case in cases() {
-        let (dump, name) = (written(&case), &case.name);
+        let (dump, name) = (written(&case, &folder), &case.name);
         let block = ["--block", &case.block];
         let found = lines("find", &dump, &block);
         assert_eq!(found, format!("layout={}\n", case.layout), "{name}");

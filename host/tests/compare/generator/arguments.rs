@@ -3,6 +3,7 @@
 
 use super::dump::Dump;
 use super::rng::Rng;
+use crate::second::cells::need;
 use crate::second::index::{Lent, Over, Reader};
 use crate::second::layout::{opened, table, Layout, Named};
 use crate::second::page::{LAST_CHUNK, LAST_OBJECT};
@@ -176,14 +177,14 @@ impl Asker<'_> {
 
     /// The index words that a layout's pages need.
     pub fn need(&self, layout: Layout) -> u64 {
-        4 * (self.dump.bytes.len() / layout.page()) as u64 + 16
+        need(self.dump.bytes.len() / layout.page()) as u64
     }
 
     /// Index words for a call: enough, with some to spare, or too few.
     pub fn words(&mut self, layout: Layout) -> u64 {
-        let need = self.need(layout);
+        let (need, shared) = (self.need(layout), need(0) as u64);
         match self.rng.below(60) {
-            0 => self.rng.pick(&[0, 15, 16, need - 1]),
+            0 => self.rng.pick(&[0, shared - 1, shared, need - 1]),
             1 => need - 1,
             2..=19 => need + self.rng.below(9),
             _ => need,

@@ -27,6 +27,20 @@ pub fn find(dump: &[u8], k: u64, wrong: Wrong) -> Result<Layout, Refusal> {
         .ok_or(Refusal::NoLayout)
 }
 
+/// The score of a layout with blocks of K pages, if it fits; 0 where it does not,
+/// or where a dump of this length has no such blocks.
+pub fn score(dump: &[u8], layout: Layout, k: u64, wrong: Wrong) -> usize {
+    let length = dump.len() as u64;
+    if bad_block(k, wrong) || bad_length(length) || broken_block(layout, k, length, wrong) {
+        return 0;
+    }
+    let candidate = Candidate::of(dump, layout, k, wrong);
+    match candidate.fits(wrong) {
+        true => candidate.score(),
+        false => 0,
+    }
+}
+
 /// The candidate with the highest score, and of several the first.
 fn highest(candidates: &[Candidate], wrong: Wrong) -> Option<&Candidate> {
     let highest = candidates.iter().map(|c| c.rank(wrong)).max();

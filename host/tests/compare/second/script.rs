@@ -2,12 +2,13 @@
 
 use std::fmt;
 
+use crc32fast::hash as crc32;
+
 use super::index::{Lent, Over, Reader, Refused};
 use super::layout::{Layout, Named};
 use super::lookup::Chunk;
 use super::page::{Body, Field, Kind};
 use super::refusal::Refusal;
-use crate::digest::crc32;
 
 /// One request with everything that its call is given. Lookups are over the
 /// dump alone or over the index; `buffer` counts bytes for a read and words

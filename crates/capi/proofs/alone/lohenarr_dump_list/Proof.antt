@@ -6,7 +6,7 @@ use Rattle.capi.proofs.alone.lohenarr_dump_list.Tie as tie
 returns : tie.Need-returns
 returns c =
     let r = c .before .before .before in
-    let l = r .before .before .layout-at .ensures in
+    let l = r .before .before .geometry-at .ensures in
     (rw (c .list-answer .ensures, r .list .ensures .0, l), rw (← l, ← r .list .ensures .0) (r .list .ensures .1))
 
 pub lohenarr-dump-list-spec : {M : Type 1} → statement M

@@ -9,7 +9,7 @@ returns c =
     let k = c .before in
     let l = k .before in
     let a = l .before .before .args in
-    let e = l .layout-at .ensures in
+    let e = l .geometry-at .ensures in
     rw (c .place-answer .ensures, k .chunk .ensures, e) (search needs, chunk-here _ (a .dump .now) _)
 
 pub lohenarr-dump-part-spec : {M : Type 1} → statement M

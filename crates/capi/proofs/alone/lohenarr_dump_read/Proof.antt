@@ -6,7 +6,7 @@ use Rattle.capi.proofs.alone.lohenarr_dump_read.Tie as tie
 returns : tie.Need-returns
 returns c =
     let r = c .before .before .before in
-    let l = r .before .before .layout-at .ensures in
+    let l = r .before .before .geometry-at .ensures in
     (rw (c .chunk-answer .ensures, r .read .ensures .0, l), rw (← l, ← r .read .ensures .0) (r .read .ensures .1))
 
 pub lohenarr-dump-read-spec : {M : Type 1} → statement M

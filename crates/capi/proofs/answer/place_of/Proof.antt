@@ -1,9 +1,9 @@
--- The place of a page is the product of a 32-bit number and a page's length, so it fits.
-use Prim.Native.Nat.{_*_, _≤_}
+-- The page lies in the dump, so that its place fits.
+use Prim.Native.Nat.{_+_, _*_, _≤_}
 use native.Mathlib.Omega.{arith}
 use borrow.Author.Needs.{needs}
 use borrow.Author.Tests.{not-true, not-false, le-leb, lt-leb}
-use Rattle.page.proofs.Layouts.{product-le}
+use Rattle.page.proofs.Lengths.{page-within}
 use Rattle.capi.proofs.answer.place_of.Statement.{statement}
 use Rattle.capi.proofs.answer.place_of.Tie as tie
 
@@ -15,10 +15,16 @@ returns-2 c =
     let h = c .before .before in
     rw (← h .before .holds .ensures, not-false (h .before .holds .result) (h .if1 .left), lt-leb _ _ (c .if2 .taken))
 
-mul-t10 : tie.Need-mul-t10
-mul-t10 c =
-    let h : c .before .before .before .before .before .before .args .p .0 * c .page-len .result ≤ 4294967295 * 131071 = product-le {m = 4294967295} {n = 131071} (omega arith) (omega arith) in
-    omega arith
+-- the page ends within the dump
+within : (c : tie.After-page-len) → let a = c .before .before .before .before .before .before .args in a .p .0 * c .page-len .result + c .page-len .result ≤ a .len
+within c =
+    let e = c .before .before .before .before in
+    let h = e .before in
+    let a = h .before .args in
+    rw (c .page-len .ensures .0) (page-within (a .g) (a .len) (a .p .0) (rw (← h .holds .ensures) (not-false (h .holds .result) (e .if1 .left))) .ends)
+
+mul-t9 : tie.Need-mul-t9
+mul-t9 c = omega (arith, within c)
 
 returns-3 : tie.Need-returns-3
 returns-3 c =
@@ -27,4 +33,4 @@ returns-3 c =
     rw (← h .before .holds .ensures, not-false (h .before .holds .result) (h .if1 .left), le-leb _ _ (d .if2 .left), c .page-len .ensures .0)
 
 pub place-of-spec : {M : Type 1} → statement M
-place-of-spec = tie.close (tie.spec (search needs) returns (search needs) returns-2 (search needs) (search needs) mul-t10 returns-3)
+place-of-spec = tie.close (tie.spec (search needs) returns returns-2 (search needs) (search needs) mul-t9 returns-3)

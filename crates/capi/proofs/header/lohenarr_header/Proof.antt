@@ -4,7 +4,7 @@ use Rattle.capi.proofs.header.lohenarr_header.Statement.{statement}
 use Rattle.capi.proofs.header.lohenarr_header.Tie as tie
 
 returns : tie.Need-returns
-returns c = rw (c .header-answer .ensures, c .before .header .ensures, c .before .before .layout-at .ensures)
+returns c = rw (c .header-answer .ensures, c .before .header .ensures, c .before .before .geometry-at .ensures)
 
 pub lohenarr-header-spec : {M : Type 1} → statement M
 lohenarr-header-spec = tie.close (tie.spec (search needs) (search needs) (search needs) returns)

@@ -9,7 +9,7 @@ use Rattle.capi.proofs.indexed.lohenarr_add_run.Tie as tie
 returns : tie.Need-returns
 returns c =
     let r = c .before .before .before in
-    let e = rw (r .before .before .layout-at .ensures) at (r .add-run .ensures) in
+    let e = rw (r .before .before .geometry-at .ensures) at (r .add-run .ensures) in
     (rw (c .run-answer .ensures) (ap (λ (o : Ran). runAnswer (o .answer)) e), ap (λ (o : Ran). o .cells) e)
 
 pub lohenarr-add-run-spec : {M : Type 1} → statement M

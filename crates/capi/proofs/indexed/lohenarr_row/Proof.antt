@@ -15,8 +15,8 @@ returns-2 c =
     let l = c .before in
     let e = l .before in
     let a = e .before .before .args in (
-      rw (le-ltb _ _ (e .if1 .left), ← l .layout-at .ensures) (c .place-of .ensures),
-      rw (row-page _ _ _ _ (e .if1 .left), c .place-of .ensures, l .layout-at .ensures) (valid-here _ (a .dump .now) _ _),
+      rw (le-ltb _ _ (e .if1 .left), ← l .geometry-at .ensures) (c .place-of .ensures),
+      rw (row-page _ _ _ _ (e .if1 .left), c .place-of .ensures, l .geometry-at .ensures) (valid-here _ (a .dump .now) _ _),
     )
 
 pub lohenarr-row-spec : {M : Type 1} → statement M

@@ -9,7 +9,7 @@ use Rattle.capi.proofs.indexed.lohenarr_start.Tie as tie
 returns : tie.Need-returns
 returns c =
     let r = c .before .before .before in
-    let e = rw (r .before .before .layout-at .ensures) at (r .start .ensures) in
+    let e = rw (r .before .before .geometry-at .ensures) at (r .start .ensures) in
     (rw (c .added-answer .ensures) (ap (λ (o : Outcome). addedAnswer (o .answer)) e), ap (λ (o : Outcome). o .cells) e)
 
 pub lohenarr-start-spec : {M : Type 1} → statement M

@@ -6,7 +6,7 @@ use Rattle.capi.proofs.indexed.lohenarr_table.Tie as tie
 returns : tie.Need-returns
 returns c =
     let r = c .before .before .before in
-    let l = r .before .before .layout-at .ensures in
+    let l = r .before .before .geometry-at .ensures in
     (rw (c .table-answer .ensures, r .table .ensures .0, l), rw (← l, ← r .table .ensures .0) (r .table .ensures .1))
 
 pub lohenarr-table-spec : {M : Type 1} → statement M

@@ -21,7 +21,7 @@ returns-3 : tie.Need-returns-3
 returns-3 c = rw (c .before .enum-told3 .given .1, c .bare3 .ensures)
 
 returns-4 : tie.Need-returns-4
-returns-4 c = rw (c .before .k .given .1, as-number)
+returns-4 c = rw (c .before .before .k .given .1, as-number)
 
 returns-5 : tie.Need-returns-5
 returns-5 c = rw (c .before .k2 .given .1)

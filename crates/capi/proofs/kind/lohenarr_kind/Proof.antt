@@ -4,7 +4,7 @@ use Rattle.capi.proofs.kind.lohenarr_kind.Statement.{statement}
 use Rattle.capi.proofs.kind.lohenarr_kind.Tie as tie
 
 returns : tie.Need-returns
-returns c = rw (c .kind-answer .ensures, c .before .page-kind .ensures, c .before .before .layout-at .ensures)
+returns c = rw (c .kind-answer .ensures, c .before .page-kind .ensures, c .before .before .geometry-at .ensures)
 
 pub lohenarr-kind-spec : {M : Type 1} → statement M
 lohenarr-kind-spec = tie.close (tie.spec (search needs) (search needs) (search needs) returns)

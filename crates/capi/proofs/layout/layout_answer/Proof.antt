@@ -7,7 +7,7 @@ returns : tie.Need-returns
 returns c = rw (c .before .before .n .given .1, c .number .ensures)
 
 returns-2 : tie.Need-returns-2
-returns-2 c = rw (c .before .before .before .before .before .n2 .given .1, c .before .before .before .number2 .ensures)
+returns-2 c = rw (c .before .before .n2 .given .1, c .number2 .ensures)
 
 pub layout-answer-spec : {M : Type 1} → statement M
-layout-answer-spec = tie.close (tie.spec (search needs) (search needs) (search needs) (search needs) (search needs) (search needs) (search needs) returns returns-2)
+layout-answer-spec = tie.close (tie.spec (search needs) (search needs) (search needs) (search needs) returns returns-2)

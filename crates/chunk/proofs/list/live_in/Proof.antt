@@ -6,8 +6,8 @@ use native.Mathlib.Omega.{arith}
 use borrow.Author.Needs.{needs}
 use borrow.Author.Tests.{not-true, not-false}
 use Rattle.page.specs.Search.{count}
-use Rattle.page.specs.Counts.{isHeader}
-use Rattle.page.specs.Kinds.{kindAt}
+use Rattle.page.specs.Records.{isHeader}
+use Rattle.page.specs.Records.{recordAt}
 use Rattle.page.proofs.Searching.{count-none}
 use Rattle.page.proofs.Sound.{else-header}
 use Rattle.chunk.specs.Live.{livePage, liveCount}
@@ -16,10 +16,10 @@ use Rattle.chunk.proofs.list.live_in.Statement.{statement}
 use Rattle.chunk.proofs.list.live_in.Tie as tie
 
 abbrev Inv-loop : tie.InvT-loop
-Inv-loop dump l pages count₀ i₀ count₁ i = (i ≤ pages) × (count₁ ≤ i) × (count₁ ≡ count (livePage (kindAt l dump) pages) i)
+Inv-loop dump g pages count₀ i₀ count₁ i = (i ≤ pages) × (count₁ ≤ i) × (count₁ ≡ count (livePage (recordAt g dump) pages) i)
 
 abbrev μ-loop : tie.MeasureT-loop
-μ-loop dump l pages count₀ i₀ count₁ i = pages - i
+μ-loop dump g pages count₀ i₀ count₁ i = pages - i
 
 loop-holds : tie.Need-loop-holds Inv-loop μ-loop
 loop-holds c = (search needs, search needs, rw count-none)
@@ -29,8 +29,8 @@ loop-again c =
     let k = c .before in
     let q = k .before .before .loop in
     let a = k .before .before .before .before .args in
-    let says = kindAt (a .l) (a .dump .now) in
-    let h : isHeader (says (q .i)) ≡ false = rw (← k .kind-at .ensures) (else-header (k .kind-at .result) (c .match .keys2)) in
+    let says = recordAt (a .g) (a .dump .now) in
+    let h : isHeader (says (q .i)) ≡ false = rw (← k .record-at .ensures) (else-header (k .record-at .result) (c .match .keys2)) in
     (search needs, search needs, q .inv .2 ∙ sym (count-skip _ (q .i) (live-other says (a .pages) (q .i) h)))
 
 -- whether the page is live, by the call
@@ -38,12 +38,12 @@ called :
     (c : tie.After-is-live Inv-loop μ-loop) →
     let k = c .before .before .before .before in
     let a = k .before .before .before .before .args in
-    livePage (kindAt (a .l) (a .dump .now)) (a .pages) (k .before .before .loop .i) ≡ c .is-live .result
+    livePage (recordAt (a .g) (a .dump .now)) (a .pages) (k .before .before .loop .i) ≡ c .is-live .result
 called c =
     let m = c .before .before in
     let k = m .before .before in
     let a = k .before .before .before .before .args in
-    live-header (kindAt (a .l) (a .dump .now)) (a .pages) (k .before .before .loop .i) _ _ _ _ _ _ (sym (k .kind-at .ensures) ∙ m .k .given .1) ∙ sym (c .is-live .ensures)
+    live-header (recordAt (a .g) (a .dump .now)) (a .pages) (k .before .before .loop .i) _ (sym (k .record-at .ensures) ∙ m .r .given .1) ∙ sym (c .is-live .ensures)
 
 loop-again-2 : tie.Need-loop-again-2 Inv-loop μ-loop
 loop-again-2 c =

@@ -6,7 +6,7 @@ use native.Mathlib.Omega.{arith}
 use borrow.Author.Needs.{needs}
 use borrow.Author.Tests.{eq-eqb, ne-eqb}
 use Rattle.page.specs.Search.{count}
-use Rattle.page.specs.Kinds.{kindAt}
+use Rattle.page.specs.Records.{recordAt}
 use Rattle.page.proofs.Searching.{count-none}
 use Rattle.chunk.specs.Live.{objectPage, objectCount}
 use Rattle.chunk.proofs.Living.{count-skip, count-take}
@@ -14,10 +14,10 @@ use Rattle.chunk.proofs.list.objects_in.Statement.{statement}
 use Rattle.chunk.proofs.list.objects_in.Tie as tie
 
 abbrev Inv-loop : tie.InvT-loop
-Inv-loop dump l pages count₀ i₀ count₁ i = (i ≤ pages) × (count₁ ≤ i) × (count₁ ≡ count (objectPage (kindAt l dump)) i)
+Inv-loop dump g pages count₀ i₀ count₁ i = (i ≤ pages) × (count₁ ≤ i) × (count₁ ≡ count (objectPage (recordAt g dump)) i)
 
 abbrev μ-loop : tie.MeasureT-loop
-μ-loop dump l pages count₀ i₀ count₁ i = pages - i
+μ-loop dump g pages count₀ i₀ count₁ i = pages - i
 
 loop-holds : tie.Need-loop-holds Inv-loop μ-loop
 loop-holds c = (search needs, search needs, rw count-none)
@@ -28,8 +28,8 @@ loop-again c =
     let k = o .before in
     let q = k .before .before .loop in
     let a = k .before .before .before .before .args in
-    let t : objectPage (kindAt (a .l) (a .dump .now)) (q .i) ≡ false =
-    rw (← k .kind-at .ensures, ← o .object-of .ensures, eq-eqb _ _ (c .if1 .taken))
+    let t : objectPage (recordAt (a .g) (a .dump .now)) (q .i) ≡ false =
+    rw (← k .record-at .ensures, ← o .object-of .ensures, eq-eqb _ _ (c .if1 .taken))
     in
     (search needs, search needs, q .inv .2 ∙ sym (count-skip _ (q .i) t))
 
@@ -40,8 +40,8 @@ loop-again-2 c =
     let k = o .before in
     let q = k .before .before .loop in
     let a = k .before .before .before .before .args in
-    let t : objectPage (kindAt (a .l) (a .dump .now)) (q .i) ≡ false =
-    rw (← k .kind-at .ensures, ← o .object-of .ensures, ne-eqb _ _ (r .before .if1 .left), ← r .records-since .ensures, ne-eqb _ _ (c .if2 .taken))
+    let t : objectPage (recordAt (a .g) (a .dump .now)) (q .i) ≡ false =
+    rw (← k .record-at .ensures, ← o .object-of .ensures, ne-eqb _ _ (r .before .if1 .left), ← r .records-since .ensures, ne-eqb _ _ (c .if2 .taken))
     in
     (search needs, search needs, q .inv .2 ∙ sym (count-skip _ (q .i) t))
 
@@ -52,8 +52,8 @@ loop-again-3 c =
     let k = o .before in
     let q = k .before .before .loop in
     let a = k .before .before .before .before .args in
-    let t : objectPage (kindAt (a .l) (a .dump .now)) (q .i) ≡ true =
-    rw (← k .kind-at .ensures, ← o .object-of .ensures, ne-eqb _ _ (r .before .if1 .left), ← r .records-since .ensures, eq-eqb _ _ (c .if2 .left))
+    let t : objectPage (recordAt (a .g) (a .dump .now)) (q .i) ≡ true =
+    rw (← k .record-at .ensures, ← o .object-of .ensures, ne-eqb _ _ (r .before .if1 .left), ← r .records-since .ensures, eq-eqb _ _ (c .if2 .left))
     in
     (search needs, search needs, rw (q .inv .2) (sym (count-take _ (q .i) t)))
 

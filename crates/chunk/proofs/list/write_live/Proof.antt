@@ -7,58 +7,59 @@ use native.Mathlib.Omega.{arith}
 use borrow.Author.Needs.{needs}
 use borrow.Author.Tests.{not-true, not-false}
 use Rattle.page.specs.Search.{count}
-use Rattle.page.specs.Counts.{isHeader}
-use Rattle.page.specs.Kinds.{kindAt}
+use Rattle.page.specs.Records.{isHeader}
+use Rattle.page.specs.Records.{recordAt}
 use Rattle.page.proofs.Searching.{count-none}
 use Rattle.page.proofs.Sound.{else-header}
 use Rattle.chunk.specs.Records.{objectOf}
-use Rattle.chunk.specs.Live.{objectAt, livePage, idsOf, liveIds, liveCount}
+use Rattle.chunk.specs.Live.{objectAt, livePage, passed, liveIds, liveCount}
 use Rattle.chunk.specs.Lists.{inFront}
-use Rattle.chunk.proofs.Living.{count-skip, count-take, count-below, ids-none, ids-skip, ids-written, live-other, live-header, live-ascends}
+use Rattle.chunk.proofs.Living.{count-skip, count-take, count-below, passed-none, passed-skip, live-other, live-header}
+use Rattle.chunk.proofs.Sorting.{passed-written, passed-sorted}
 use Rattle.chunk.proofs.list.write_live.Statement.{statement}
 use Rattle.chunk.proofs.list.write_live.Tie as tie
 
 abbrev Inv-loop : tie.InvT-loop
-Inv-loop dump l pages words₀ count₀ i₀ words count₁ i =
+Inv-loop dump g pages words₀ count₀ i₀ words count₁ i =
     (i ≤ pages)
     × (count₁ ≤ i)
     × (length words ≡ length words₀)
-    × (count₁ ≡ count (livePage (kindAt l dump) pages) i)
-    × (words ≡ inFront (idsOf (livePage (kindAt l dump) pages) (objectAt (kindAt l dump)) i) words₀)
+    × (count₁ ≡ count (livePage (recordAt g dump) pages) i)
+    × (words ≡ inFront (passed (livePage (recordAt g dump) pages) (objectAt (recordAt g dump)) i) words₀)
 
 abbrev μ-loop : tie.MeasureT-loop
-μ-loop dump l pages words₀ count₀ i₀ words count₁ i = pages - i
+μ-loop dump g pages words₀ count₀ i₀ words count₁ i = pages - i
 
 loop-holds : tie.Need-loop-holds Inv-loop μ-loop
-loop-holds c = (search needs, search needs, refl, rw count-none, rw ids-none)
+loop-holds c = (search needs, search needs, refl, rw count-none, rw passed-none)
 
 loop-again : tie.Need-loop-again Inv-loop μ-loop
 loop-again c =
     let k = c .before in
     let q = k .before .before .loop in
     let a = k .before .before .before .before .before .args in
-    let says = kindAt (a .l) (a .dump .now) in
-    let h : isHeader (says (q .i)) ≡ false = rw (← k .kind-at .ensures) (else-header (k .kind-at .result) (c .match .keys2)) in
+    let says = recordAt (a .g) (a .dump .now) in
+    let h : isHeader (says (q .i)) ≡ false = rw (← k .record-at .ensures) (else-header (k .record-at .result) (c .match .keys2)) in
     let t = live-other says (a .pages) (q .i) h in
-    (search needs, search needs, search needs, rw (count-skip _ (q .i) t) (q .inv .3), rw (ids-skip _ _ (q .i) t) (q .inv .4))
+    (search needs, search needs, search needs, rw (count-skip _ (q .i) t) (q .inv .3), rw (passed-skip _ _ (q .i) t) (q .inv .4))
 
 -- whether the page is live, by the call
 called :
     (c : tie.After-is-live Inv-loop μ-loop) →
     let k = c .before .before .before .before in
     let a = k .before .before .before .before .before .args in
-    livePage (kindAt (a .l) (a .dump .now)) (a .pages) (k .before .before .loop .i) ≡ c .is-live .result
+    livePage (recordAt (a .g) (a .dump .now)) (a .pages) (k .before .before .loop .i) ≡ c .is-live .result
 called c =
     let m = c .before .before in
     let k = m .before .before in
     let a = k .before .before .before .before .before .args in
-    live-header (kindAt (a .l) (a .dump .now)) (a .pages) (k .before .before .loop .i) _ _ _ _ _ _ (sym (k .kind-at .ensures) ∙ m .k .given .1) ∙ sym (c .is-live .ensures)
+    live-header (recordAt (a .g) (a .dump .now)) (a .pages) (k .before .before .loop .i) _ (sym (k .record-at .ensures) ∙ m .r .given .1) ∙ sym (c .is-live .ensures)
 
 loop-again-2 : tie.Need-loop-again-2 Inv-loop μ-loop
 loop-again-2 c =
     let q = c .before .before .before .before .before .before .before .loop in
     let t = called (c .before) ∙ not-true (c .before .is-live .result) (c .if1 .taken) in
-    (search needs, search needs, search needs, rw (count-skip _ (q .i) t) (q .inv .3), rw (ids-skip _ _ (q .i) t) (q .inv .4))
+    (search needs, search needs, search needs, rw (count-skip _ (q .i) t) (q .inv .3), rw (passed-skip _ _ (q .i) t) (q .inv .4))
 
 loop-again-3 : tie.Need-loop-again-3 Inv-loop μ-loop
 unfolding liveCount
@@ -70,24 +71,28 @@ loop-again-3 c =
     let q = k .before .before .loop in
     let s = k .before .before .before .before .before in
     let a = s .args in
-    let says = kindAt (a .l) (a .dump .now) in
+    let says = recordAt (a .g) (a .dump .now) in
     let test = livePage says (a .pages) in
     let t : test (q .i) ≡ true = called (f .before) ∙ not-false (f .before .is-live .result) (f .if1 .left) in
-    let o : objectAt says (q .i) ≡ m .k .given .0 .1 .0 .0 = ap objectOf (sym (k .kind-at .ensures) ∙ m .k .given .1) in
+    let o : objectAt says (q .i) ≡ m .r .given .0 .0 .object .0 = ap objectOf (sym (k .record-at .ensures) ∙ m .r .given .1) in
     let room : q .count < length (a .words .now) = omega (arith, count-below test (q .i) (a .pages) (k .before .loop-test .taken) t, s .pre, q .inv .3) in (
       search needs,
       search needs,
-      w .insert-id .kept .0 ∙ q .inv .2,
+      w .put-id .kept .0 ∙ q .inv .2,
       rw (count-take test (q .i) t, q .inv .3),
-      w .insert-id .ensures
-          ∙ rw (← o) (ids-written test (objectAt says) (q .words) (a .words .now) (q .count) (q .i) (live-ascends says (a .pages) (q .i)) t (q .inv .3) room (q .inv .4)),
+      w .put-id .ensures ∙ rw (← o) (passed-written test (objectAt says) (q .words) (a .words .now) (q .count) (q .i) t (q .inv .3) room (q .inv .4)),
     )
 
 returns : tie.Need-returns Inv-loop μ-loop
 unfolding liveIds
 returns c =
-    let e : c .before .loop .i ≡ c .before .before .before .before .args .pages = omega arith in
-    rw e at (c .before .loop .inv .4)
+    let l = c .before .before .before .before in
+    let q = l .before .loop in
+    let a = l .before .before .before .before .args in
+    let says = recordAt (a .g) (a .dump .now) in
+    let e : q .i ≡ a .pages = omega arith in
+    c .before .before .sort .ensures
+    ∙ (rw e at (passed-sorted (livePage says (a .pages)) (objectAt says) (q .words) (a .words .now) (q .count) (q .i) (q .inv .3) (q .inv .4)))
 
 pub write-live-spec : {M : Type 1} → statement M
 write-live-spec =
@@ -108,5 +113,6 @@ write-live-spec =
     (λ c. search needs)
     (search needs)
     loop-again-3
+    (search needs)
     (search needs)
     returns)

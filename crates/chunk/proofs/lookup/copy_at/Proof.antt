@@ -1,6 +1,5 @@
 -- The lowest later cut says whether the copy is hidden, and how much of it is valid.
 use borrow.Author.Needs.{needs}
-use borrow.Author.Tests.{le-leb, lt-leb}
 use Rattle.chunk.specs.Lookups.{copyAt}
 use Rattle.chunk.proofs.lookup.copy_at.Statement.{statement}
 use Rattle.chunk.proofs.lookup.copy_at.Tie as tie
@@ -9,9 +8,9 @@ returns : tie.Need-returns
 unfolding copyAt
 returns c =
     let t = c .before in
-    let b = t .before .before in
+    let b = t .before .before .before in
     let s = b .before .before in
-    rw (← s .pre, ← t .before .lowest-cut .ensures, ← b .base-of .ensures .0, le-leb _ _ (t .if1 .taken), ← c .records-since .ensures)
+    rw (← s .pre, ← t .before .before .lowest-cut .ensures, ← b .base-of .ensures .0, ← t .before .hides .ensures, t .if1 .taken, ← c .records-since .ensures)
 
 returns-2 : tie.Need-returns-2
 unfolding copyAt
@@ -21,17 +20,18 @@ returns-2 c =
     let v = g .before in
     let k = v .before .before in
     let t = k .before in
-    let b = t .before .before in
+    let b = t .before .before .before in
     let s = b .before .before in
     rw (
       ← s .pre,
-      ← t .before .lowest-cut .ensures,
+      ← t .before .before .lowest-cut .ensures,
       ← b .base-of .ensures .0,
-      lt-leb _ _ (t .if1 .left),
-      ← k .kind-at .ensures,
+      ← t .before .hides .ensures,
+      t .if1 .left,
+      ← k .record-at .ensures,
       ← v .before .count-of .ensures,
       ← v .valid-of .ensures,
-      ← g .kind-at2 .ensures,
+      ← g .record-at2 .ensures,
       ← m .before .before .sequence-of .ensures,
       ← m .before .order-of .ensures,
       ← m .smaller .ensures,
@@ -42,6 +42,7 @@ pub copy-at-spec : {M : Type 1} → statement M
 copy-at-spec =
     tie.close
     (tie.spec
+    (search needs)
     (search needs)
     (search needs)
     (search needs)

@@ -16,7 +16,7 @@ use Rattle.chunk.proofs.read.valid_part.Tie as tie
 
 lies :
     (c : tie.Else1) →
-    let a = c .before .before .before .args in pageIn (a .l) (length (a .dump .now)) (a .p .0) ≡ true
+    let a = c .before .before .before .args in pageIn (a .g) (length (a .dump .now)) (a .p .0) ≡ true
 lies c = rw (← c .before .holds .ensures) (not-false (c .before .holds .result) (c .if1 .left))
 
 -- the part ends within the dump
@@ -28,7 +28,7 @@ within c =
     let d = c .before .before in
     let e = d .before .before in
     let a = e .before .before .before .args in
-    let w = rw (← c .page-len .ensures .0) at (page-within (a .l) (length (a .dump .now)) (a .p .0) (lies e) .ends) in
+    let w = rw (← c .page-len .ensures .0) at (page-within (a .g) (length (a .dump .now)) (a .p .0) (lies e) .ends) in
     omega (arith, c .page-len .ensures .0, d .if2 .left)
 
 returns : tie.Need-returns
@@ -60,7 +60,7 @@ returns-3 c =
       add-sub-cancel-left,
       lies e,
       le-leb _ _ (d .if2 .left),
-      page-front (a .l) (a .dump .now) (a .p .0) (a .valid) (omega (arith, d .if2 .left)),
+      page-front (a .g) (a .dump .now) (a .p .0) (a .valid) (omega (arith, d .if2 .left)),
       c .before .page-len .ensures .0,
     )
 
@@ -71,7 +71,6 @@ valid-part-spec =
     (search needs)
     (search needs)
     returns
-    (search needs)
     (search needs)
     returns-2
     (search needs)

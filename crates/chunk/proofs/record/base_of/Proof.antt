@@ -1,4 +1,4 @@
--- A 32-bit number times a 16-bit one fits.
+-- A word times a word fits, and leaves room for a word more, since the first is one less.
 use Prim.Native.Nat.{_*_, _-_, _≤_}
 use mathlib.Core.Path.{sym, refl}
 use native.Mathlib.Nat.{zero-mul}
@@ -8,8 +8,8 @@ use Rattle.page.proofs.Layouts.{product-le}
 use Rattle.chunk.proofs.record.base_of.Statement.{statement}
 use Rattle.chunk.proofs.record.base_of.Tie as tie
 
-bounded : (c : tie.After-struct-known2) → (c .before .before .before .args .n .0 - 1) * c .before .before .before .args .«data» ≤ 4294967295 * 65535
-bounded c = product-le {m = 4294967295} {n = 65535} (omega arith) (omega arith)
+bounded : (c : tie.After-struct-known2) → (c .before .before .before .args .n .0 - 1) * c .before .before .before .args .«data» ≤ 4294967294 * 4294967295
+bounded c = product-le {m = 4294967294} {n = 4294967295} (omega arith) (omega arith)
 
 returns : tie.Need-returns
 returns c = (rw (c .if1 .taken) (sym (zero-mul _)), omega arith)

@@ -4,4 +4,4 @@ use Rattle.chunk.proofs.record.file_size.Statement.{statement}
 use Rattle.chunk.proofs.record.file_size.Tie as tie
 
 pub file-size-spec : {M : Type 1} → statement M
-file-size-spec = tie.close (tie.spec (search needs) (search needs) (search needs) (search needs) (search needs) (λ c. search needs) (λ c. search needs) (λ c. search needs) (λ c. rw (c .before .k .given .1)) (λ c. search needs))
+file-size-spec = tie.close (tie.spec (search needs) (search needs) (search needs) (λ c. search needs) (λ c. rw (c .before .r .given .1)) (λ c. search needs))

@@ -1,5 +1,4 @@
 -- One parent after the other.
-use borrow.Author.Needs.{needs}
 use borrow.Author.Tests.{eq-eqb, ne-eqb}
 use Rattle.chunk.proofs.record.gone_under.Statement.{statement}
 use Rattle.chunk.proofs.record.gone_under.Tie as tie

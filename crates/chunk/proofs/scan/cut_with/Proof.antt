@@ -27,7 +27,7 @@ returns-3 c =
       ← d .before .order-of .ensures,
       lt-ltb _ _ (d .if2 .left),
     )
-    (c .smaller .ensures ∙ rw (c .before .cut-of .ensures))
+    (c .lower .ensures ∙ rw (c .before .cut-of .ensures))
 
 pub cut-with-spec : {M : Type 1} → statement M
 cut-with-spec = tie.close (tie.spec returns (search needs) returns-2 (search needs) (search needs) returns-3)

@@ -4,8 +4,8 @@ use mathlib.Core.Bool.{false}
 use mathlib.Core.Path.{_≡_, sym, _∙_}
 use native.Mathlib.Omega.{arith}
 use borrow.Author.Needs.{needs}
-use Rattle.page.specs.Counts.{isData}
-use Rattle.page.specs.Kinds.{kindAt}
+use Rattle.page.specs.Records.{isData}
+use Rattle.page.specs.Records.{recordAt}
 use Rattle.page.proofs.Sound.{else-data}
 use Rattle.chunk.specs.Sizes.{dataEnd}
 use Rattle.chunk.proofs.Gathering.{end-none, end-skip, end-step}
@@ -13,10 +13,10 @@ use Rattle.chunk.proofs.scan.data_end.Statement.{statement}
 use Rattle.chunk.proofs.scan.data_end.Tie as tie
 
 abbrev Inv-loop : tie.InvT-loop
-Inv-loop dump l pages o age end₀ i₀ end i = (i ≤ pages) × (end ≡ dataEnd (kindAt l dump) (l .«data») (o .0) age i)
+Inv-loop dump g pages o age end₀ i₀ end i = (i ≤ pages) × (end ≡ dataEnd (recordAt g dump) (g .layout .«data») (o .0) age i)
 
 abbrev μ-loop : tie.MeasureT-loop
-μ-loop dump l pages o age end₀ i₀ end i = pages - i
+μ-loop dump g pages o age end₀ i₀ end i = pages - i
 
 loop-holds : tie.Need-loop-holds Inv-loop μ-loop
 loop-holds c = (search needs, rw end-none)
@@ -26,9 +26,9 @@ loop-again c =
     let k = c .before in
     let q = k .before .before .loop in
     let a = k .before .before .before .before .args in
-    let says = kindAt (a .l) (a .dump .now) in
-    let t : isData (says (q .i)) ≡ false = rw (← k .kind-at .ensures) (else-data (k .kind-at .result) (c .match .keys2)) in
-    (search needs, q .inv .1 ∙ sym (end-skip says (a .l .«data») (a .o .0) (a .age) (q .i) t))
+    let says = recordAt (a .g) (a .dump .now) in
+    let t : isData (says (q .i)) ≡ false = rw (← k .record-at .ensures) (else-data (k .record-at .result) (c .match .keys2)) in
+    (search needs, q .inv .1 ∙ sym (end-skip says (a .g .layout .«data») (a .o .0) (a .age) (q .i) t))
 
 loop-again-2 : tie.Need-loop-again-2 Inv-loop μ-loop
 loop-again-2 c =
@@ -36,8 +36,8 @@ loop-again-2 c =
     let k = m .before .before in
     let q = k .before .before .loop in
     let a = k .before .before .before .before .args in
-    let says = kindAt (a .l) (a .dump .now) in
-    (search needs, c .end-with .ensures ∙ rw (q .inv .1, ← m .k .given .1, k .kind-at .ensures) (sym (end-step says (a .l .«data») (a .o .0) (a .age) (q .i))))
+    let says = recordAt (a .g) (a .dump .now) in
+    (search needs, c .end-with .ensures ∙ rw (q .inv .1, ← m .r .given .1, k .record-at .ensures) (sym (end-step says (a .g .layout .«data») (a .o .0) (a .age) (q .i))))
 
 returns : tie.Need-returns Inv-loop μ-loop
 returns c =

@@ -18,15 +18,16 @@ returns-2 c =
 returns-3 : tie.Need-returns-3
 unfolding endWith
 returns-3 c =
-    let d = c .before .before in
+    let b = c .before .before in
+    let d = b .before in
     let e = d .before .before in
     rw (
       eq-eqb _ _ (e .if1 .left),
       ← d .before .order-of .ensures,
       lt-ltb _ _ (d .if2 .left),
-      ← c .before .base-of .ensures .0,
+      ← b .base-of .ensures .0,
     )
     (c .larger .ensures)
 
 pub end-with-spec : {M : Type 1} → statement M
-end-with-spec = tie.close (tie.spec returns (search needs) returns-2 (search needs) (search needs) (search needs) returns-3)
+end-with-spec = tie.close (tie.spec returns (search needs) returns-2 (search needs) (search needs) (search needs) (search needs) returns-3)

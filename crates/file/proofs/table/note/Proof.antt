@@ -3,7 +3,7 @@ use Prim.Native.Nat.{_+_, _-_, _<_}
 use native.Mathlib.Omega.{arith}
 use lib.ListN.{length, length-set}
 use borrow.Author.Needs.{needs}
-use borrow.Author.Tests.{eq-eqb, ne-eqb, lt-ltb, le-ltb, lt-leb, le-leb}
+use borrow.Author.Tests.{eq-eqb, ne-eqb, lt-ltb, le-ltb}
 use Rattle.file.specs.Table.{noted}
 use Rattle.file.proofs.table.note.Statement.{statement}
 use Rattle.file.proofs.table.note.Tie as tie
@@ -46,7 +46,7 @@ returns-3 c =
 returns-4 : tie.Need-returns-4
 unfolding noted
 returns-4 c =
-    let b = c .before in
+    let b = c .before .before in
     let g = b .before in
     let w = g .before .before in
     let f = w .before .before in
@@ -57,7 +57,8 @@ returns-4 c =
       ← w .words-of .ensures,
       eq-eqb _ _ (g .if3 .left),
       ← b .base-of .ensures .0,
-      le-leb _ _ (c .if4 .taken),
+      ← c .before .hides .ensures,
+      c .if4 .taken,
     )
 
 returns-5 : tie.Need-returns-5
@@ -66,7 +67,7 @@ returns-5 c =
     let v = c .before in
     let s = v .before in
     let h = s .before in
-    let b = h .before in
+    let b = h .before .before in
     let g = b .before in
     let w = g .before .before in
     let f = w .before .before in
@@ -77,17 +78,18 @@ returns-5 c =
       ← w .words-of .ensures,
       eq-eqb _ _ (g .if3 .left),
       ← b .base-of .ensures .0,
-      lt-leb _ _ (h .if4 .left),
+      ← h .before .hides .ensures,
+      h .if4 .left,
       ← s .shown-of .ensures,
       ← v .valid-of .ensures,
     )
 
 -- the row of the chunk, where it is written to
 abbrev Here : tie.After-struct-known4 → Type 0
-Here c = Within (c .before .before .before .before .before .before .before)
+Here c = Within (c .before .before .before .before .before .before .before .before)
 
 here : (c : tie.After-struct-known4) → Here c
-here c = within (c .before .before .before .before .before .before .before)
+here c = within (c .before .before .before .before .before .before .before .before)
 
 pub note-spec : {M : Type 1} → statement M
 note-spec =
@@ -101,10 +103,11 @@ note-spec =
     (λ c. omega (arith, within (c .before)))
     returns-3
     (search needs)
+    (search needs)
     returns-4
     (search needs)
     (search needs)
-    (λ c. omega (arith, c .before .before .before .before .before .before .before .before .before .before .before .before .before .before .pre .1))
+    (λ c. omega (arith, c .before .before .before .before .before .before .before .before .before .before .before .before .before .before .before .pre .1))
     (λ c. omega (arith, here c))
     (λ c. omega (arith, here c))
     (λ c. omega (arith, here c))

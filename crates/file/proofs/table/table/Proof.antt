@@ -1,7 +1,7 @@
 -- A refused dump is refused before anything else, and nothing is written.
 use mathlib.Core.Path.{refl, sym, _∙_}
 use borrow.Author.Needs.{needs}
-use Rattle.index.proofs.Ahead.{size-refused}
+use Rattle.index.proofs.Walk.Ahead.{size-refused}
 use Rattle.file.specs.Table.{tableFrom, tableBy, filledBy}
 use Rattle.file.proofs.table.table.Statement.{statement}
 use Rattle.file.proofs.table.table.Tie as tie
@@ -13,7 +13,7 @@ returns : tie.Need-returns
 unfolding tableFrom tableBy filledBy
 returns c =
     let p = c .before in
-    (rw (size-refused _ _ _ _ _ _ (sym (p .before .before .opened .ensures) ∙ p .p .given .1)), refl)
+    (rw (size-refused _ _ _ _ _ (sym (p .before .before .opened .ensures) ∙ p .p .given .1)), refl)
 
 pub table-spec : {M : Type 1} → statement M
 table-spec =

@@ -13,7 +13,7 @@ add-page-requires c κs =
     let k = c .before .before in
     let o = k .before .before in
     let a = o .before .before .before .args in
-    omega (arith, opened-most (a .l) (a .k) (length (a .dump .now)) _ (sym (o .opened .ensures) ∙ k .o2 .given .1))
+    omega (arith, opened-most (a .g) (length (a .dump .now)) _ (sym (o .opened .ensures) ∙ k .o2 .given .1))
 
 returns : tie.Need-returns
 unfolding addOf addIn

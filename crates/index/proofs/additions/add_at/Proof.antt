@@ -1,7 +1,7 @@
 -- The test and the two stores are those of the definition.
 use mathlib.Core.Path.{sym, _∙_}
 use borrow.Author.Needs.{needs}
-use Rattle.index.proofs.Answers.{at-marked, at-new}
+use Rattle.index.proofs.Held.Cases.{at-marked, at-new}
 use Rattle.index.proofs.additions.add_at.Statement.{statement}
 use Rattle.index.proofs.additions.add_at.Tie as tie
 

@@ -1,7 +1,7 @@
 -- The test is that of the definition, and so is the store.
 use mathlib.Core.Path.{sym, _∙_}
 use borrow.Author.Needs.{needs}
-use Rattle.index.proofs.Answers.{other-marked, other-new}
+use Rattle.index.proofs.Held.Cases.{other-marked, other-new}
 use Rattle.index.proofs.additions.add_other.Statement.{statement}
 use Rattle.index.proofs.additions.add_other.Tie as tie
 

@@ -5,16 +5,16 @@ use mathlib.Core.Path.{_≡_, sym, ap, _∙_}
 use native.Mathlib.Omega.{arith}
 use lib.ListN.{length}
 use borrow.Author.Needs.{needs}
-use Rattle.page.specs.Kinds.{kindAt}
-use Rattle.page.specs.declared.kind.Kind.the-variants.{Header, Data}
+use Rattle.page.specs.Records.{recordAt}
+use Rattle.page.specs.declared.record.Record.the-variants.{Header, Data}
 use Rattle.page.proofs.Sound.{else-header, else-data}
 use Rattle.page.proofs.Within.{header-within, data-within}
 use Rattle.chunk.specs.Records.{objectOf, ageOf}
 use Rattle.index.specs.Cells.{cellsFor}
 use Rattle.index.specs.Chains.{objects}
 use Rattle.index.specs.Places.{Recorded}
-use Rattle.index.proofs.Answers.{add-short, add-far, add-other, add-record}
-use Rattle.index.proofs.Walking.{other-none}
+use Rattle.index.proofs.Held.Cases.{add-short, add-far, add-other, add-record}
+use Rattle.index.proofs.Walk.Walks.{other-none}
 use Rattle.index.proofs.additions.add_page.Statement.{statement}
 use Rattle.index.proofs.additions.add_page.Tie as tie
 
@@ -34,12 +34,12 @@ returns-3 c =
     let k = h .before in
     let t = k .before in
     let s = t .before .before in
-    let none = other-none (k .kind-at .result) (else-header (k .kind-at .result) (h .match .keys2)) (else-data (k .kind-at .result) (o .match2 .keys2)) in
+    let none = other-none (k .record-at .result) (else-header (k .record-at .result) (h .match .keys2)) (else-data (k .record-at .result) (o .match2 .keys2)) in
     d .add-other .ensures
-    ∙ sym (add-other _ _ _ _ _ (rw (s .before .cells-for .ensures) at (s .if1 .left)) (t .if2 .left) (rw (k .kind-at .ensures) at none))
+    ∙ sym (add-other _ _ _ _ _ (rw (s .before .cells-for .ensures) at (s .if1 .left)) (t .if2 .left) (rw (k .record-at .ensures) at none))
 
--- a page of a kind is a record of that object and age
-module _ (k : tie.After-kind-at) where
+-- the page is a record of that object and age
+module _ (k : tie.After-record-at) where
   abbrev t : tie.Else2
   t = k .before
 
@@ -55,9 +55,9 @@ module _ (k : tie.After-kind-at) where
   recorded :
       (o age : ℕ) →
       0 < o →
-      o ≡ objects (kindAt (a .args .l) (a .args .dump .now)) (a .args .p .0) →
-      age ≡ ageOf (kindAt (a .args .l) (a .args .dump .now)) (a .args .p .0) →
-      Recorded (kindAt (a .args .l) (a .args .dump .now)) (a .args .pages) (a .args .cells .now) o (a .args .p .0) age
+      o ≡ objects (recordAt (a .args .g) (a .args .dump .now)) (a .args .p .0) →
+      age ≡ ageOf (recordAt (a .args .g) (a .args .dump .now)) (a .args .p .0) →
+      Recorded (recordAt (a .args .g) (a .args .dump .now)) (a .args .pages) (a .args .cells .now) o (a .args .p .0) age
   recorded o age h e f = record {
     few = a .pre;
     inside = t .if2 .left;
@@ -67,31 +67,31 @@ module _ (k : tie.After-kind-at) where
     aged = f;
   }
 
-module _ (g : tie.After-k2) where
-  abbrev k₂ : tie.After-kind-at
+module _ (g : tie.After-r2) where
+  abbrev k₂ : tie.After-record-at
   k₂ = g .before .before .before
 
   abbrev data-page : tie.Start
   data-page = a k₂
 
-  is-data : kindAt (data-page .args .l) (data-page .args .dump .now) (data-page .args .p .0) ≡ Data (g .k2 .given .0 .0) (g .k2 .given .0 .1 .0) (g .k2 .given .0 .1 .1 .0) (g .k2 .given .0 .1 .1 .1 .0)
-  is-data = sym (k₂ .kind-at .ensures) ∙ g .k2 .given .1
+  is-data : recordAt (data-page .args .g) (data-page .args .dump .now) (data-page .args .p .0) ≡ Data (g .r2 .given .0 .0)
+  is-data = sym (k₂ .record-at .ensures) ∙ g .r2 .given .1
 
-  data-some : 0 < g .k2 .given .0 .1 .0 .0
-  data-some = data-within _ _ _ _ _ _ _ is-data .object .least
+  data-some : 0 < g .r2 .given .0 .0 .object .0
+  data-some = data-within _ _ _ _ is-data .object .least
 
-module _ (g : tie.After-k) where
-  abbrev k₁ : tie.After-kind-at
+module _ (g : tie.After-r) where
+  abbrev k₁ : tie.After-record-at
   k₁ = g .before .before
 
   abbrev header-page : tie.Start
   header-page = a k₁
 
-  is-header : kindAt (header-page .args .l) (header-page .args .dump .now) (header-page .args .p .0) ≡ Header (g .k .given .0 .0) (g .k .given .0 .1 .0) (g .k .given .0 .1 .1 .0) (g .k .given .0 .1 .1 .1 .0) (g .k .given .0 .1 .1 .1 .1 .0) (g .k .given .0 .1 .1 .1 .1 .1 .0)
-  is-header = sym (k₁ .kind-at .ensures) ∙ g .k .given .1
+  is-header : recordAt (header-page .args .g) (header-page .args .dump .now) (header-page .args .p .0) ≡ Header (g .r .given .0 .0)
+  is-header = sym (k₁ .record-at .ensures) ∙ g .r .given .1
 
-  header-some : 0 < g .k .given .0 .1 .0 .0
-  header-some = header-within _ _ _ _ _ _ _ _ _ is-header .object .least
+  header-some : 0 < g .r .given .0 .0 .object .0
+  header-some = header-within _ _ _ _ is-header .object .least
 
 add-record-requires : tie.Need-add-record-requires
 add-record-requires c κs =

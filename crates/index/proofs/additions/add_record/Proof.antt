@@ -3,7 +3,7 @@ use mathlib.Core.Path.{sym, _∙_}
 use native.Mathlib.Omega.{arith}
 use borrow.Author.Needs.{needs}
 use Rattle.index.specs.declared.places.Place.the-variants.{At, Refused}
-use Rattle.index.proofs.Answers.{at-refused, record-at}
+use Rattle.index.proofs.Held.Cases.{at-refused, record-at}
 use Rattle.index.proofs.additions.add_record.Statement.{statement}
 use Rattle.index.proofs.additions.add_record.Tie as tie
 

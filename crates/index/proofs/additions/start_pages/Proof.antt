@@ -4,7 +4,7 @@ use mathlib.Core.Path.{_≡_, sym}
 use native.Mathlib.Omega.{arith}
 use lib.ListN.{length}
 use borrow.Author.Needs.{needs}
-use Rattle.index.proofs.Answers.{start-short, start-done}
+use Rattle.index.proofs.Held.Cases.{start-short, start-done}
 use Rattle.index.proofs.additions.start_pages.Statement.{statement}
 use Rattle.index.proofs.additions.start_pages.Tie as tie
 

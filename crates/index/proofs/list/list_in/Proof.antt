@@ -5,10 +5,10 @@ use lib.ListN.{length}
 use native.Mathlib.Omega.{arith}
 use borrow.Author.Needs.{needs}
 use borrow.Author.Tests.{lt-ltb, le-ltb}
-use Rattle.page.specs.Kinds.{kindAt}
+use Rattle.page.specs.Records.{recordAt}
 use Rattle.chunk.proofs.Cases.{words-kept, words-listed}
 use Rattle.index.specs.Cells.{cellsFor}
-use Rattle.index.proofs.Listing.{Counted, list-short, list-refused, list-counted}
+use Rattle.index.proofs.Answer.Listings.{Counted, list-short, list-refused, list-counted}
 use Rattle.index.proofs.list.list_in.Statement.{statement}
 use Rattle.index.proofs.list.list_in.Tie as tie
 
@@ -23,7 +23,7 @@ enough c = omega (arith, c .if1 .left, c .before .cells-for .ensures)
 counted :
     (c : tie.After-known-told2) →
     let a = c .before .before .before .before .before .before .before .before .before .args in
-    Counted (kindAt (a .l) (a .dump .now)) (a .l .«data») (a .cells .now) (a .pages) (length (a .words .now)) (c .before .tally2 .given .0 .0)
+    Counted (recordAt (a .g) (a .dump .now)) (a .g .layout .«data») (a .cells .now) (a .pages) (length (a .words .now)) (c .before .tally2 .given .0 .0)
 counted c =
     let t = c .before .before .before in
     list-counted _ _ _ _ (enough (t .before)) _ _ (sym (t .tally-in .ensures) ∙ c .before .tally2 .given .1)

@@ -2,7 +2,7 @@
 use mathlib.Core.Path.{sym, _∙_}
 use native.Mathlib.Omega.{arith}
 use borrow.Author.Needs.{needs}
-use Rattle.index.proofs.Listing.{objects-short, objects-tally}
+use Rattle.index.proofs.Answer.Listings.{objects-short, objects-tally}
 use Rattle.index.proofs.list.objects_in.Statement.{statement}
 use Rattle.index.proofs.list.objects_in.Tie as tie
 

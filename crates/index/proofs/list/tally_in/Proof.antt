@@ -4,23 +4,23 @@ use mathlib.Core.Path.{_≡_, sym, ap, _∙_}
 use native.Mathlib.Omega.{arith}
 use borrow.Author.Needs.{needs}
 use Rattle.page.specs.Search.{count}
-use Rattle.page.specs.Kinds.{kindAt}
+use Rattle.page.specs.Records.{recordAt}
 use Rattle.page.proofs.Searching.{count-none}
 use Rattle.chunk.proofs.Living.{count-skip, count-take}
 use Rattle.index.specs.Listing.{isAsked, isDamaged, askedSlot, damagedSlot}
-use Rattle.index.proofs.Listing.{at-free, tally-damaged, tally-whole}
+use Rattle.index.proofs.Answer.Listings.{at-free, tally-damaged, tally-whole}
 use Rattle.index.proofs.list.tally_in.Statement.{statement}
 use Rattle.index.proofs.list.tally_in.Tie as tie
 
 abbrev Inv-loop : tie.InvT-loop
-Inv-loop dump l ask pages cells count₀ s₀ count₁ s =
+Inv-loop dump g ask pages cells count₀ s₀ count₁ s =
     (s ≤ pages)
     × (count₁ ≤ s)
-    × (count (damagedSlot ask (kindAt l dump) (l .«data») cells pages) s ≡ 0)
-    × (count₁ ≡ count (askedSlot ask (kindAt l dump) (l .«data») cells pages) s)
+    × (count (damagedSlot ask (recordAt g dump) (g .layout .«data») cells pages) s ≡ 0)
+    × (count₁ ≡ count (askedSlot ask (recordAt g dump) (g .layout .«data») cells pages) s)
 
 abbrev μ-loop : tie.MeasureT-loop
-μ-loop dump l ask pages cells count₀ s₀ count₁ s = pages - s
+μ-loop dump g ask pages cells count₀ s₀ count₁ s = pages - s
 
 loop-holds : tie.Need-loop-holds Inv-loop μ-loop
 loop-holds c = (search needs, search needs, count-none _, rw count-none)

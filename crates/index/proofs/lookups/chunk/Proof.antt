@@ -9,7 +9,7 @@ use Rattle.index.proofs.lookups.chunk.Tie as tie
 chunk-in-requires : tie.Need-chunk-in-requires
 chunk-in-requires c κs =
     let p = c .before in
-    opened-some _ _ _ _ (sym (p .before .before .opened-of .ensures) ∙ p .p2 .given .1)
+    opened-some _ _ _ (sym (p .before .before .opened-of .ensures) ∙ p .p2 .given .1)
 
 returns : tie.Need-returns
 unfolding chunkFrom

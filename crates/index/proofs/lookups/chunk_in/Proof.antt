@@ -6,7 +6,7 @@ use borrow.Author.Tests.{lt-ltb, le-ltb}
 use Rattle.page.proofs.Within.{object-within}
 use Rattle.index.specs.Chains.{chain}
 use Rattle.index.specs.Walks.{chunkIn}
-use Rattle.index.proofs.Probing.{first-link}
+use Rattle.index.proofs.Slot.Search.{first-link}
 use Rattle.index.proofs.lookups.chunk_in.Statement.{statement}
 use Rattle.index.proofs.lookups.chunk_in.Tie as tie
 
@@ -34,12 +34,6 @@ returns-3 c =
       c .if3 .taken,
     )
 
-chunk-walk-requires : tie.Need-chunk-walk-requires
-chunk-walk-requires c κs =
-    let d = c .before .before .before in
-    let w = object-within _ (rw (d .before .is-bad .ensures) at (d .if2 .left)) in
-    (w .least, omega (arith, d .before .before .if1 .left, d .before .before .before .cells-for .ensures))
-
 returns-4 : tie.Need-returns-4
 unfolding chunkIn chain
 returns-4 c =
@@ -59,4 +53,4 @@ returns-4 c =
     (c .chunk-walk .ensures)
 
 pub chunk-in-spec : {M : Type 1} → statement M
-chunk-in-spec = tie.close (tie.spec (search needs) returns (search needs) returns-2 (search needs) returns-3 (search needs) chunk-walk-requires returns-4)
+chunk-in-spec = tie.close (tie.spec (search needs) returns (search needs) returns-2 (search needs) returns-3 (search needs) (search needs) returns-4)

@@ -13,7 +13,7 @@ unfolding copyFrom
 returns-2 c =
     let n = c .before .before in
     let k = n .before in
-    rw (k .before .before .met .given .1, c .valid-of .ensures, n .count-of .ensures, k .kind-at .ensures, c .before .base-of .ensures .0)
+    rw (k .before .before .met .given .1, c .valid-of .ensures, n .count-of .ensures, k .record-at .ensures)
 
 pub copy-from-spec : {M : Type 1} → statement M
 copy-from-spec = tie.close (tie.spec (search needs) (search needs) (search needs) (search needs) (search needs) (search needs) (search needs) returns returns-2)

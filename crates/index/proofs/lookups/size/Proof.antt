@@ -9,7 +9,7 @@ use Rattle.index.proofs.lookups.size.Tie as tie
 size-in-requires : tie.Need-size-in-requires
 size-in-requires c κs =
     let p = c .before in
-    opened-some _ _ _ _ (sym (p .before .before .opened-of .ensures) ∙ p .p2 .given .1)
+    opened-some _ _ _ (sym (p .before .before .opened-of .ensures) ∙ p .p2 .given .1)
 
 returns : tie.Need-returns
 unfolding sizeFrom

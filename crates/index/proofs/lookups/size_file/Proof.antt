@@ -6,14 +6,14 @@ use Rattle.index.proofs.lookups.size_file.Tie as tie
 returns : tie.Need-returns
 returns c =
     let a = c .before .before .before in
-    rw (← a .before .kind-at .ensures, ← a .file-at .ensures, c .before .f .given .1)
+    rw (← a .before .record-at .ensures, ← a .file-at .ensures, c .before .f .given .1)
 
 returns-2 : tie.Need-returns-2
 returns-2 c =
     let f = c .before .before .before in
     let a = f .before .before in
     rw (
-      ← a .before .kind-at .ensures,
+      ← a .before .record-at .ensures,
       ← a .file-at .ensures,
       f .f2 .given .1,
       c .larger .ensures,

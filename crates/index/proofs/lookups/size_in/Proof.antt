@@ -6,7 +6,7 @@ use borrow.Author.Tests.{lt-ltb, le-ltb}
 use Rattle.page.proofs.Within.{object-within}
 use Rattle.index.specs.Chains.{chain}
 use Rattle.index.specs.Walks.{sizeIn}
-use Rattle.index.proofs.Probing.{first-link}
+use Rattle.index.proofs.Slot.Search.{first-link}
 use Rattle.index.proofs.lookups.size_in.Statement.{statement}
 use Rattle.index.proofs.lookups.size_in.Tie as tie
 
@@ -19,12 +19,6 @@ unfolding sizeIn
 returns-2 c =
     let b = c .before .before in
     rw (← b .before .cells-for .ensures, le-ltb _ _ (b .if1 .left), ← c .before .is-bad .ensures, c .if2 .taken)
-
-size-walk-requires : tie.Need-size-walk-requires
-size-walk-requires c κs =
-    let d = c .before in
-    let w = object-within _ (rw (d .before .is-bad .ensures) at (d .if2 .left)) in
-    (w .least, omega (arith, d .before .before .if1 .left, d .before .before .before .cells-for .ensures))
 
 returns-3 : tie.Need-returns-3
 unfolding sizeIn chain
@@ -43,4 +37,4 @@ returns-3 c =
     (c .size-walk .ensures)
 
 pub size-in-spec : {M : Type 1} → statement M
-size-in-spec = tie.close (tie.spec (search needs) returns (search needs) returns-2 (search needs) size-walk-requires returns-3)
+size-in-spec = tie.close (tie.spec (search needs) returns (search needs) returns-2 (search needs) (search needs) returns-3)

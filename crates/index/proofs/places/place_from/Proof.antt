@@ -6,32 +6,32 @@ use mathlib.Core.Path.{_≡_, refl, sym, _∙_}
 use native.Mathlib.Omega.{arith}
 use lib.ListN.{length}
 use borrow.Author.Needs.{needs}
-use Rattle.page.specs.Kinds.{kindAt}
+use Rattle.page.specs.Records.{recordAt}
 use Rattle.index.specs.Cells.{word}
 use Rattle.index.specs.Chains.{objects, trace}
 use Rattle.index.specs.Places.{placeOf, placeFrom}
 use Rattle.index.specs.declared.chains.Step.the-variants.{End, Damaged, Record}
 use Rattle.chunk.specs.Records.{ageOf}
-use Rattle.index.proofs.Links.{stepped}
-use Rattle.index.proofs.Placing.{place-end, place-broken, place-itself, place-here, place-on}
+use Rattle.index.proofs.Chain.Links.{stepped}
+use Rattle.index.proofs.Chain.Place.{place-end, place-broken, place-itself, place-here, place-on}
 use Rattle.index.proofs.places.place_from.Statement.{statement}
 use Rattle.index.proofs.places.place_from.Tie as tie
 
 abbrev Inv-loop : tie.InvT-loop
-Inv-loop dump l pages cells o p age from at₀ bound₀ at bound =
+Inv-loop dump g pages cells o p age from at₀ bound₀ at bound =
     (at < length cells)
-    × (placeFrom (kindAt l dump) pages cells (o .0) (p .0) (word cells from) from
-    ≡ placeOf (ageOf (kindAt l dump)) (p .0) (trace pages (objects (kindAt l dump)) (ageOf (kindAt l dump)) cells (o .0) bound (word cells at)) at)
+    × (placeFrom (recordAt g dump) pages cells (o .0) (p .0) (word cells from) from
+    ≡ placeOf (ageOf (recordAt g dump)) (p .0) (trace pages (objects (recordAt g dump)) (ageOf (recordAt g dump)) cells (o .0) bound (word cells at)) at)
 
 abbrev μ-loop : tie.MeasureT-loop
-μ-loop dump l pages cells o p age from at₀ bound₀ at bound = bound
+μ-loop dump g pages cells o p age from at₀ bound₀ at bound = bound
 
 returns : tie.Need-returns Inv-loop μ-loop
 returns c =
     let f = c .before .before in
     let q = f .before .before .loop in
     let k = stepped _ _ _ _ _ _ End (sym (c .enum-told .given .1) ∙ f .follow .ensures) in
-    (sym (q .inv .1 ∙ place-end _ _ _ _ (k .0)), q .inv .0)
+    (sym (q .inv .1 ∙ place-end _ _ _ _ k), q .inv .0)
 
 returns-2 : tie.Need-returns-2 Inv-loop μ-loop
 returns-2 c =
@@ -47,8 +47,8 @@ returns-3 c =
     let f = l .before .before in
     let q = f .before .before .loop in
     let s = f .before .before .before .before .before in
-    let k = (stepped _ _ _ _ _ _ (Record _ _ _ _) (sym (l .step .given .1) ∙ f .follow .ensures)) .0 in
-    (sym (q .inv .1 ∙ place-itself _ _ _ _ _ _ (k .2) (omega (arith, k .0, t .if1 .taken, s .pre .0 .aged)) (c .if2 .taken)), tt)
+    let k = stepped _ _ _ _ _ _ (Record _ _ _) (sym (l .step .given .1) ∙ f .follow .ensures) in
+    (sym (q .inv .1 ∙ place-itself _ _ _ _ _ _ (k .onward _ refl) (omega (arith, k .aged, t .if1 .taken, s .pre .0 .aged)) (c .if2 .taken)), tt)
 
 returns-4 : tie.Need-returns-4 Inv-loop μ-loop
 returns-4 c =
@@ -57,15 +57,15 @@ returns-4 c =
     let f = l .before .before in
     let q = f .before .before .loop in
     let s = f .before .before .before .before .before in
-    let k = (stepped _ _ _ _ _ _ (Record _ _ _ _) (sym (l .step .given .1) ∙ f .follow .ensures)) .0 in
-    (sym (q .inv .1 ∙ place-here _ _ _ _ _ _ (k .2) (omega (arith, k .0, t .if1 .taken, s .pre .0 .aged)) (c .if2 .left)), q .inv .0)
+    let k = stepped _ _ _ _ _ _ (Record _ _ _) (sym (l .step .given .1) ∙ f .follow .ensures) in
+    (sym (q .inv .1 ∙ place-here _ _ _ _ _ _ (k .onward _ refl) (omega (arith, k .aged, t .if1 .taken, s .pre .0 .aged)) (c .if2 .left)), q .inv .0)
 
 loop-less : tie.Need-loop-less Inv-loop μ-loop
 loop-less c =
     let l = c .before .before .before in
     let f = l .before .before in
-    let k = (stepped _ _ _ [] _ _ (Record _ _ _ _) (sym (l .step .given .1) ∙ f .follow .ensures)) .0 in
-    omega (arith, k .0, k .1 .older)
+    let k = stepped _ _ _ [] _ _ (Record _ _ _) (sym (l .step .given .1) ∙ f .follow .ensures) in
+    k .older
 
 loop-again : tie.Need-loop-again Inv-loop μ-loop
 loop-again c =
@@ -74,9 +74,9 @@ loop-again c =
     let f = l .before .before in
     let q = f .before .before .loop in
     let s = f .before .before .before .before .before in
-    let k = (stepped _ _ _ _ _ _ (Record _ _ _ _) (sym (l .step .given .1) ∙ f .follow .ensures)) .0 in (
-      omega (arith, k .1 .inside, c .link-at .ensures, s .pre .0 .room),
-      q .inv .1 ∙ place-on _ _ _ _ _ _ (k .2) (omega (arith, k .0, t .if1 .left, s .pre .0 .aged)) ∙ rw (k .0, c .link-at .ensures) refl,
+    let k = stepped _ _ _ _ _ _ (Record _ _ _) (sym (l .step .given .1) ∙ f .follow .ensures) in (
+      omega (arith, k .leads .inside, c .link-at .ensures, s .pre .0 .room),
+      q .inv .1 ∙ place-on _ _ _ _ _ _ (k .onward _ refl) (omega (arith, k .aged, t .if1 .left, s .pre .0 .aged)) ∙ rw (c .link-at .ensures) refl,
     )
 
 pub place-from-spec : {M : Type 1} → statement M

@@ -2,9 +2,9 @@
 use mathlib.Core.Path.{sym}
 use native.Mathlib.Omega.{arith}
 use borrow.Author.Needs.{needs}
-use Rattle.index.proofs.Links.{trace-end}
-use Rattle.index.proofs.Probing.{first-in-own, first-in-none}
-use Rattle.index.proofs.Placing.{place-end}
+use Rattle.index.proofs.Chain.Links.{trace-end}
+use Rattle.index.proofs.Slot.Search.{first-in-own, first-in-none}
+use Rattle.index.proofs.Chain.Place.{place-end}
 use Rattle.index.proofs.places.place_of.Statement.{statement}
 use Rattle.index.proofs.places.place_of.Tie as tie
 

@@ -5,7 +5,7 @@ use lib.ListN.{length}
 use borrow.Author.Needs.{needs}
 use Rattle.page.proofs.Lengths.{opened-most}
 use Rattle.index.specs.Runs.{runOf, runIn}
-use Rattle.index.proofs.Running.{run-short, run-room}
+use Rattle.index.proofs.Demand.Runs.{run-short, run-room}
 use Rattle.index.proofs.runs.add_run.Statement.{statement}
 use Rattle.index.proofs.runs.add_run.Tie as tie
 
@@ -21,7 +21,7 @@ run-pages-requires c κs =
     let k = c .before .before .before .before in
     let o = k .before .before in
     let a = o .before .before .before .args in
-    omega (arith, opened-most (a .l) (a .k) (length (a .dump .now)) _ (sym (o .opened .ensures) ∙ k .o2 .given .1))
+    omega (arith, opened-most (a .g) (length (a .dump .now)) _ (sym (o .opened .ensures) ∙ k .o2 .given .1))
 
 returns-2 : tie.Need-returns-2
 unfolding runOf runIn

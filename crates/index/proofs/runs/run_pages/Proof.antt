@@ -4,22 +4,22 @@ use mathlib.Core.Path.{_≡_, refl, sym, _∙_}
 use native.Mathlib.Omega.{arith}
 use lib.ListN.{length}
 use borrow.Author.Needs.{needs}
-use Rattle.page.specs.Kinds.{kindAt}
+use Rattle.page.specs.Records.{recordAt}
 use Rattle.chunk.specs.Records.{ageOf}
 use Rattle.index.specs.Chains.{objects}
 use Rattle.index.specs.Runs.{runBy}
-use Rattle.index.proofs.Running.{run-none, run-more, run-stop}
+use Rattle.index.proofs.Demand.Runs.{run-none, run-more, run-stop}
 use Rattle.index.proofs.runs.run_pages.Statement.{statement}
 use Rattle.index.proofs.runs.run_pages.Tie as tie
 
 abbrev Inv-loop : tie.InvT-loop
-Inv-loop dump l pages cells₀ end p₀ cells p =
+Inv-loop dump g pages cells₀ end p₀ cells p =
     (length cells ≡ length cells₀)
-    × (runBy pages (objects (kindAt l dump)) (ageOf (kindAt l dump)) (end - p₀) p₀ cells₀
-    ≡ runBy pages (objects (kindAt l dump)) (ageOf (kindAt l dump)) (end - p) p cells)
+    × (runBy pages (objects (recordAt g dump)) (ageOf (recordAt g dump)) (end - p₀) p₀ cells₀
+    ≡ runBy pages (objects (recordAt g dump)) (ageOf (recordAt g dump)) (end - p) p cells)
 
 abbrev μ-loop : tie.MeasureT-loop
-μ-loop dump l pages cells₀ end p₀ cells p = end - p
+μ-loop dump g pages cells₀ end p₀ cells p = end - p
 
 returns : tie.Need-returns Inv-loop μ-loop
 returns c =

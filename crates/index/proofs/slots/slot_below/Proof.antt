@@ -4,7 +4,7 @@ use mathlib.Core.Path.{_≡_, refl, sym, _∙_}
 use native.Mathlib.Omega.{arith}
 use Rattle.index.specs.Cells.{keys}
 use Rattle.index.specs.Slots.{down}
-use Rattle.index.proofs.Probing.{down-none, down-free, down-own, down-on}
+use Rattle.index.proofs.Slot.Search.{down-none, down-free, down-own, down-on}
 use Rattle.index.proofs.slots.slot_below.Statement.{statement}
 use Rattle.index.proofs.slots.slot_below.Tie as tie
 

@@ -3,7 +3,7 @@ use mathlib.Core.Path.{sym, _∙_}
 use native.Mathlib.Nat.{mod-lt}
 use native.Mathlib.Omega.{arith}
 use borrow.Author.Needs.{needs}
-use Rattle.index.proofs.Probing.{slot-near, slot-far}
+use Rattle.index.proofs.Slot.Search.{slot-near, slot-far}
 use Rattle.index.proofs.slots.slot_of.Statement.{statement}
 use Rattle.index.proofs.slots.slot_of.Tie as tie
 

@@ -15,7 +15,7 @@ count-pages-requires : tie.Need-count-pages-requires
 count-pages-requires c κs =
     let o = c .before in
     let a = o .before .before .before .before .args in
-    omega (arith, opened-most (a .l) (a .k) (length (a .dump .now)) (o .o2 .given .0 .0) (rw (← o .before .before .opened .ensures) (o .o2 .given .1)))
+    omega (arith, opened-most (a .g) (length (a .dump .now)) (o .o2 .given .0 .0) (rw (← o .before .before .opened .ensures) (o .o2 .given .1)))
 
 returns-2 : tie.Need-returns-2
 unfolding countedOf countedIn

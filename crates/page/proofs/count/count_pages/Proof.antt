@@ -10,22 +10,22 @@ use Rattle.page.proofs.count.count_pages.Statement.{statement}
 use Rattle.page.proofs.count.count_pages.Tie as tie
 
 abbrev Inv-loop : tie.InvT-loop
-Inv-loop dump l pages c₀ i₀ c i = (i ≤ pages) × (c ≡ countsBelow l dump i)
+Inv-loop dump g pages c₀ i₀ c i = (i ≤ pages) × (c ≡ countsBelow g dump i)
 
 abbrev μ-loop : tie.MeasureT-loop
-μ-loop dump l pages c₀ i₀ c i = pages - i
+μ-loop dump g pages c₀ i₀ c i = pages - i
 
 with-requires : tie.Need-with-requires Inv-loop μ-loop
 with-requires c κs =
     let a = c .before .before .before .before .args in
     let q = c .before .before .loop in
-    counts-at-most (a .l) (a .dump .now) (q .i) (2 ^ 31) (q .c) (q .inv .1) (omega arith)
+    counts-at-most (a .g) (a .dump .now) (q .i) (2 ^ 31) (q .c) (q .inv .1) (omega arith)
 
 loop-again : tie.Need-loop-again Inv-loop μ-loop
 loop-again c =
     let a = c .before .before .before .before .before .args in
     let q = c .before .before .before .loop in
-    (search needs, cc (counts-next (a .l) (a .dump .now) (q .i)))
+    (search needs, cc (counts-next (a .g) (a .dump .now) (q .i)))
 
 returns : tie.Need-returns Inv-loop μ-loop
 returns c =

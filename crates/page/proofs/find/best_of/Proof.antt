@@ -17,11 +17,11 @@ use Rattle.page.proofs.find.best_of.Statement.{statement}
 use Rattle.page.proofs.find.best_of.Tie as tie
 
 abbrev Inv-blocks2 : tie.InvT-blocks2
-Inv-blocks2 dump k first best found turn₀ n l pages need score₀ marked₀ next₀ turn score marked next =
-    (turn ≡ turn₀) × Underway dump k n l pages next score marked
+Inv-blocks2 dump k first best found turn₀ n g pages need score₀ marked₀ next₀ turn score marked next =
+    (turn ≡ turn₀) × Underway dump k n g pages next score marked
 
 abbrev μ-blocks2 : tie.MeasureT-blocks2
-μ-blocks2 dump k first best found turn₀ n l pages need score₀ marked₀ next₀ turn score marked next = pages - next
+μ-blocks2 dump k first best found turn₀ n g pages need score₀ marked₀ next₀ turn score marked next = pages - next
 
 abbrev Inv-candidates : tie.InvT-candidates
 Inv-candidates dump k first best₀ found₀ turn₀ best found turn =
@@ -59,8 +59,8 @@ blocks2-holds c =
     let s = r .before .before .before .before .before .before in
     let size = roomy-facts (r .row .result) (room r) in (
       search needs,
-      under-none (s .args .dump .now) (s .args .k) (r .before .in-turn .result) (r .row .result) (p .pages-under .result)
-          (r .row .ensures) (p .pages-under .ensures) (block-some (s .args .k) (s .pre .0)) (omega arith) (s .pre .1),
+      under-none (s .args .dump .now) (s .args .k) (r .before .in-turn .result) (record { layout = r .row .result; block = s .args .k }) (p .pages-under .result)
+          (rw (r .row .ensures)) (p .pages-under .ensures) (block-some (s .args .k) (s .pre .0)) (omega arith) (s .pre .1),
     )
 
 sub-is-lost : tie.Need-sub-is-lost Inv-blocks2 μ-blocks2 Inv-candidates μ-candidates
@@ -110,7 +110,7 @@ on :
     let b = c .before .before .before .before in
     let r = b .before .before .before in
     let a = r .before .before .before .before .before .before .args in
-    Underway (a .dump .now) (a .k) (r .before .in-turn .result) (r .row .result) (b .before .before .pages-under .result) (b .blocks2 .next + a .k) (b .blocks2 .score + c .gain-in .result .score) (b .blocks2 .marked + c .gain-in .result .marked)
+    Underway (a .dump .now) (a .k) (r .before .in-turn .result) (record { layout = r .row .result; block = a .k }) (b .before .before .pages-under .result) (b .blocks2 .next + a .k) (b .blocks2 .score + c .gain-in .result .score) (b .blocks2 .marked + c .gain-in .result .marked)
 on c = under-on (c .before .before .before .before .blocks2 .inv .1) (c .gain-in .result) (more (c .before)) (c .gain-in .ensures)
 
 add-next : tie.Need-add-next Inv-blocks2 μ-blocks2 Inv-candidates μ-candidates

@@ -6,6 +6,7 @@ use lib.ListN.{length}
 use borrow.Author.Needs.{needs}
 use Rattle.page.specs.Tags.{claimAt}
 use Rattle.page.specs.Find.{isScored}
+use Rattle.page.specs.declared.geometry.Geometry.{Geometry}
 use Rattle.page.proofs.Layouts.{row-roomy}
 use Rattle.page.proofs.Lengths.{block-some, block-most}
 use Rattle.page.proofs.Leaving.{pages-few, count-by}
@@ -13,10 +14,10 @@ use Rattle.page.proofs.find.glance.Statement.{statement}
 use Rattle.page.proofs.find.glance.Tie as tie
 
 abbrev Inv-loop : tie.InvT-loop
-Inv-loop dump k n l pages stride score₀ i₀ score i = (i ≤ 8) × (score ≤ i * 256)
+Inv-loop dump k n g pages stride score₀ i₀ score i = (i ≤ 8) × (score ≤ i * 256)
 
 abbrev μ-loop : tie.MeasureT-loop
-μ-loop dump k n l pages stride score₀ i₀ score i = 8 - i
+μ-loop dump k n g pages stride score₀ i₀ score i = 8 - i
 
 -- the strides do not go past the pages
 strides : (pages k i : ℕ) → i ≤ 8 → pages / 8 / k * k * i ≤ pages
@@ -27,11 +28,15 @@ pages-under-requires c κs =
     let s = c .before .before in
     (rw (c .row .ensures) (row-roomy (s .args .n) (s .pre .0)), s .pre .1)
 
--- the pages are few
+-- the candidate
+abbrev asked : tie.After-pages-under Inv-loop μ-loop → Geometry
+asked c = record { layout = c .before .row .result; block = c .before .before .before .args .k }
+
+-- its pages are few
 few : (c : tie.After-pages-under Inv-loop μ-loop) → c .pages-under .result < 2 ^ 31
 few c =
     let s = c .before .before .before in
-    rw (c .pages-under .ensures) (pages-few (c .before .row .result) (s .args .k) (length (s .args .dump .now)) (s .pre .1 .1))
+    rw (c .pages-under .ensures) (pages-few (asked c) (length (s .args .dump .now)) (s .pre .1 .1))
 
 div-stride : tie.Need-div-stride Inv-loop μ-loop
 div-stride c = let s = c .before .before .before .before in block-some (s .args .k) (s .pre .1 .0)
@@ -58,7 +63,7 @@ gains c =
     let p = c .before .before .before .before in
     let s = p .before .before .before in
     let block = p .pages-under .result / 8 / s .args .k * s .args .k * c .before .before .loop .i in
-    omega (arith, c .gain-in .ensures .scored, count-by (isScored (claimAt (p .before .row .result) (s .args .dump .now)) (s .args .k)) block (s .args .k), block-most (s .args .k) (s .pre .1 .0))
+    omega (arith, c .gain-in .ensures .scored, count-by (isScored (claimAt (asked p) (s .args .dump .now)) (s .args .k)) block (s .args .k), block-most (s .args .k) (s .pre .1 .0))
 
 add-score : tie.Need-add-score Inv-loop μ-loop
 add-score c = omega (arith, gains (c .before), c .before .before .before .loop .inv .1, c .before .before .loop-test .taken)

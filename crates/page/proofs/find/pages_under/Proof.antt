@@ -5,19 +5,19 @@ use borrow.Author.Needs.{needs}
 use borrow.Author.Tests.{not-true, not-false}
 use Rattle.page.specs.Leaving.{pagesUnder}
 use Rattle.page.proofs.Layouts.{roomy-facts}
-use Rattle.page.proofs.Lengths.{block-some, length-most}
+use Rattle.page.proofs.Lengths.{length-most}
 use Rattle.page.proofs.find.pages_under.Statement.{statement}
 use Rattle.page.proofs.find.pages_under.Tie as tie
 
 divides-requires : tie.Need-divides-requires
-divides-requires c κs = (c .pre .0, block-some (c .args .k) (c .pre .1 .0))
+divides-requires c κs = (c .pre .0, c .pre .1 .0)
 
 returns : tie.Need-returns
 unfolding pagesUnder
 returns c = rw (← c .before .divides .ensures, not-true (c .before .divides .result) (c .if1 .taken))
 
 div-result : tie.Need-div-result
-div-result c = let s = c .before .before .before in omega (arith, roomy-facts (s .args .l) (s .pre .0), c .page-len .ensures .0)
+div-result c = let s = c .before .before .before in omega (arith, roomy-facts (s .args .g .layout) (s .pre .0), c .page-len .ensures .0)
 
 cast-result : tie.Need-cast-result
 cast-result c = let s = c .before .before .before in omega (arith, length-most (s .args .len) (s .pre .1 .1), div-le-self (s .args .len) (c .page-len .result))

@@ -15,11 +15,11 @@ use Rattle.page.proofs.header.header.Tie as tie
 
 lies :
     (c : tie.After-enum-told) →
-    let a = c .before .before .before .before .args in pageIn (a .l) (length (a .dump .now)) (a .n .0) ≡ true
+    let a = c .before .before .before .before .args in pageIn (a .g) (length (a .dump .now)) (a .n .0) ≡ true
 lies c =
     let m = c .before .before in
     let a = m .before .before .args in
-    asked-in (a .l) (a .k) (a .dump .now) (a .n .0) (rw (← m .ask-header .ensures) (c .enum-told .given .1))
+    asked-in (a .g) (a .dump .now) (a .n .0) (rw (← m .ask-header .ensures) (c .enum-told .given .1))
 
 page-at-requires : tie.Need-page-at-requires
 page-at-requires c κs = lies c
@@ -28,8 +28,8 @@ of-page-requires : tie.Need-of-page-requires
 of-page-requires c κs =
     let a = c .before .before .before .before .before .args in
     let h = lies (c .before) in
-    let w = page-within (a .l) (length (a .dump .now)) (a .n .0) h in
-    omega (arith, roomy-facts (a .l) (w .room), ap length (c .page-at .ensures), page-length (a .l) (a .dump .now) (a .n .0) h)
+    let w = page-within (a .g) (length (a .dump .now)) (a .n .0) h in
+    omega (arith, roomy-facts (a .g .layout) (w .room), ap length (c .page-at .ensures), page-length (a .g) (a .dump .now) (a .n .0) h)
 
 returns : tie.Need-returns
 unfolding headedOf headedBy

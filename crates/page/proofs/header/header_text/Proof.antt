@@ -18,11 +18,11 @@ use Rattle.page.proofs.header.header_text.Tie as tie
 
 lies :
     (c : tie.After-enum-told2) →
-    let a = c .before .before .before .before .args in pageIn (a .l) (length (a .dump .now)) (a .n .0) ≡ true
+    let a = c .before .before .before .before .args in pageIn (a .g) (length (a .dump .now)) (a .n .0) ≡ true
 lies c =
     let m = c .before .before in
     let a = m .before .before .args in
-    asked-in (a .l) (a .k) (a .dump .now) (a .n .0) (rw (← m .ask-header .ensures) (c .enum-told2 .given .1))
+    asked-in (a .g) (a .dump .now) (a .n .0) (rw (← m .ask-header .ensures) (c .enum-told2 .given .1))
 
 -- the field ends within the page
 within : (c : tie.After-length) → c .before .place .result + c .length .result ≤ length (c .before .before .page-at .result .now)
@@ -30,15 +30,15 @@ within c =
     let p = c .before .before in
     let a = p .before .before .before .before .before .args in
     let h = lies (p .before) in
-    let w = page-within (a .l) (length (a .dump .now)) (a .n .0) h in
+    let w = page-within (a .g) (length (a .dump .now)) (a .n .0) h in
     omega (
       arith,
       text-fits (a .f),
       c .before .place .ensures,
       c .length .ensures,
-      roomy-facts (a .l) (w .room),
+      roomy-facts (a .g .layout) (w .room),
       ap length (p .page-at .ensures),
-      page-length (a .l) (a .dump .now) (a .n .0) h,
+      page-length (a .g) (a .dump .now) (a .n .0) h,
     )
 
 page-at-requires : tie.Need-page-at-requires

@@ -13,7 +13,7 @@ use Rattle.page.proofs.kind.kind_at.Tie as tie
 
 lies :
     (c : tie.Else1) →
-    pageIn (c .before .before .before .args .l) (length (c .before .before .before .args .dump .now)) (c .before .before .before .args .n .0) ≡ true
+    pageIn (c .before .before .before .args .g) (length (c .before .before .before .args .dump .now)) (c .before .before .before .args .n .0) ≡ true
 lies c = rw (← c .before .holds .ensures) (not-false (c .before .holds .result) (c .if1 .left))
 
 returns : tie.Need-returns
@@ -27,7 +27,7 @@ kind-on-requires : tie.Need-kind-on-requires
 kind-on-requires c κs =
     let s = c .before .before .before .before .args in
     let h = lies (c .before) in
-    (page-within (s .l) (length (s .dump .now)) (s .n .0) h .room, ap length (c .page-at .ensures) ∙ page-length (s .l) (s .dump .now) (s .n .0) h)
+    (page-within (s .g) (length (s .dump .now)) (s .n .0) h .room, ap length (c .page-at .ensures) ∙ page-length (s .g) (s .dump .now) (s .n .0) h)
 
 returns-2 : tie.Need-returns-2
 unfolding kindAt

@@ -11,7 +11,7 @@ use Rattle.page.proofs.tags.claim_at.Tie as tie
 
 lies :
     (c : tie.Else1) →
-    pageIn (c .before .before .before .args .l) (length (c .before .before .before .args .dump .now)) (c .before .before .before .args .n .0) ≡ true
+    pageIn (c .before .before .before .args .g) (length (c .before .before .before .args .dump .now)) (c .before .before .before .args .n .0) ≡ true
 lies c = rw (← c .before .holds .ensures) (not-false (c .before .holds .result) (c .if1 .left))
 
 returns : tie.Need-returns

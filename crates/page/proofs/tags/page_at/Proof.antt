@@ -12,7 +12,7 @@ use Rattle.page.proofs.tags.page_at.Tie as tie
 within : (c : tie.After-struct-known) → c .before .before .before .args .n .0 * c .before .page-len .result + c .before .page-len .result ≤ length (c .before .before .before .args .dump .now)
 within c =
     let s = c .before .before .before in
-    rw (c .before .page-len .ensures .0) (page-within (s .args .l) (length (s .args .dump .now)) (s .args .n .0) (s .pre) .ends)
+    rw (c .before .page-len .ensures .0) (page-within (s .args .g) (length (s .args .dump .now)) (s .args .n .0) (s .pre) .ends)
 
 mul-a : tie.Need-mul-a
 mul-a c = omega (arith, within c)

@@ -10,7 +10,7 @@ of-page-requires : tie.Need-of-page-requires
 of-page-requires c κs =
     let s = c .before .before in
     let a = s .args in
-    (page-within (a .l) (length (a .dump .now)) (a .n .0) (s .pre) .room, ap length (c .page-at .ensures) ∙ page-length (a .l) (a .dump .now) (a .n .0) (s .pre))
+    (page-within (a .g) (length (a .dump .now)) (a .n .0) (s .pre) .room, ap length (c .page-at .ensures) ∙ page-length (a .g) (a .dump .now) (a .n .0) (s .pre))
 
 returns : tie.Need-returns
 returns c = rw (← c .before .page-at .ensures) (c .of-page .ensures)

@@ -1,10 +1,10 @@
 //! What the second reader makes of the dumps that a YAFFS2 driver wrote.
 
 use crate::corpus::cases;
-use crate::digest::sha256;
 use crate::second::index::{Over, Reader, Refused};
 use crate::second::layout::Named;
 use crate::second::wrong::Wrong;
+use crate::sha256;
 
 /// The bytes of a whole file, read chunk by chunk.
 fn whole(reader: &Reader<'_>, over: Over, data: usize, object: u64) -> Result<Vec<u8>, Refused> {

@@ -2,6 +2,7 @@
 
 use crate::generator::build::Builder;
 use crate::generator::shelf::{data, shelf, without, BLOCK, LAYOUT, OBJECT};
+use crate::second::cells::need;
 use crate::second::index::{Lent, Over, Reader};
 use crate::second::layout::Named;
 use crate::second::report::{report, report_of_input};
@@ -86,7 +87,7 @@ fn cases_8_to_11() {
 #[test]
 fn cases_on_an_index() {
     let w = shelf();
-    let (layout, k, words) = (named(), BLOCK, 4 * 8 + 16);
+    let (layout, k, words) = (named(), BLOCK, need(8) as u64);
     let mut reader = Reader::lent(&w.bytes, words, Wrong::None);
     let lent = Lent { layout, k, words };
     let (over, object) = (Over::Index(lent), OBJECT);

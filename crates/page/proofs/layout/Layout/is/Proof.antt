@@ -1,5 +1,4 @@
 -- The tests come in the definition's order.
-use borrow.Author.Needs.{needs}
 use Rattle.page.proofs.Tests.{cases}
 use Rattle.page.specs.Layouts.{hasSizes}
 use Rattle.page.proofs.layout.Layout.is.Statement.{statement}
@@ -7,4 +6,4 @@ use Rattle.page.proofs.layout.Layout.is.Tie as tie
 
 pub is-spec : {M : Type 1} → statement M
 unfolding hasSizes
-is-spec = tie.close (tie.spec (search needs) (λ c. search cases) (search needs) (λ c. search cases) (search needs) (λ c. search cases))
+is-spec = tie.close (tie.spec (λ c. search cases) (λ c. search cases) (λ c. search cases))

@@ -1,0 +1,4 @@
+-- Held cells answer what the rules answer: walks, then lookups and listings.
+pub mod Walked
+pub mod Lookups
+pub mod Listings

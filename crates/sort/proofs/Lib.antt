@@ -1,0 +1,4 @@
+pub mod Arranging
+pub mod Ascending
+pub mod Splitting
+pub mod Packing

@@ -1,0 +1,115 @@
+//! A dump with its layout and K, and what a refusal means for whoever asked.
+
+use crate::arguments::{Block, On, Source};
+use crate::block::Fitting;
+use crate::dump::Dump;
+use crate::failure::Failure;
+use crate::ffi::{self, Answer as _, Geometry, LayoutAnswer};
+use crate::objects::Objects;
+use crate::progress::Progress;
+use crate::refusal::{meaning, Asked};
+use crate::standard::say;
+use crate::typed::Typed;
+
+/// A dump that its layout and K divide, each of which was named or found.
+pub struct Opened {
+    pub dump: Dump,
+    pub layout: LayoutAnswer,
+    pub block: Typed,
+    pub pages: u32,
+    named: Option<Typed>,
+}
+
+impl Opened {
+    pub fn on(on: &On) -> Result<Opened, Failure> {
+        Opened::open(&on.source, on.layout.as_ref(), &on.block)
+    }
+
+    /// Where K is not named, the layout is found with K = 1, and then K; what was
+    /// taken is said once nothing is refused.
+    pub fn open(source: &Source, named: Option<&Typed>, block: &Block) -> Result<Opened, Failure> {
+        let dump = Dump::open(&source.dump, source.copy).map_err(Failure::File)?;
+        let first = block.block.clone().unwrap_or_else(|| Typed::from(1));
+        let answer = match named {
+            Some(named) => ffi::layout(named.number),
+            None => found(&dump, first.number),
+        };
+        let layout = done(&dump, answer.given(), Asked::dump(&dump, named, &first))?;
+        let fitting = match block.block {
+            Some(_) => None,
+            None => Some(fitting(&dump, layout)),
+        };
+        let mut opened = Opened {
+            dump,
+            layout,
+            block: fitting.as_ref().map_or(first, |f| f.taken().into()),
+            pages: 0,
+            named: named.cloned(),
+        };
+        let pages = ffi::pages(&opened.dump, opened.geometry());
+        opened.pages = opened.given(pages, opened.asked())?.pages;
+        if let Some(fitting) = fitting {
+            say(&format!("lohenarr: {fitting}"));
+        }
+        Ok(opened)
+    }
+
+    /// The layout with K.
+    pub fn geometry(&self) -> Geometry {
+        Geometry {
+            layout: self.layout.number,
+            block: self.block.number,
+        }
+    }
+
+    /// The objects, and what is asked of this dump.
+    pub fn objects(&self) -> Result<(Objects<'_>, Asked<'_>), Failure> {
+        let asked = self.asked();
+        let progress = Progress::new("adding pages", Some(self.pages.into()));
+        let told = |pages: u32| progress.add(pages.into());
+        let objects = Objects::telling(&self.dump, self.geometry(), told);
+        Ok((self.done(objects, asked)?, asked))
+    }
+
+    /// What is asked of this dump.
+    pub fn asked(&self) -> Asked<'_> {
+        Asked {
+            layout: Some(self.layout),
+            ..Asked::dump(&self.dump, self.named.as_ref(), &self.block)
+        }
+    }
+
+    /// The library's answer, or the refusal with what it means here.
+    pub fn given<A: ffi::Answer>(&self, answer: A, asked: Asked<'_>) -> Result<A, Failure> {
+        self.done(answer.given(), asked)
+    }
+
+    /// What was done, or the refusal with what it means here.
+    pub fn done<T>(&self, answer: Result<T, u32>, asked: Asked<'_>) -> Result<T, Failure> {
+        done(&self.dump, answer, asked)
+    }
+
+    /// Fails where not all of the dump was there to be read.
+    pub fn check_length(&self) -> Result<(), Failure> {
+        self.dump.check_length().map_err(Failure::File)
+    }
+}
+
+/// The layout of a dump in blocks of so many pages.
+fn found(dump: &Dump, block: u32) -> LayoutAnswer {
+    let _progress = Progress::new("finding the layout", None);
+    ffi::find(dump, block)
+}
+
+/// Which K fit a dump under a layout.
+fn fitting(dump: &Dump, layout: LayoutAnswer) -> Fitting {
+    let _progress = Progress::new("finding K", None);
+    Fitting::of(layout.number, |on, need| ffi::score(dump, on, need))
+}
+
+/// What was done on a dump, if all of it was there, or the refusal with what it
+/// means here.
+fn done<T>(dump: &Dump, answer: Result<T, u32>, asked: Asked<'_>) -> Result<T, Failure> {
+    dump.check_length().map_err(Failure::File)?;
+    answer.map_err(|number| Failure::Refused(number, meaning(number, asked)))
+}

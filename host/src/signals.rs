@@ -1,0 +1,156 @@
+//! What signals do. A byte of a mapped dump that cannot be read is a sentence
+//! and status 2; a file that is not whole yet goes with the process; a closed
+//! pipe ends it quietly.
+//!
+//! Handlers do nothing but what POSIX allows them: they read atomics, write to
+//! standard error, remove a file and end.
+
+use std::ffi::{c_char, c_int, c_void, CString, OsStr};
+use std::os::unix::ffi::OsStrExt;
+use std::path::Path;
+use std::ptr;
+use std::sync::atomic::{AtomicPtr, Ordering::SeqCst};
+
+/// Sets what signals do, for the whole process.
+pub fn set() {
+    // Safety: the handlers are functions of the kind that is named.
+    unsafe {
+        libc::signal(libc::SIGPIPE, libc::SIG_DFL);
+        // a file that may not grow on is an error of writing
+        libc::signal(libc::SIGXFSZ, libc::SIG_IGN);
+        handle(libc::SIGBUS, on_bus as *const () as usize, libc::SA_SIGINFO);
+        for signal in [libc::SIGHUP, libc::SIGINT, libc::SIGTERM] {
+            if libc::signal(signal, libc::SIG_DFL) == libc::SIG_IGN {
+                libc::signal(signal, libc::SIG_IGN);
+            } else {
+                handle(signal, on_end as *const () as usize, 0);
+            }
+        }
+    }
+}
+
+unsafe fn handle(signal: c_int, handler: usize, flags: c_int) {
+    let mut action: libc::sigaction = std::mem::zeroed();
+    action.sa_sigaction = handler;
+    action.sa_flags = flags;
+    libc::sigaction(signal, &action, ptr::null_mut());
+}
+
+/// A mapped dump that a lost byte may belong to, and the begin of the sentence.
+struct Place {
+    start: usize,
+    length: usize,
+    sentence: Vec<u8>,
+}
+
+/// The dumps that are watched; no command has more at a time.
+static WATCHED: [AtomicPtr<Place>; 4] = [const { AtomicPtr::new(ptr::null_mut()) }; 4];
+
+/// A map is watched for as long as this is held.
+pub struct Watched(*mut Place);
+
+impl Watched {
+    pub fn new(name: &OsStr, map: &[u8]) -> Watched {
+        let place = Box::into_raw(Box::new(Place {
+            start: map.as_ptr() as usize,
+            length: map.len(),
+            sentence: [b"lohenarr: cannot read ", name.as_bytes(), b": byte "].concat(),
+        }));
+        put(ptr::null_mut(), place);
+        Watched(place)
+    }
+}
+
+impl Drop for Watched {
+    fn drop(&mut self) {
+        put(self.0, ptr::null_mut());
+        // Safety: `new` made it, and no handler finds it any more.
+        drop(unsafe { Box::from_raw(self.0) });
+    }
+}
+
+/// Puts a place where another one, or none, was first.
+fn put(before: *mut Place, after: *mut Place) {
+    let put = |slot: &AtomicPtr<Place>| slot.compare_exchange(before, after, SeqCst, SeqCst);
+    let _ = WATCHED.iter().any(|slot| put(slot).is_ok());
+}
+
+extern "C" fn on_bus(signal: c_int, info: *mut libc::siginfo_t, _: *mut c_void) {
+    // Safety: the system hands over what it knows of the signal.
+    let at = unsafe { (*info).si_addr() } as usize;
+    for slot in &WATCHED {
+        // Safety: a place that is watched is there.
+        let place = unsafe { slot.load(SeqCst).as_ref() };
+        let offset = place.map(|place| (place, at.wrapping_sub(place.start)));
+        if let Some((place, offset)) = offset.filter(|(place, offset)| *offset < place.length) {
+            say(&place.sentence);
+            say_number(offset);
+            say(b" is not there: the file was shortened meanwhile, or its medium fails\n");
+            remove_unfinished();
+            // Safety: ends the process at once.
+            unsafe { libc::_exit(2) };
+        }
+    }
+    // not a dump's: the access is tried again, and ends the process
+    // Safety: the signal's own default.
+    unsafe { libc::signal(signal, libc::SIG_DFL) };
+}
+
+fn say(bytes: &[u8]) {
+    // Safety: the bytes are lent for the call.
+    unsafe { libc::write(libc::STDERR_FILENO, bytes.as_ptr().cast(), bytes.len()) };
+}
+
+fn say_number(mut number: usize) {
+    let mut digits = [0; 20];
+    let mut first = digits.len();
+    loop {
+        first -= 1;
+        digits[first] = b'0' + (number % 10) as u8;
+        number /= 10;
+        if number == 0 {
+            return say(&digits[first..]);
+        }
+    }
+}
+
+/// The name of a file that goes with the process, unless it is kept.
+static UNFINISHED: AtomicPtr<c_char> = AtomicPtr::new(ptr::null_mut());
+
+/// While this is held, a signal that ends the process removes the file first.
+pub struct Unfinished(*mut c_char);
+
+impl Unfinished {
+    /// Of one file at a time; nothing where its name is none for the system.
+    pub fn new(path: &Path) -> Option<Unfinished> {
+        let name = CString::new(path.as_os_str().as_bytes()).ok()?.into_raw();
+        UNFINISHED.store(name, SeqCst);
+        Some(Unfinished(name))
+    }
+}
+
+impl Drop for Unfinished {
+    fn drop(&mut self) {
+        let _ = UNFINISHED.compare_exchange(self.0, ptr::null_mut(), SeqCst, SeqCst);
+        // Safety: `new` made it, and no handler finds it any more.
+        drop(unsafe { CString::from_raw(self.0) });
+    }
+}
+
+fn remove_unfinished() {
+    let name = UNFINISHED.load(SeqCst);
+    if !name.is_null() {
+        // Safety: a name that ends with a zero byte.
+        unsafe { libc::unlink(name) };
+    }
+}
+
+/// The process ends by the signal, as it would without this.
+extern "C" fn on_end(signal: c_int) {
+    remove_unfinished();
+    // Safety: the signal's own default, and once more the signal.
+    unsafe {
+        libc::signal(signal, libc::SIG_DFL);
+        libc::raise(signal);
+    }
+}

@@ -1,0 +1,51 @@
+//! Standard input, output and error. Where one is closed, Rust's runtime opens
+//! /dev/null in its place before `main`, and an answer would be lost without a
+//! word: so that is looked up before.
+
+use std::fs::File;
+use std::io::{self, Write};
+use std::os::fd::{AsFd, BorrowedFd};
+use std::sync::atomic::{AtomicBool, Ordering};
+
+static INPUT_CLOSED: AtomicBool = AtomicBool::new(false);
+static OUTPUT_CLOSED: AtomicBool = AtomicBool::new(false);
+
+/// Run by the system's loader, before Rust's runtime.
+#[used]
+#[link_section = ".init_array"]
+static NOTE: extern "C" fn() = note;
+
+extern "C" fn note() {
+    // Safety: asks for flags of a descriptor, open or not.
+    let is_closed = |fd| unsafe { libc::fcntl(fd, libc::F_GETFD) } == -1;
+    INPUT_CLOSED.store(is_closed(libc::STDIN_FILENO), Ordering::Relaxed);
+    OUTPUT_CLOSED.store(is_closed(libc::STDOUT_FILENO), Ordering::Relaxed);
+}
+
+pub fn input() -> io::Result<File> {
+    open(
+        &INPUT_CLOSED,
+        "standard input is closed",
+        io::stdin().as_fd(),
+    )
+}
+
+pub fn output() -> io::Result<File> {
+    open(
+        &OUTPUT_CLOSED,
+        "standard output is closed",
+        io::stdout().as_fd(),
+    )
+}
+
+fn open(closed: &AtomicBool, why: &str, fd: BorrowedFd<'_>) -> io::Result<File> {
+    match closed.load(Ordering::Relaxed) {
+        true => Err(io::Error::other(why)),
+        false => Ok(fd.try_clone_to_owned()?.into()),
+    }
+}
+
+/// A line on standard error, if anyone listens.
+pub fn say(line: &str) {
+    let _ = writeln!(io::stderr(), "{line}");
+}

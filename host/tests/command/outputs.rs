@@ -1,0 +1,68 @@
+//! Standard output that is closed, full, or that nobody reads any more.
+
+use std::fs::File;
+use std::io::Write;
+use std::os::unix::process::ExitStatusExt;
+use std::process::{Command, Stdio};
+
+use super::dumps::{self, W};
+use super::{lohenarr, said};
+
+/// The dump is fed after the reader of the output is gone, so that nothing
+/// can have been written before.
+#[test]
+fn a_closed_pipe_ends_by_its_signal() {
+    let folder = dumps::folder();
+    for typed in [&["pages", "-"][..], &["read", "-", "257"]] {
+        let mut command = lohenarr(folder.path());
+        command.args(typed).args(["--block", "4"]);
+        command.stdin(Stdio::piped()).stdout(Stdio::piped());
+        let mut child = command.stderr(Stdio::piped()).spawn().unwrap();
+        drop(child.stdout.take());
+        child.stdin.take().unwrap().write_all(W).unwrap();
+        let output = child.wait_with_output().unwrap();
+        assert_eq!(said(&output), "", "{typed:?}");
+        assert_eq!(output.status.signal(), Some(libc::SIGPIPE), "{typed:?}");
+    }
+}
+
+#[test]
+fn an_output_that_is_full() {
+    let folder = dumps::folder();
+    let typed = [
+        (&["pages", "W", "-b4"][..], false),
+        (&["pages", "empty", "-b4"], true),
+        (&["completions", "bash"], false),
+        (&["help", "size"], false),
+    ];
+    for (typed, refused) in typed {
+        let full = File::create("/dev/full").unwrap();
+        let mut command = lohenarr(folder.path());
+        command.args(typed).stdout(full);
+        let output = command.output().unwrap();
+        let said = said(&output);
+        assert!(said.contains("lohenarr: cannot write the answer"), "{said}");
+        assert_eq!(said.contains("refused: "), refused, "{said}");
+        assert_eq!(output.status.code(), Some(2), "{typed:?}");
+    }
+}
+
+/// Rust's runtime would put /dev/null in its place, and the answer be lost.
+#[test]
+fn a_closed_standard_output() {
+    let folder = dumps::folder();
+    for typed in [
+        "size W 257 --block 4",
+        "read W 257 --block 4 --out new",
+        "help",
+    ] {
+        let mut shell = Command::new("sh");
+        let command = format!("exec \"$0\" {typed} >&-");
+        shell.args(["-c", &command, env!("CARGO_BIN_EXE_lohenarr")]);
+        let output = shell.current_dir(&folder).output().unwrap();
+        let closed = "lohenarr: cannot write the answer: standard output is closed\n";
+        assert_eq!(said(&output), closed, "{typed}");
+        assert_eq!(output.status.code(), Some(2), "{typed}");
+    }
+    assert!(!folder.path().join("new").exists());
+}
