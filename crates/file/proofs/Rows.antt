@@ -156,10 +156,16 @@ module _ (says : ℕ → Record) (P size m : ℕ) (t : List ℕ) (newest : Bool)
     free-row : (u : List ℕ) → ((w a : ℕ) → Has t c w a → Has u c w a) → isShown says P c cut q ≡ false → Has t c 0 0 → from c newest cut chain ≡ answer → Row u c next answer
     free-row u same h f a = free (same 0 0 f) (sym (ahead-on says P c (shownOf P c size) newest cut chain q rest e h) ∙ a)
 
-    -- passing a header keeps every row on the way to its answer
-    pub header-row : isHeader (says q) ≡ true → Row t c (from c newest cut chain) answer → Row t c next answer
-    header-row h (done g f) = done-row t (λ w a r. r) g f
-    header-row h (free f a) = free-row t (λ w a r. r) (rw (no-copy c (says q) h) refl) f a
+    -- passing a header keeps every row on the way to its answer, and the newest header is no longer ahead
+    none-newer : isHeader (says q) ≡ true → stillNewest says newest q ≡ false
+    none-newer h = rw h (by-test newest _ (λ b. rw b refl) (λ b. rw b refl))
+
+    pub header-row : isHeader (says q) ≡ true → Row t c (from c newest cut chain) answer → Row t c (from c false (cutBy says newest q cut) rest) answer
+    header-row h r = rw (none-newer h) at (go r)
+      where
+        go : Row t c (from c newest cut chain) answer → Row t c next answer
+        go (done g f) = done-row t (λ w a r. r) g f
+        go (free f a) = free-row t (λ w a r. r) (rw (no-copy c (says q) h) refl) f a
 
     -- and so does noting data
     module _ (some : 0 < c) (most : c ≤ m) (room : wordsOf m ≤ length t) (d : Data) (k : says q ≡ said.Data d) where
@@ -190,18 +196,25 @@ module _ (says : ℕ → Record) (P size m : ℕ) (t : List ℕ) (newest : Bool)
           let s : eqb ch c && not (hides cut (baseOf P c)) ≡ true = rw k at h in
           (eqb-true _ _ (and-left (eqb ch c) _ s), not-true (hides cut (baseOf P c)) (and-right (eqb ch c) _ s))
 
-      pub noted-row : Row t c (from c newest cut chain) answer → Row noting-here c next answer
-      noted-row (done g f) = done-row noting-here (elsewhere (λ j z b. absurd (omega arith))) g f
-      noted-row (free f a) =
-          by-test (isShown says P c cut q) _
-          (λ h.
-          let j = shown-by h .0 in
-          let w = writes t m P size cut q ch (d .count) (rw j some) (rw j most) (rw j (f .at)) (rw j (shown-by h .1)) in
-          shown-row h f a noting-here w j)
-          (λ h.
-          free-row noting-here
-          (elsewhere (λ j z b. let s : isShown says P c cut q ≡ true = rw (k, eq-eqb ch c j, b) refl in never (sym h ∙ s)))
-          h f a)
+      -- the newest header is still ahead if it was, and data does not cut
+      still-newer : stillNewest says newest q ≡ newest
+      still-newer = rw k (by-test newest _ (λ b. rw b refl) (λ b. rw b refl))
+
+      pub noted-row : Row t c (from c newest cut chain) answer → Row noting-here c (from c newest cut rest) answer
+      noted-row r = rw (still-newer, k) at (go r)
+        where
+          go : Row t c (from c newest cut chain) answer → Row noting-here c next answer
+          go (done g f) = done-row noting-here (elsewhere (λ j z b. absurd (omega arith))) g f
+          go (free f a) =
+              by-test (isShown says P c cut q) _
+              (λ h.
+              let j = shown-by h .0 in
+              let w = writes t m P size cut q ch (d .count) (rw j some) (rw j most) (rw j (f .at)) (rw j (shown-by h .1)) in
+              shown-row h f a noting-here w j)
+              (λ h.
+              free-row noting-here
+              (elsewhere (λ j z b. let s : isShown says P c cut q ≡ true = rw (k, eq-eqb ch c j, b) refl in never (sym h ∙ s)))
+              h f a)
 
 -- at the end of a chain a free row is a hole's, and where the chain is damaged it is marked so
 module _ (t : List ℕ) (c : ℕ) (rest answer : Looked) where
