@@ -68,10 +68,10 @@ headerAnswer (headed.Refused r) = refusedHeader (refusalNumber r)
 headerAnswer (headed.Fields f) = fieldsAnswer f
 
 -- a part of the dump at a place; an empty one where the page is refused
-abbrev pub partAnswer : Headed → ℕ → ℕ → PartAnswer
+abbrev pub partAnswer : Headed → (offset length : ℕ) → PartAnswer
 partAnswer (headed.Refused r) offset length = record { refusal = refusalNumber r; offset = 0; length = 0 }
 partAnswer (headed.Fields f) offset length = record { refusal = 0; offset = offset; length = length }
 
 -- where the field f of page i that is bytes stands in the dump
-unfoldable pub textAnswer : Text → Geometry → List ℕ → ℕ → PartAnswer
+unfoldable pub textAnswer : Text → Geometry → (dump : List ℕ) (page : ℕ) → PartAnswer
 textAnswer f g dump i = partAnswer (headedOf g dump i) (i * pageLen (g .layout) + textPlace f) (textLength f)

@@ -9,7 +9,7 @@ use Rattle.page.specs.declared.kind.Told.the-variants as told
 use Rattle.capi.specs.declared.kind.KindAnswer.{KindAnswer}
 
 -- a refusal, or a kind that has no fields
-abbrev pub bareKind : ℕ → ℕ → KindAnswer
+abbrev pub bareKind : (refusal kind : ℕ) → KindAnswer
 bareKind refusal kind = record {
   refusal = refusal;
   kind = kind;

@@ -68,7 +68,7 @@ abbrev pub noPlace : PlaceAnswer
 noPlace = record { offset = 0; length = 0 }
 
 -- where the first bytes of page p stand in a dump of n bytes; nowhere where the page is not in the dump or has not so many
-abbrev pub placeOf : Geometry → ℕ → ℕ → ℕ → PlaceAnswer
+abbrev pub placeOf : Geometry → (length page valid : ℕ) → PlaceAnswer
 placeOf g n p valid = pick (pageIn g n p && leb valid (g .layout .«data»)) (record { offset = p * pageLen (g .layout); length = valid }) noPlace
 
 -- where the valid bytes of a chunk stand; nowhere for a hole or a refusal
@@ -78,7 +78,7 @@ placeAnswer g n (looked.Hole s v) = noPlace
 placeAnswer g n (looked.Copy p a s v) = placeOf g n (p .0) a
 
 -- where the part that a row of a table names stands
-abbrev pub rowPlace : Geometry → ℕ → ℕ → ℕ → PlaceAnswer
+abbrev pub rowPlace : Geometry → (length place valid : ℕ) → PlaceAnswer
 rowPlace g n place valid = pick (ltb place 2) noPlace (placeOf g n (place - 2) valid)
 
 abbrev pub listAnswer : Listed → ListAnswer

@@ -40,7 +40,7 @@ readBy room (looked.Hole s v) = pick (ltb room s) (looked.Refused ShortBuffer v 
 readBy room (looked.Copy p a s v) = pick (ltb room s) (looked.Refused ShortBuffer v s) (looked.Copy p a s v)
 
 -- the first bytes of the data on page p; none where the page is not in the dump or has not so many
-unfoldable pub validPart : Geometry → List ℕ → ℕ → ℕ → List ℕ
+unfoldable pub validPart : Geometry → (dump : List ℕ) (page valid : ℕ) → List ℕ
 validPart g dump p valid = pick (pageIn g (length dump) p && leb valid (g .layout .«data»)) (take valid (pageAt g dump p)) []
 
 -- the valid bytes as a part of the dump; an empty part for a hole or a refusal
@@ -50,11 +50,11 @@ partBy g dump (looked.Hole s v) = []
 partBy g dump (looked.Copy p a s v) = validPart g dump (p .0) a
 
 -- a buffer with a part at its begin, zeros behind that up to a length, and the rest as it was
-unfoldable pub overlaid : List ℕ → ℕ → List ℕ → List ℕ
+unfoldable pub overlaid : (part : List ℕ) (shown : ℕ) (buffer : List ℕ) → List ℕ
 overlaid part shown buffer = take shown (part ++ replicate shown 0) ++ drop shown buffer
 
 -- what a read that is answered so leaves in a buffer: the valid bytes, then zeros up to the shown length; a refused read leaves it as it was
-unfoldable pub bufferBy : Geometry → List ℕ → List ℕ → Looked → List ℕ
+unfoldable pub bufferBy : Geometry → (dump buffer : List ℕ) → Looked → List ℕ
 bufferBy g dump buffer (looked.Refused r v n) = buffer
 bufferBy g dump buffer (looked.Hole s v) = overlaid [] s buffer
 bufferBy g dump buffer (looked.Copy p a s v) = overlaid (validPart g dump (p .0) a) s buffer

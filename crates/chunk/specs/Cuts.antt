@@ -30,7 +30,7 @@ lower (At a) Nowhere = At a
 lower (At a) (At b) = At (min a b)
 
 -- the lowest cut of the headers of object o that are newer than the age x, where h is its newest header
-unfoldable pub lowestCut : (says : ℕ → Record) (o h x n : ℕ) → Cut
+unfoldable pub lowestCut : (says : ℕ → Record) (object header age pages : ℕ) → Cut
 lowestCut says o h x n = gather (λ p a. pick (headerOf o (says p) && ltb x (ageOf says p)) (lower (cutOf (eqb p h) (says p)) a) a) Nowhere n
 
 -- whether a cut hides what begins at a place: it is at or below that

@@ -16,15 +16,15 @@ use Rattle.chunk.specs.declared.answer.Tallied.{Tallied}
 use Rattle.chunk.specs.declared.answer.Tallied.the-variants as tallied
 
 -- listing ids into so many words: refused if they do not all fit; the length needed counts ids
-unfoldable pub listedBy : ℕ → List ℕ → Listed
+unfoldable pub listedBy : (room : ℕ) (ids : List ℕ) → Listed
 listedBy room ids = pick (ltb room (length ids)) (listed.Refused ShortBuffer (length ids)) (listed.Ids (length ids))
 
 -- words with ids in front, and the rest as it was
-abbrev pub inFront : List ℕ → List ℕ → List ℕ
+abbrev pub inFront : (ids words : List ℕ) → List ℕ
 inFront ids words = ids ++ drop (length ids) words
 
 -- what a listing of ids that is answered so leaves in the words: the ids, or after a refusal the words as they were
-unfoldable pub wordsBy : List ℕ → List ℕ → Listed → List ℕ
+unfoldable pub wordsBy : (ids words : List ℕ) → Listed → List ℕ
 wordsBy ids words (listed.Ids m) = inFront ids words
 wordsBy ids words (listed.Refused r need) = words
 

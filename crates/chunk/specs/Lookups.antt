@@ -20,18 +20,18 @@ use Rattle.chunk.specs.declared.answer.Looked.{Looked}
 use Rattle.chunk.specs.declared.answer.Looked.the-variants as looked
 
 -- what an object is whose newest header h says k, with the visits down to it: deleted, no file, or a live file
-unfoldable pub fileAt : Record → (h v : ℕ) → File
+unfoldable pub fileAt : Record → (header visits : ℕ) → File
 fileAt k h v =
     pick (isGone k) (file.Refused Deleted v)
     (pick (isFile k) (file.Header (record { 0 = h }) v)
     (file.Refused NotAFile v))
 
 -- how many bytes of chunk c a file of a size shows, with P data bytes to a page: as many as a page has, or as the size leaves
-abbrev pub shownOf : (P c size : ℕ) → ℕ
+abbrev pub shownOf : (P chunk size : ℕ) → ℕ
 shownOf P c size = min P (size - baseOf P c)
 
 -- how many bytes of a copy of chunk c that says k are valid: its byte count, no more than shown, and none behind a later cut
-abbrev pub validOf : (P c : ℕ) → Record → (shown : ℕ) → Cut → ℕ
+abbrev pub validOf : (P chunk : ℕ) → Record → (shown : ℕ) → Cut → ℕ
 validOf P c k shown cut = min (countOf k) (leaves cut (baseOf P c) shown)
 
 module _ (says : ℕ → Record) (o n : ℕ) where
@@ -56,19 +56,19 @@ module _ (says : ℕ → Record) (o n : ℕ) where
 
     module _ (c : ℕ) where
       -- the copy q of a live file with newest header h: hidden, and so a hole, if a later header cuts at or below the chunk's begin
-      unfoldable pub copyAt : (h shown q : ℕ) → Looked
+      unfoldable pub copyAt : (header shown page : ℕ) → Looked
       copyAt h shown q =
           let cut = lowestCut says o h (ageOf says q) n in
           pick (hides cut (baseOf P c)) (looked.Hole shown (visits says o n hole))
           (looked.Copy (record { 0 = q }) (validOf P c (says q) shown cut) shown (visits says o n (copy h q)))
 
       -- by the copy, if there is one
-      unfoldable pub copyBy : (h shown : ℕ) → Option ℕ → Looked
+      unfoldable pub copyBy : (header shown : ℕ) → Option ℕ → Looked
       copyBy h shown none = looked.Hole shown (visits says o n hole)
       copyBy h shown (some q) = copyAt h shown q
 
       -- chunk c of a live file of a size, which ends before it or not
-      unfoldable pub chunkBy : (h v size : ℕ) → Looked
+      unfoldable pub chunkBy : (header visits size : ℕ) → Looked
       chunkBy h v size = pick (leb size (baseOf P c)) (looked.Refused PastEnd v 0) (copyBy h (shownOf P c size) (newestCopy says o c n))
 
       unfoldable pub lookedBy : File → Looked

@@ -18,20 +18,20 @@ unfoldable pub newest : (ℕ → Record) → (Record → Bool) → ℕ → Optio
 newest says test n = gather (λ p r. pick (test (says p)) (later says p r) r) none n
 
 -- whether a page is a data page of object o with chunk number c
-abbrev pub copyOf : (o c : ℕ) → Record → Bool
+abbrev pub copyOf : (object chunk : ℕ) → Record → Bool
 copyOf o c k = isOf o k && isCopy c k
 
 -- the newest header of object o; the copy of its chunk c
-abbrev pub newestHeader : (ℕ → Record) → ℕ → ℕ → Option ℕ
+abbrev pub newestHeader : (says : ℕ → Record) (object pages : ℕ) → Option ℕ
 newestHeader says o n = newest says (headerOf o) n
 
-abbrev pub newestCopy : (ℕ → Record) → ℕ → ℕ → ℕ → Option ℕ
+abbrev pub newestCopy : (says : ℕ → Record) (object chunk pages : ℕ) → Option ℕ
 newestCopy says o c n = newest says (copyOf o c) n
 
 -- how many records of object o are not older than an age: the records visited down to that age
-unfoldable pub since : (ℕ → Record) → ℕ → ℕ → ℕ → ℕ
+unfoldable pub since : (says : ℕ → Record) (object age pages : ℕ) → ℕ
 since says o x n = gather (λ p a. pick (isOf o (says p) && leb x (ageOf says p)) (suc a) a) 0 n
 
 -- how many records object o has
-abbrev pub records : (ℕ → Record) → ℕ → ℕ → ℕ
+abbrev pub records : (says : ℕ → Record) (object pages : ℕ) → ℕ
 records says o n = since says o 0 n

@@ -18,7 +18,7 @@ sequenceOf (Header h) = h .sequence
 sequenceOf (Data d) = d .sequence
 
 -- the place of a record in the order: by sequence, then by page number, which is below 2^32
-abbrev pub orderOf : ℕ → ℕ → ℕ
+abbrev pub orderOf : (sequence page : ℕ) → ℕ
 orderOf sequence page = sequence * 4294967296 + page
 
 -- how new page p is
@@ -26,15 +26,15 @@ abbrev pub ageOf : (ℕ → Record) → ℕ → ℕ
 ageOf says p = orderOf (sequenceOf (says p)) p
 
 -- whether a page is a record of object o; a header of it; a data page of it
-abbrev pub isOf : (o : ℕ) → Record → Bool
+abbrev pub isOf : (object : ℕ) → Record → Bool
 isOf o Other = false
 isOf o (Header h) = eqb (h .object .0) o
 isOf o (Data d) = eqb (d .object .0) o
 
-abbrev pub headerOf : (o : ℕ) → Record → Bool
+abbrev pub headerOf : (object : ℕ) → Record → Bool
 headerOf o k = isOf o k && isHeader k
 
-abbrev pub dataOf : (o : ℕ) → Record → Bool
+abbrev pub dataOf : (object : ℕ) → Record → Bool
 dataOf o k = isOf o k && isData k
 
 -- the chunk number of a data page; 0, which no chunk has, for another
@@ -44,7 +44,7 @@ chunkOf (Header h) = 0
 chunkOf (Data d) = d .chunk .0
 
 -- whether a page is a data page with chunk number c
-abbrev pub isCopy : (c : ℕ) → Record → Bool
+abbrev pub isCopy : (chunk : ℕ) → Record → Bool
 isCopy c Other = false
 isCopy c (Header h) = false
 isCopy c (Data d) = eqb (d .chunk .0) c
@@ -77,5 +77,5 @@ isFile (Header h) = eqb (h .«page_type») 1
 isFile (Data d) = false
 
 -- where chunk n begins in its file, with P data bytes to a page
-abbrev pub baseOf : ℕ → ℕ → ℕ
+abbrev pub baseOf : (P chunk : ℕ) → ℕ
 baseOf P n = (n - 1) * P

@@ -22,7 +22,7 @@ wantedBy want.Header r = isHeader r
 wantedBy (want.Copy c) r = isCopy (c .0) r
 
 -- which pages a scan for object o wants
-abbrev pub wanted : (o : ℕ) → Want → Record → Bool
+abbrev pub wanted : (object : ℕ) → Want → Record → Bool
 wanted o w r = isOf o r && wantedBy w r
 
 -- the newest page of a scan, with its age
@@ -40,5 +40,5 @@ unfoldable pub endWith : (end P o x p : ℕ) → Record → ℕ
 endWith end P o x p r = pick (dataOf o r && ltb x (orderOf (sequenceOf r) p)) (max (endOf P r) end) end
 
 -- the lowest cut so far, with page p too
-unfoldable pub cutWith : Cut → (o h x p : ℕ) → Record → Cut
+unfoldable pub cutWith : Cut → (object header age page : ℕ) → Record → Cut
 cutWith cut o h x p r = pick (headerOf o r && ltb x (orderOf (sequenceOf r) p)) (lower (cutOf (eqb p h) r) cut) cut

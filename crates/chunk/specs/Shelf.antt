@@ -23,7 +23,7 @@ pub data Answer : Type 0 where
   kind : Kind → Answer
 
 -- page p read as blank
-abbrev pub without : ℕ → (ℕ → Record) → ℕ → Record
+abbrev pub without : (page : ℕ) (says : ℕ → Record) → ℕ → Record
 without p says i = pick (eqb i p) (recordOf Blank) (says i)
 
 -- by the definitions: cases 1 to 5 on W, 6 and 7 on W without pages, 8 to 11 on single pages, 12

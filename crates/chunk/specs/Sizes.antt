@@ -12,9 +12,9 @@ abbrev pub endOf : ℕ → Record → ℕ
 endOf P k = baseOf P (chunkOf k) + countOf k
 
 -- the largest end among the data records of object o newer than an age
-unfoldable pub dataEnd : (ℕ → Record) → ℕ → ℕ → ℕ → ℕ → ℕ
+unfoldable pub dataEnd : (says : ℕ → Record) (P object age pages : ℕ) → ℕ
 dataEnd says P o x n = gather (λ p a. pick (dataOf o (says p) && ltb x (ageOf says p)) (max (endOf P (says p)) a) a) 0 n
 
 -- the size of object o, whose newest header is h: that header's file size, or the largest end of newer data, whichever is larger
-unfoldable pub sizeOf : (ℕ → Record) → ℕ → ℕ → ℕ → ℕ → ℕ
+unfoldable pub sizeOf : (says : ℕ → Record) (P object header pages : ℕ) → ℕ
 sizeOf says P o h n = max (fileSize (says h)) (dataEnd says P o (ageOf says h) n)

@@ -7,13 +7,13 @@ use Rattle.chunk.specs.Newest.{since, records}
 -- how a lookup of an object ends: it found a copy q, where h is the newest header; it found a hole, or the object has no header; or it did not get
 -- below the newest header h: a size, Deleted, NotAFile, PastEnd
 pub data Ending : Type 0 where
-  copy : (h q : ℕ) → Ending
+  copy : (header page : ℕ) → Ending
   hole : Ending
   headless : Ending
-  headed : (h : ℕ) → Ending
+  headed : (header : ℕ) → Ending
 
 -- the records of object o that it visits, of n pages; a lookup that is refused in another way visits none
-abbrev pub visits : (says : ℕ → Record) (o n : ℕ) → Ending → ℕ
+abbrev pub visits : (says : ℕ → Record) (object pages : ℕ) → Ending → ℕ
 visits says o n (copy h q) = since says o (min (ageOf says q) (ageOf says h)) n
 visits says o n hole = records says o n
 visits says o n headless = records says o n

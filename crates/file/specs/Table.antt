@@ -81,7 +81,7 @@ allAhead says P size n cells o first c = ahead says P c (shownOf P c size) true 
 
 -- a table of m rows in which page q, of chunk number c and byte count n, is noted: if the chunk has a row, nothing is noted there, and no newer
 -- header hides it
-unfoldable pub noted : (t : List ℕ) (m P size : ℕ) → Cut → (q c n : ℕ) → List ℕ
+unfoldable pub noted : (table : List ℕ) (rows P size : ℕ) → Cut → (page chunk count : ℕ) → List ℕ
 noted t m P size cut q c n =
     pick (eqb c 0 || ltb m c) t
     (pick (not (eqb (word t (rowAt c)) 0)) t

@@ -63,15 +63,7 @@ fn chunks_in(data: u32, size: u64) -> u32
 
 // Notes page q, of this data, in the row of its chunk, if the table has one, nothing is noted there yet, and the lowest cut of newer headers does
 // not hide the chunk.
-fn note(
-    table: &mut [u32],
-    count: u32,
-    data: u32,
-    size: u64,
-    cut: Cut,
-    q: PageNumber,
-    d: Data,
-)
+fn note(table: &mut [u32], count: u32, data: u32, size: u64, cut: Cut, q: PageNumber, d: Data)
     requires { ⌜ wordsOf count ≤ length (now table) ⌝ }
     requires { ⌜ q .0 < 2 ^ 31 ⌝ }
     ensures { λ _. ⌜ now (table .exit) ≡ noted (now (table .entry)) count «data» size cut (q .0) (d .chunk .0) (d .count) ⌝ }

@@ -35,7 +35,7 @@ abbrev pub refused : Refusal → List ℕ → Outcome
 refused r c = outcome (Refused r) c
 
 -- the words of n pages made empty, whatever they held
-abbrev pub emptied : ℕ → List ℕ → List ℕ
+abbrev pub emptied : (pages : ℕ) (cells : List ℕ) → List ℕ
 emptied n c = replicate (cellsFor n) 0 ++ drop (cellsFor n) c
 
 -- starting an index of a dump
@@ -43,36 +43,36 @@ unfoldable pub startIn : Opened → List ℕ → Outcome
 startIn (opened.Refused r) c = refused r c
 startIn (opened.Pages n) c = pick (ltb (length c) (cellsFor n)) (refused ShortIndex c) (outcome Done (emptied n c))
 
-unfoldable pub startOf : Geometry → List ℕ → List ℕ → Outcome
+unfoldable pub startOf : Geometry → (dump cells : List ℕ) → Outcome
 startOf g dump c = startIn (openedOf g (length dump)) c
 
 -- a page that is no record is marked
-unfoldable pub addOther : List ℕ → ℕ → Outcome
+unfoldable pub addOther : (cells : List ℕ) (page : ℕ) → Outcome
 addOther c p = pick (isMarked c p) (refused AlreadyAdded c) (outcome Done (set c (linkAt p) last))
 
 -- a record of object o is put into the object's chain, whose slot is s
-unfoldable pub addAt : List ℕ → ℕ → ℕ → ℕ → Place → Outcome
+unfoldable pub addAt : (cells : List ℕ) (page object slot : ℕ) → Place → Outcome
 addAt c p o s (place.Refused r) = refused r c
 addAt c p o s (place.At at) = pick (isMarked c p) (refused AlreadyAdded c) (outcome Done (linked (claimed c s o) p at))
 
 module _ (n : ℕ) (obj age : ℕ → ℕ) where
-  unfoldable pub addRecord : List ℕ → ℕ → Outcome
+  unfoldable pub addRecord : (cells : List ℕ) (page : ℕ) → Outcome
   addRecord c p =
       let s = slot n (keys c) (obj p) in
       addAt c p (obj p) s (placeOf age p (chain n obj age c (obj p)) (firstAt s))
 
   -- adding page p of n
-  unfoldable pub addTo : List ℕ → ℕ → Outcome
+  unfoldable pub addTo : (cells : List ℕ) (page : ℕ) → Outcome
   addTo c p =
       pick (ltb (length c) (cellsFor n)) (refused ShortIndex c)
       (pick (leb n p) (refused BadPage c)
       (pick (eqb (obj p) 0) (addOther c p)
       (addRecord c p)))
 
-unfoldable pub addIn : Opened → (ℕ → Record) → List ℕ → ℕ → Outcome
+unfoldable pub addIn : Opened → (says : ℕ → Record) (cells : List ℕ) (page : ℕ) → Outcome
 addIn (opened.Refused r) says c p = refused r c
 addIn (opened.Pages n) says c p = addTo n (objects says) (ageOf says) c p
 
 -- adding page p of a dump
-unfoldable pub addOf : Geometry → List ℕ → List ℕ → ℕ → Outcome
+unfoldable pub addOf : Geometry → (dump cells : List ℕ) (page : ℕ) → Outcome
 addOf g dump c p = addIn (openedOf g (length dump)) (recordAt g dump) c p

@@ -20,7 +20,7 @@ unvisited (looked.Refused r v n) = looked.Refused r 0 n
 
 module _ (says : ℕ → Record) where
   -- whether the newest header is still ahead behind page q
-  abbrev pub stillNewest : (newest : Bool) (q : ℕ) → Bool
+  abbrev pub stillNewest : (newest : Bool) (page : ℕ) → Bool
   stillNewest newest q = newest && not (isHeader (says q))
 
   module _ (P c shown : ℕ) where

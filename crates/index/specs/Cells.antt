@@ -37,15 +37,15 @@ abbrev pub firstAt : ℕ → ℕ
 firstAt s = shared + perPage * s + 2
 
 -- the word at a place
-abbrev pub word : List ℕ → ℕ → ℕ
+abbrev pub word : (cells : List ℕ) (i : ℕ) → ℕ
 word c i = getD c i 0
 
 -- the keys of the slots
-abbrev pub keys : List ℕ → ℕ → ℕ
+abbrev pub keys : (cells : List ℕ) (slot : ℕ) → ℕ
 keys c s = word c (keyAt s)
 
 -- whether page p is marked as added
-abbrev pub isMarked : List ℕ → ℕ → Bool
+abbrev pub isMarked : (cells : List ℕ) (page : ℕ) → Bool
 isMarked c p = not (eqb (word c (linkAt p)) 0)
 
 -- the link that leads nowhere, of a page that has been added
@@ -61,9 +61,9 @@ abbrev pub marked : ℕ → ℕ
 marked w = pick (ltb w 2) last w
 
 -- page p put in at a place: its link leads where the link at that place led, and the link at that place leads to p
-unfoldable pub linked : List ℕ → ℕ → ℕ → List ℕ
+unfoldable pub linked : (cells : List ℕ) (page at : ℕ) → List ℕ
 linked c p at = set (set c (linkAt p) (marked (word c at))) at (linkTo p)
 
 -- slot s made the slot of object o: if it is not yet, the object has no record
-unfoldable pub claimed : List ℕ → ℕ → ℕ → List ℕ
+unfoldable pub claimed : (cells : List ℕ) (slot object : ℕ) → List ℕ
 claimed c s o = pick (eqb (keys c s) o) c (set (set c (keyAt s) o) (firstAt s) 0)

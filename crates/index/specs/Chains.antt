@@ -43,7 +43,7 @@ stepOf says Damaged = step.Damaged
 stepOf says (To q a) = step.Record q a (roleOf (says (q .0)))
 
 -- the step to page q, a record of this object and sequence, in the chain of object o below the age b
-abbrev pub stepAt : (q object sequence : ℕ) → Role → (o b : ℕ) → Step
+abbrev pub stepAt : (page object sequence : ℕ) → Role → (chain bound : ℕ) → Step
 stepAt q object sequence r o b =
     pick (eqb object o)
     (pick (ltb (orderOf sequence q) b) (step.Record (record { 0 = q }) (orderOf sequence q) r)
@@ -62,13 +62,13 @@ by Damaged rest = broken
 by (To q a) rest = rec (q .0) (rest (q .0) a)
 
 -- whether a page that has the object x is a record of object o
-abbrev pub isRecordOf : ℕ → ℕ → Bool
+abbrev pub isRecordOf : (chain object : ℕ) → Bool
 isRecordOf o x = not (eqb x 0) && eqb x o
 
 module _ (n : ℕ) (obj age : ℕ → ℕ) where
   -- where the link w leads in the chain of object o below the age b. It is damaged if it leads outside the dump, to a page that is not a
   -- record of that object, or to one that is not older
-  unfoldable pub leadOf : ℕ → ℕ → ℕ → Lead
+  unfoldable pub leadOf : (chain bound link : ℕ) → Lead
   leadOf o b w =
       pick (ltb w 2) End
       (pick (ltb (w - 2) n)
@@ -77,14 +77,14 @@ module _ (n : ℕ) (obj age : ℕ → ℕ) where
       Damaged) Damaged) Damaged)
 
   -- the chain of object o below the age b from the link w, by at most so many steps
-  unfoldable pub traceBy : List ℕ → ℕ → ℕ → ℕ → ℕ → Trace
+  unfoldable pub traceBy : (cells : List ℕ) (chain steps bound link : ℕ) → Trace
   traceBy c o zero b w = by (leadOf o b w) (λ q a. broken)
   traceBy c o (suc f) b w = by (leadOf o b w) (λ q a. traceBy c o f a (word c (linkAt q)))
 
   -- the chain of object o below the age b from the link w. Ages fall along it, so that it has at most b steps
-  unfoldable pub trace : List ℕ → ℕ → ℕ → ℕ → Trace
+  unfoldable pub trace : (cells : List ℕ) (chain bound link : ℕ) → Trace
   trace c o b w = traceBy c o b b w
 
   -- the chain of object o: what the stored links give from its stored first record
-  unfoldable pub chain : List ℕ → ℕ → Trace
+  unfoldable pub chain : (cells : List ℕ) (object : ℕ) → Trace
   chain c o = trace c o top (first n c o)

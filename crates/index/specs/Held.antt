@@ -21,16 +21,16 @@ abbrev pub noneAdded : ℕ → Bool
 noneAdded p = false
 
 -- page p added too
-abbrev pub with : ℕ → (ℕ → Bool) → ℕ → Bool
+abbrev pub with : (page : ℕ) (added : ℕ → Bool) → ℕ → Bool
 with p added x = eqb x p || added x
 
 -- page p put into a list that has the newest first
-unfoldable pub insert : (ℕ → ℕ) → ℕ → List ℕ → List ℕ
+unfoldable pub insert : (age : ℕ → ℕ) (page : ℕ) (sorted : List ℕ) → List ℕ
 insert age p [] = p ∷ []
 insert age p (q ∷ qs) = let r = insert age p qs in pick (leb (age q) (age p)) (p ∷ q ∷ qs) (q ∷ r)
 
 -- the records of object o among the first n pages, the newest first
-unfoldable pub recs : (obj age : ℕ → ℕ) → ℕ → ℕ → List ℕ
+unfoldable pub recs : (obj age : ℕ → ℕ) (object pages : ℕ) → List ℕ
 recs obj age o zero = []
 recs obj age o (suc p) = pick (eqb (obj p) o) (insert age p (recs obj age o p)) (recs obj age o p)
 

@@ -61,7 +61,7 @@ stands ask says met broken = Damaged
 stands ask says met (rec q t) = pick (isHeader (says q)) (headedStanding ask (says q)) (stands ask says true t)
 
 -- whether slot s of n is used, and is where its object is looked for
-abbrev pub isOwn : List ℕ → ℕ → ℕ → Bool
+abbrev pub isOwn : (cells : List ℕ) (pages slot : ℕ) → Bool
 isOwn cells n s = used (keys cells) s && eqb (slot n (keys cells) (keys cells s)) s
 
 -- the objects asked for, on the cells of n pages

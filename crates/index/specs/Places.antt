@@ -15,7 +15,7 @@ use Rattle.index.specs.declared.places.Place.the-variants.{At, Refused}
 
 -- where the link to page p goes in a chain whose first link stands at a place: the link to the first record not newer than p, or the last.
 -- Every link down to there is met
-unfoldable pub placeOf : (ℕ → ℕ) → ℕ → Trace → ℕ → Place
+unfoldable pub placeOf : (age : ℕ → ℕ) (page : ℕ) → Trace → (at : ℕ) → Place
 placeOf age p clean at = At at
 placeOf age p broken at = Refused IndexDamaged
 placeOf age p (rec q rest) at =
@@ -28,7 +28,7 @@ Within n (At at) = at < n
 Within n (Refused r) = Unit {0}
 
 -- the place of page p in the chain of object o from the link w, which stands at a place, where the n pages say this
-abbrev pub placeFrom : (ℕ → Record) → ℕ → List ℕ → ℕ → ℕ → ℕ → ℕ → Place
+abbrev pub placeFrom : (says : ℕ → Record) (pages : ℕ) (cells : List ℕ) (object page link at : ℕ) → Place
 placeFrom says n c o p w at = placeOf (ageOf says) p (trace n (objects says) (ageOf says) c o top w) at
 
 -- page p is a record of object o and of this age, in a dump of n pages whose index has room

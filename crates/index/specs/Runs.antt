@@ -31,32 +31,32 @@ abbrev pub ran : Run → List ℕ → Ran
 ran r c = record { answer = r; cells = c }
 
 -- by the addition of page p: it goes on from what that left, or stops there
-abbrev pub onward : Added → List ℕ → ℕ → (List ℕ → Ran) → Ran
+abbrev pub onward : Added → (cells : List ℕ) (page : ℕ) → (List ℕ → Ran) → Ran
 onward added.Done c p rest = rest c
 onward (added.Refused r) c p rest = ran (Stopped (record { 0 = p }) r) c
 
 -- so many pages from page p on, of n
-unfoldable pub runBy : (n : ℕ) (obj age : ℕ → ℕ) → ℕ → ℕ → List ℕ → Ran
+unfoldable pub runBy : (pages : ℕ) (obj age : ℕ → ℕ) (count from : ℕ) (cells : List ℕ) → Ran
 runBy n obj age zero p c = ran Done c
 runBy n obj age (suc m) p c = onward (addTo n obj age c p .answer) (addTo n obj age c p .cells) p (runBy n obj age m (p + 1))
 
 -- a dump or words that no addition would take stop a run at its first page, even if it has none to add
-unfoldable pub runIn : Opened → (ℕ → Record) → ℕ → ℕ → List ℕ → Ran
+unfoldable pub runIn : Opened → (says : ℕ → Record) (from to : ℕ) (cells : List ℕ) → Ran
 runIn (opened.Refused r) says from to c = ran (Stopped (record { 0 = from }) r) c
 runIn (opened.Pages n) says from to c =
     pick (ltb (length c) (cellsFor n)) (ran (Stopped (record { 0 = from }) ShortIndex) c)
     (runBy n (objects says) (ageOf says) (to - from) from c)
 
 -- the pages of a dump from one to before another
-unfoldable pub runOf : Geometry → List ℕ → List ℕ → ℕ → ℕ → Ran
+unfoldable pub runOf : Geometry → (dump cells : List ℕ) (from to : ℕ) → Ran
 runOf g dump c from to = runIn (openedOf g (length dump)) (recordAt g dump) from to c
 
 -- the additions of a run as a list of requests: so many pages from page p on, each lent w words
-unfoldable pub adds : ℕ → ℕ → ℕ → ℕ → List Request
+unfoldable pub adds : (k words count from : ℕ) → List Request
 adds k w zero p = []
 adds k w (suc m) p = add k w p ∷ adds k w m (p + 1)
 
 -- how many additions a run asked for: all of them, or those up to the refused one
-unfoldable pub asked : Run → ℕ → ℕ → ℕ
+unfoldable pub asked : Run → (from to : ℕ) → ℕ
 asked Done from to = to - from
 asked (Stopped p r) from to = p .0 - from + 1

@@ -10,11 +10,11 @@ use Rattle.index.specs.declared.slots.Found.{Found}
 use Rattle.index.specs.declared.slots.Found.the-variants.{Slot, Nothing}
 
 -- whether a slot with key k may be the slot of object o: it is free, or the object's
-abbrev pub serves : ℕ → ℕ → Bool
+abbrev pub serves : (object key : ℕ) → Bool
 serves o k = eqb k 0 || eqb k o
 
 -- the first slot that serves object o, from slot m - 1 down to slot 0
-unfoldable pub down : (ℕ → ℕ) → ℕ → ℕ → Found
+unfoldable pub down : (key : ℕ → ℕ) (object slots : ℕ) → Found
 down key o zero = Nothing
 down key o (suc s) = pick (serves o (key s)) (Slot s) (down key o s)
 
@@ -24,19 +24,19 @@ foundOr Nothing s = s
 foundOr (Slot j) s = j
 
 -- the slot of object o among n: from its home down, then from the last one down, the first that serves; its home where none does
-unfoldable pub slot : ℕ → (ℕ → ℕ) → ℕ → ℕ
+unfoldable pub slot : (pages : ℕ) (key : ℕ → ℕ) (object : ℕ) → ℕ
 slot n key o = foundOr (down key o (o % n + 1)) (foundOr (down key o n) (o % n))
 
 -- the link to the first record of object o if slot s is the object's, else one that leads nowhere
-unfoldable pub firstIn : List ℕ → ℕ → ℕ → ℕ
+unfoldable pub firstIn : (cells : List ℕ) (slot object : ℕ) → ℕ
 firstIn c s o = pick (eqb (keys c s) o) (word c (firstAt s)) 0
 
 -- the link to the first record of object o
-unfoldable pub first : ℕ → List ℕ → ℕ → ℕ
+unfoldable pub first : (pages : ℕ) (cells : List ℕ) (object : ℕ) → ℕ
 first n c o = firstIn c (slot n (keys c) o) o
 
 -- the same, on any words; one that leads nowhere where they are too few for n pages
-unfoldable pub firstLink : ℕ → List ℕ → ℕ → ℕ
+unfoldable pub firstLink : (pages : ℕ) (cells : List ℕ) (object : ℕ) → ℕ
 firstLink n c o = pick (eqb n 0 || ltb (length c) (cellsFor n)) 0 (first n c o)
 
 -- whether a slot is used

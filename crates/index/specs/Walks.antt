@@ -59,7 +59,7 @@ abbrev pub headless : ℕ → Reached
 headless v = pick (eqb v 0) (reached.Refused NoObject 0) (reached.Refused NoHeader v)
 
 -- the first copy met of a chunk, with page q too, which is one or not
-abbrev pub metBy : (isOne : Bool) (q : ℕ) → Met → Met
+abbrev pub metBy : (isOne : Bool) (page : ℕ) → Met → Met
 metBy isOne q (Copy p) = Copy p
 metBy isOne q Nothing = pick isOne (Copy (record { 0 = q })) Nothing
 
@@ -85,16 +85,16 @@ module _ (says : ℕ → Record) where
   sizeReached (reached.Header h end m v) = sizeFile (sizeAt (h .0) end) (fileAt (says (h .0)) (h .0) v)
 
   -- the lowest cut, with page q too, which is the newest header or not
-  abbrev pub cutBy : (isNewest : Bool) (q : ℕ) → Cut → Cut
+  abbrev pub cutBy : (isNewest : Bool) (page : ℕ) → Cut → Cut
   cutBy isNewest q cut = pick (isHeader (says q)) (lower (cutOf isNewest (says q)) cut) cut
 
   module _ (P c : ℕ) where
     -- the first copy met of chunk c, with page q too
-    abbrev pub metWith : (q : ℕ) → Met → Met
+    abbrev pub metWith : (page : ℕ) → Met → Met
     metWith q m = metBy (isCopy c (says q)) q m
 
     -- down to the newest header, with the largest end of data and the first copy met so far
-    unfoldable pub reach : (end : ℕ) → Met → (v : ℕ) → Trace → Reached
+    unfoldable pub reach : (end : ℕ) → Met → (visits : ℕ) → Trace → Reached
     reach end m v clean = headless v
     reach end m v broken = reached.Refused IndexDamaged 0
     reach end m v (rec q t) =
@@ -102,16 +102,16 @@ module _ (says : ℕ → Record) where
         (reach (max (endOf P (says q)) end) (metWith q m) (v + 1) t)
 
     -- page q is the copy of chunk c, where `cut` is the lowest cut of newer headers
-    abbrev pub found : (shown : ℕ) → Cut → (q v : ℕ) → Looked
+    abbrev pub found : (shown : ℕ) → Cut → (page visits : ℕ) → Looked
     found shown cut q v = looked.Copy (record { 0 = q }) (validOf P c (says q) shown cut) shown v
 
     -- whether page q is a copy of chunk c that the lowest cut of newer headers does not hide
-    abbrev pub isShown : Cut → (q : ℕ) → Bool
+    abbrev pub isShown : Cut → (page : ℕ) → Bool
     isShown cut q = isCopy c (says q) && not (hides cut (baseOf P c))
 
     -- below the newest header, down to the first copy that is not hidden. What hides a copy hides all older ones too, so that behind a hidden
     -- copy there is none to be found; for a hole every record is visited
-    unfoldable pub seek : (shown : ℕ) → Cut → (v : ℕ) → Trace → Looked
+    unfoldable pub seek : (shown : ℕ) → Cut → (visits : ℕ) → Trace → Looked
     seek shown cut v clean = looked.Hole shown v
     seek shown cut v broken = looked.Refused IndexDamaged 0 0
     seek shown cut v (rec q t) = pick (isShown cut q) (found shown cut q (v + 1)) (seek shown (cutBy false q cut) (v + 1) t)
@@ -142,7 +142,7 @@ module _ (says : ℕ → Record) where
 
 -- the chain of object o from the link w and below the age b, and from below page h, on the cells of n pages
 module _ (says : ℕ → Record) (n : ℕ) (cells : List ℕ) (o : ℕ) where
-  abbrev pub under : (b w : ℕ) → Trace
+  abbrev pub under : (bound link : ℕ) → Trace
   under b w = trace n (objects says) (ageOf says) cells o b w
 
   abbrev pub below : ℕ → Trace

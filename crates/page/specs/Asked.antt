@@ -23,7 +23,7 @@ askedBy (told.Refused r) = Refused r
 askedBy (told.Kind k) = pick (isHeader k) Header (Refused NotHeader)
 
 -- whether page i of a dump is a header
-unfoldable pub askedOf : Geometry → List ℕ → ℕ → Asked
+unfoldable pub askedOf : Geometry → (dump : List ℕ) (page : ℕ) → Asked
 askedOf g dump i = askedBy (toldOf g dump i)
 
 unfoldable pub headedBy : Asked → Fields → Headed
@@ -31,7 +31,7 @@ headedBy (Refused r) f = headed.Refused r
 headedBy Header f = headed.Fields f
 
 -- its fields that are numbers
-unfoldable pub headedOf : Geometry → List ℕ → ℕ → Headed
+unfoldable pub headedOf : Geometry → (dump : List ℕ) (page : ℕ) → Headed
 headedOf g dump i = headedBy (askedOf g dump i) (fieldsOf (pageAt g dump i))
 
 unfoldable pub textBy : Asked → List ℕ → List ℕ
@@ -39,5 +39,5 @@ textBy (Refused r) s = []
 textBy Header s = s
 
 -- a field of it that is bytes; no bytes where the page is refused
-unfoldable pub textAt : Text → Geometry → List ℕ → ℕ → List ℕ
+unfoldable pub textAt : Text → Geometry → (dump : List ℕ) (page : ℕ) → List ℕ
 textAt f g dump i = textBy (askedOf g dump i) (textOf f (pageAt g dump i))

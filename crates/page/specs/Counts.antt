@@ -52,11 +52,11 @@ isData (Header h) = false
 isData (Data d) = true
 
 -- how many of the first n pages are of one kind
-abbrev pub kindsBelow : (Kind → Bool) → Geometry → List ℕ → ℕ → ℕ
+abbrev pub kindsBelow : (Kind → Bool) → Geometry → (dump : List ℕ) (pages : ℕ) → ℕ
 kindsBelow is g dump n = count (λ i. is (kindAt g dump i)) n
 
 -- the five counts of the first n pages
-unfoldable pub countsBelow : Geometry → List ℕ → ℕ → Counts
+unfoldable pub countsBelow : Geometry → (dump : List ℕ) (pages : ℕ) → Counts
 countsBelow g dump n = record {
   blank = kindsBelow isBlank g dump n;
   foreign = kindsBelow isForeign g dump n;

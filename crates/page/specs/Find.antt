@@ -47,20 +47,20 @@ unfoldable pub bearsSequence : ℕ → Claim → Bool
 bearsSequence sequence c = isGood c && eqb (sequenceOf c) sequence
 
 -- the sequence of the first good page of the n pages from i, where that search ends; 0 where none is good
-unfoldable pub firstSequence : (ℕ → Claim) → ℕ → ℕ → ℕ
+unfoldable pub firstSequence : (said : ℕ → Claim) (from count : ℕ) → ℕ
 firstSequence said i zero = 0
 firstSequence said i (suc n) = pick (isGood (said i)) (sequenceOf (said i)) (firstSequence said (i + 1) n)
 
 -- the sequence of the block of k pages that page i lies in
-unfoldable pub blockSequence : (ℕ → Claim) → ℕ → ℕ → ℕ
+unfoldable pub blockSequence : (said : ℕ → Claim) (k page : ℕ) → ℕ
 blockSequence said k i = firstSequence said (i / k * k) k
 
 -- whether page i is good and bears its block's sequence
-unfoldable pub isScored : (ℕ → Claim) → ℕ → ℕ → Bool
+unfoldable pub isScored : (said : ℕ → Claim) (k page : ℕ) → Bool
 isScored said k i = bearsSequence (blockSequence said k i) (said i)
 
 -- the score of n pages: the number of good pages bearing their block's sequence
-abbrev pub scoreOf : (ℕ → Claim) → ℕ → ℕ → ℕ
+abbrev pub scoreOf : (said : ℕ → Claim) (k pages : ℕ) → ℕ
 scoreOf said k n = count (isScored said k) n
 
 -- whether page i is not blank
@@ -72,11 +72,11 @@ abbrev pub markedOf : (ℕ → Claim) → ℕ → ℕ
 markedOf said n = count (markedAt said) n
 
 -- a candidate fits if the score is at least 1 and twice the score is at least the number of pages that are not blank
-unfoldable pub scoreFits : ℕ → ℕ → Bool
+unfoldable pub scoreFits : (score marked : ℕ) → Bool
 scoreFits score marked = leb 1 score && leb marked (2 * score)
 
 -- the score of a candidate's n pages where it fits; 0 where it does not
-unfoldable pub fittingScore : (ℕ → Claim) → ℕ → ℕ → ℕ
+unfoldable pub fittingScore : (said : ℕ → Claim) (k pages : ℕ) → ℕ
 fittingScore said k n = pick (scoreFits (scoreOf said k n) (markedOf said n)) (scoreOf said k n) 0
 
 -- the same for a dump of so many pages, or none
@@ -89,11 +89,11 @@ unfoldable pub scoreUnder : List ℕ → Geometry → ℕ
 scoreUnder dump g = scoreIn (openedOf g (length dump)) (claimAt g dump) (g .block)
 
 -- the candidate with the number c in the table, in blocks of k pages
-abbrev pub candidateAt : ℕ → ℕ → Geometry
+abbrev pub candidateAt : (k candidate : ℕ) → Geometry
 candidateAt k c = geometryOf (layoutAt c) k
 
 -- the same for the candidate with the number c in the table; 0 too where it does not divide the dump into whole blocks
-unfoldable pub candidateScore : List ℕ → ℕ → ℕ → ℕ
+unfoldable pub candidateScore : (dump : List ℕ) (k candidate : ℕ) → ℕ
 candidateScore dump k c =
     pick (wholeBlocks (candidateAt k c) (length dump))
     (fittingScore (claimAt (candidateAt k c) dump) k (pageCount (candidateAt k c) (length dump)))
@@ -113,7 +113,7 @@ unfoldable pub winnerOf : (ℕ → ℕ) → Named
 winnerOf score = pick (eqb (highest score layouts) 0) (named.Refused NoLayout) (named.Layout (layoutAt (winner score)))
 
 -- the layout of a dump in blocks of k pages; a length that no candidate divides is NoLayout
-unfoldable pub findOf : List ℕ → ℕ → Named
+unfoldable pub findOf : (dump : List ℕ) (k : ℕ) → Named
 findOf dump k =
     pick (not (blockFits k)) (named.Refused BadLayout)
     (pick (not (lengthFits (length dump))) (named.Refused BadLength)

@@ -32,7 +32,7 @@ unfoldable pub typeDiffers : Tags → ℕ → Bool
 typeDiffers t n = isTyped t && not (eqb (typeIn t) n)
 
 -- a header by its tags, Damaged instead if its page type is none or differs from its tag type
-unfoldable pub headerOf : List ℕ → Tags → ℕ → ObjectId → Kind
+unfoldable pub headerOf : (page : List ℕ) → Tags → (sequence : ℕ) → ObjectId → Kind
 headerOf page t sequence object =
     pick (badType (le32 page atType)) Damaged
     (pick (typeDiffers t (le32 page atType)) Damaged
@@ -58,7 +58,7 @@ unfoldable pub kindOf : Layout → List ℕ → Kind
 kindOf l page = kindBy page (tagsOf (tagBytes l page)) (claimOn l page)
 
 -- the kind of page i; one that is not in the dump says nothing, as a blank one
-unfoldable pub kindAt : Geometry → List ℕ → ℕ → Kind
+unfoldable pub kindAt : Geometry → (dump : List ℕ) (page : ℕ) → Kind
 kindAt g dump i = pick (pageIn g (length dump) i) (kindOf (g .layout) (pageAt g dump i)) Blank
 
 -- the kind where the page is placed
@@ -67,5 +67,5 @@ toldIn (placed.Refused r) k = told.Refused r
 toldIn placed.Here k = told.Kind k
 
 -- the kind of page i of a dump
-unfoldable pub toldOf : Geometry → List ℕ → ℕ → Told
+unfoldable pub toldOf : Geometry → (dump : List ℕ) (page : ℕ) → Told
 toldOf g dump i = toldIn (placedOf g (length dump) i) (kindAt g dump i)

@@ -13,7 +13,7 @@ use Rattle.page.specs.declared.layout.Named.the-variants as named
 use Rattle.page.specs.declared.refusal.Refusal.the-variants.{BadLayout}
 
 -- the layout with data size p, spare size s and tag offset t
-abbrev pub layoutOf : ℕ → ℕ → ℕ → Layout
+abbrev pub layoutOf : (size spare tag : ℕ) → Layout
 layoutOf p s t = record { «data» = p; spare = s; tag = t }
 
 -- how many layouts the table has
@@ -50,15 +50,15 @@ unfoldable pub byNumber : ℕ → Named
 byNumber n = pick (leb layouts n) (named.Refused BadLayout) (named.Layout (layoutAt n))
 
 -- whether a layout has these sizes and this tag offset
-unfoldable pub hasSizes : ℕ → ℕ → ℕ → Layout → Bool
+unfoldable pub hasSizes : (size spare tag : ℕ) → Layout → Bool
 hasSizes p s t l = eqb (l .«data») p && eqb (l .spare) s && eqb (l .tag) t
 
 -- the first number in the table of a layout of these sizes and this tag offset; 13 where there is none
-unfoldable pub numberOfSizes : ℕ → ℕ → ℕ → ℕ
+unfoldable pub numberOfSizes : (size spare tag : ℕ) → ℕ
 numberOfSizes p s t = firstFrom (λ n. hasSizes p s t (layoutAt n)) 0 layouts
 
 -- a layout named by its sizes and its tag offset
-unfoldable pub bySizes : ℕ → ℕ → ℕ → Named
+unfoldable pub bySizes : (size spare tag : ℕ) → Named
 bySizes p s t = byNumber (numberOfSizes p s t)
 
 -- the number of a layout in the table; 13 where it is not there

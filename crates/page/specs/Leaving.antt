@@ -12,11 +12,11 @@ use Rattle.page.specs.declared.geometry.Geometry.{Geometry}
 use Rattle.page.specs.declared.tags.Claim.{Claim}
 
 -- the candidate of a turn, where the one that was guessed and the first of the table have changed places
-unfoldable pub inTurn : ℕ → ℕ → ℕ
+unfoldable pub inTurn : (guess turn : ℕ) → ℕ
 inTurn guess turn = pick (eqb turn 0) guess (pick (eqb turn guess) 0 turn)
 
 -- the score that candidate n needs to lead before candidate `found`, which has the best so far: table order settles equal ones
-unfoldable pub needOf : ℕ → ℕ → ℕ → ℕ
+unfoldable pub needOf : (candidate found best : ℕ) → ℕ
 needOf n found best = pick (ltb n found) best (best + 1)
 
 -- how many pages n bytes are in whole blocks; none where they are not whole blocks
@@ -30,9 +30,9 @@ pub record Gained (said : ℕ → Claim) (k block : ℕ) (g : Gain) : Type 0 whe
 
 -- whether a candidate with so many pages left cannot reach the score that it needs any more, or cannot fit any more: each page that scores is
 -- one more that is not blank
-unfoldable pub isLost : ℕ → ℕ → ℕ → ℕ → Bool
+unfoldable pub isLost : (score marked left need : ℕ) → Bool
 isLost score marked left need = pick (ltb (score + left) need) true (ltb (2 * score + left) marked)
 
 -- a score of which at least so much is asked; 0 where it is less
-unfoldable pub atLeast : ℕ → ℕ → ℕ
+unfoldable pub atLeast : (need score : ℕ) → ℕ
 atLeast need score = pick (leb need score) score 0

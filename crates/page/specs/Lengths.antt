@@ -56,9 +56,9 @@ placedIn (Refused r) i = placed.Refused r
 placedIn (Pages count) i = pick (leb count i) (placed.Refused BadPage) Here
 
 -- page i of such a dump
-unfoldable pub placedOf : Geometry → ℕ → ℕ → Placed
+unfoldable pub placedOf : Geometry → (length page : ℕ) → Placed
 placedOf g n i = placedIn (openedOf g n) i
 
 -- whether page i lies in a dump of n bytes, with room for a header and for tags
-unfoldable pub pageIn : Geometry → ℕ → ℕ → Bool
+unfoldable pub pageIn : Geometry → (length page : ℕ) → Bool
 pageIn g n i = roomy (g .layout) && leb (i * pageLen (g .layout) + pageLen (g .layout)) n

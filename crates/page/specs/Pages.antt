@@ -6,5 +6,5 @@ use Rattle.page.specs.Layouts.{pageLen}
 use Rattle.page.specs.declared.geometry.Geometry.{Geometry}
 
 -- page i: P data bytes and then S spare bytes
-unfoldable pub pageAt : Geometry → List ℕ → ℕ → List ℕ
+unfoldable pub pageAt : Geometry → (dump : List ℕ) (page : ℕ) → List ℕ
 pageAt g dump i = take (pageLen (g .layout)) (drop (i * pageLen (g .layout)) dump)

@@ -22,12 +22,12 @@ unfoldable pub inTags : Layout → ℕ → Bool
 inTags l at = leb (tagPlace l) (at % pageLen l) && ltb (at % pageLen l) (tagPlace l + tagLength)
 
 -- whether candidate c divides n bytes into whole blocks of k pages, and byte `at` is one of its tag bytes
-abbrev pub tagsOfCandidate : ℕ → ℕ → ℕ → ℕ → Bool
+abbrev pub tagsOfCandidate : (k length at candidate : ℕ) → Bool
 tagsOfCandidate k n at c = wholeBlocks (candidateAt k c) n && inTags (layoutAt c) at
 
 -- whether byte `at` of n bytes in blocks of k pages is read: neither K nor the length is refused, and it is a tag byte of some candidate that
 -- divides them
-unfoldable pub isRead : ℕ → ℕ → ℕ → Bool
+unfoldable pub isRead : (k length at : ℕ) → Bool
 isRead k n at = blockFits k && lengthFits n && leb 1 (count (tagsOfCandidate k n at) layouts)
 
 -- two dumps of one length that agree on every byte that is read
@@ -48,7 +48,7 @@ pub record TagCase : Type 0 where
   pub tags : List ℕ
   pub value : ℕ
 
-abbrev pub onByte : ℕ → List ℕ → ℕ → TagCase
+abbrev pub onByte : (byte : ℕ) (tags : List ℕ) (value : ℕ) → TagCase
 onByte j t v = record { byte = j; tags = t; value = v }
 
 abbrev pub tagDump : TagCase → List ℕ

@@ -19,7 +19,7 @@ recordOf (kind.Header h) = Header h
 recordOf (kind.Data d) = Data d
 
 -- the record that page i of a dump is
-unfoldable pub recordAt : Geometry → List ℕ → ℕ → Record
+unfoldable pub recordAt : Geometry → (dump : List ℕ) (page : ℕ) → Record
 recordAt g dump i = recordOf (kindAt g dump i)
 
 -- whether it is a header, or data

@@ -4,7 +4,7 @@ use mathlib.Core.Bool.{Bool, true, false}
 use Rattle.page.specs.Choice.{pick}
 
 -- the first of the n numbers from i that passes the test; the number behind them where none does
-unfoldable pub firstFrom : (ℕ → Bool) → ℕ → ℕ → ℕ
+unfoldable pub firstFrom : (test : ℕ → Bool) (from count : ℕ) → ℕ
 firstFrom test i zero = i
 firstFrom test i (suc n) = pick (test i) i (firstFrom test (i + 1) n)
 

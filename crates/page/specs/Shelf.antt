@@ -23,7 +23,7 @@ unfoldable pub wordBytes : ℕ → List ℕ
 wordBytes n = n % 256 ∷ n / 256 % 256 ∷ n / 65536 % 256 ∷ n / 16777216 % 256 ∷ []
 
 -- the 16 bytes of tags: sequence, object word, chunk word, byte count
-unfoldable pub tagged : ℕ → ℕ → ℕ → ℕ → List ℕ
+unfoldable pub tagged : (sequence object chunk count : ℕ) → List ℕ
 tagged s o c n = wordBytes s ++ wordBytes o ++ wordBytes c ++ wordBytes n
 
 -- n bytes that are left open, as an erased page has them
@@ -31,13 +31,13 @@ abbrev pub erased : ℕ → List ℕ
 erased n = replicate n 0xFF
 
 -- a header of object 257, type 1 and parent 1
-unfoldable pub headerPage : ℕ → ℕ → ℕ → List ℕ
+unfoldable pub headerPage : (sequence size shrink : ℕ) → List ℕ
 headerPage sequence size shrink =
     wordBytes 1 ++ wordBytes 1 ++ erased 0x11C ++ wordBytes size ++ erased 0xB4 ++ wordBytes shrink ++ erased 0x20 ++
     tagged sequence 0x10000101 0x80000001 0
 
 -- a data page of object 257
-unfoldable pub dataPage : ℕ → ℕ → ℕ → List ℕ
+unfoldable pub dataPage : (sequence chunk count : ℕ) → List ℕ
 dataPage sequence chunk count = erased 512 ++ tagged sequence 257 chunk count
 
 unfoldable pub blankPage : List ℕ
@@ -66,16 +66,16 @@ unfoldable pub shelf : List ℕ
 shelf = dumpOf shelfPages
 
 -- page i with other tags
-unfoldable pub retagged : ℕ → List ℕ → List (List ℕ) → List (List ℕ)
+unfoldable pub retagged : (page : ℕ) (tags : List ℕ) → List (List ℕ) → List (List ℕ)
 retagged i tags pages = set pages i (take 512 (getD pages i []) ++ tags)
 
 -- the kinds of n pages of a dump, from page i on
-unfoldable pub kindsFrom : Geometry → List ℕ → ℕ → ℕ → List Kind
+unfoldable pub kindsFrom : Geometry → (dump : List ℕ) (from count : ℕ) → List Kind
 kindsFrom g dump i zero = []
 kindsFrom g dump i (suc n) = kindAt g dump i ∷ kindsFrom g dump (i + 1) n
 
 -- a header and a data page of object 257, as kinds
-abbrev pub shelfHeader : ℕ → ℕ → Bool → Kind
+abbrev pub shelfHeader : (sequence size : ℕ) (shrink : Bool) → Kind
 shelfHeader sequence size shrink = Header (record {
   sequence = sequence;
   object = record { 0 = 257 };
@@ -85,7 +85,7 @@ shelfHeader sequence size shrink = Header (record {
   shrink = shrink;
 })
 
-abbrev pub shelfData : ℕ → ℕ → ℕ → Kind
+abbrev pub shelfData : (sequence chunk count : ℕ) → Kind
 shelfData sequence chunk count = Data (record { sequence = sequence; object = record { 0 = 257 }; chunk = record { 0 = chunk }; count = count })
 
 -- the kinds of W's pages
@@ -107,7 +107,7 @@ pub record PageCase : Type 0 where
   pub tags : List ℕ
   pub kind : Kind
 
-abbrev pub onPage : ℕ → List ℕ → Kind → PageCase
+abbrev pub onPage : (page : ℕ) (tags : List ℕ) → Kind → PageCase
 onPage i t k = record { page = i; tags = t; kind = k }
 
 -- marked cases 8 to 11, the second line of a case being its other half

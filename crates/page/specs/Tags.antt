@@ -81,5 +81,5 @@ unfoldable pub claimOn : Layout → List ℕ → Claim
 claimOn l page = claimOf (l .«data») (tagsOf (tagBytes l page))
 
 -- what the tags of page i say; one that is not in the dump says nothing, as a blank one
-unfoldable pub claimAt : Geometry → List ℕ → ℕ → Claim
+unfoldable pub claimAt : Geometry → (dump : List ℕ) (page : ℕ) → Claim
 claimAt g dump i = pick (pageIn g (length dump) i) (claimOn (g .layout) (pageAt g dump i)) Blank
