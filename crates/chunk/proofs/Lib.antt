@@ -3,6 +3,7 @@ pub mod Cuts
 pub mod Gathering
 pub mod Cases
 pub mod Looking
+pub mod Undamaged
 pub mod Laying
 pub mod Marked
 pub mod Meaning

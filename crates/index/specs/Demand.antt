@@ -11,6 +11,7 @@ use lib.ListN.{length, take, drop}
 use Rattle.page.specs.Records.{recordAt}
 use Rattle.page.specs.Lengths.{pageCount}
 use Rattle.page.specs.declared.geometry.Geometry.{Geometry}
+use Rattle.page.specs.declared.refusal.Refusal.the-variants.{IndexDamaged}
 use Rattle.chunk.specs.Records.{ageOf}
 use Rattle.chunk.specs.Newest.{records}
 use Rattle.index.specs.Cells.{cellsFor, word}
@@ -18,7 +19,7 @@ use Rattle.index.specs.Additions.{startOf}
 use Rattle.index.specs.Chains.{objects, Trace, clean, broken, rec, chain, top}
 use Rattle.index.specs.Held.{noneAdded}
 use Rattle.index.specs.Walks.{seenSays, sizeVisits, chunkVisits}
-use Rattle.index.specs.Requests.{Request, sizeSeen, chunkSeen, answersOn, wordsOf, answersBy, addedOf}
+use Rattle.index.specs.Requests.{Request, Given, sizeSeen, chunkSeen, answersOn, wordsOf, answersBy, addedOf}
 use Rattle.index.specs.declared.additions.Added.the-variants.{Done}
 
 -- page p is one of the records of a chain
@@ -51,8 +52,10 @@ module _ (g : Geometry) (dump c : List ℕ) (rs : List Request) where
 
   pub record Demand3 : Type 0 where
     -- every answer is the paper's: demand 2 on the dump with the pages not yet added read as blank, refusal, visits and bytes included;
-    -- a page's second accepted addition, and no other, is AlreadyAdded; IndexDamaged is never given
+    -- a page's second accepted addition, and no other, is AlreadyAdded
     pub answers : answersOn g dump c rs ≡ answersBy g dump (length c) noneAdded rs
+    -- IndexDamaged is never given
+    pub undamaged : Given IndexDamaged (answersOn g dump c rs) → ⊥
     -- the words past the index are as they were
     pub past : (i : ℕ) → cellsFor (pageCount g (length dump)) ≤ i → word (wordsOf g dump c rs) i ≡ word c i
     -- a lookup after the list visits no more records than the object's added ones

@@ -4,6 +4,8 @@
 use Prim.Native.Nat.{ℕ, min}
 use mathlib.Core.Bool.{Bool}
 use mathlib.Core.List.{List, [], _∷_, _++_}
+use mathlib.Core.Logic.{_⊎_}
+use mathlib.Core.Path.{_≡_}
 use lib.ListN.{length, take, drop}
 use lib.Dec.{ltb, leb}
 use Rattle.page.specs.Choice.{pick}
@@ -48,6 +50,27 @@ pub data Answer : Type 0 where
   aRead : Looked → List ℕ → Answer
   aPart : List ℕ → Answer
   aList : Listed → List ℕ → Answer
+
+-- that an answer is this refusal; a borrowed part's bytes carry none
+abbrev pub Refuses : Refusal → Answer → Type 0
+Refuses r (addition Done) = ⊥
+Refuses r (addition (Refused s)) = s ≡ r
+Refuses r (aSize (sized.Size n v)) = ⊥
+Refuses r (aSize (sized.Refused s v)) = s ≡ r
+Refuses r (aChunk (looked.Copy p a n v)) = ⊥
+Refuses r (aChunk (looked.Hole n v)) = ⊥
+Refuses r (aChunk (looked.Refused s v m)) = s ≡ r
+Refuses r (aRead (looked.Copy p a n v) buffer) = ⊥
+Refuses r (aRead (looked.Hole n v) buffer) = ⊥
+Refuses r (aRead (looked.Refused s v m) buffer) = s ≡ r
+Refuses r (aPart bytes) = ⊥
+Refuses r (aList (listed.Ids m) words) = ⊥
+Refuses r (aList (listed.Refused s m) words) = s ≡ r
+
+-- that one of these answers is this refusal
+abbrev pub Given : Refusal → List Answer → Type 0
+Given r [] = ⊥
+Given r (a ∷ rest) = Refuses r a ⊎ Given r rest
 
 -- what a listing of ids gives, by its answer
 abbrev pub listAnswer : List ℕ → List ℕ → Listed → Answer

@@ -13,8 +13,9 @@ use Rattle.page.specs.Lengths.{blockFits, lengthFits, wholeBlocks, pageC
 use Rattle.page.specs.declared.geometry.Geometry.{Geometry}
 use Rattle.page.specs.declared.geometry.Opened.the-variants.{Pages, Refused}
 use Rattle.page.specs.declared.refusal.Refusal.{Refusal}
+use Rattle.page.specs.declared.refusal.Refusal.the-variants.{IndexDamaged}
 use Rattle.page.proofs.Layouts.{and-left, and-right, roomy-facts, listed-roomy}
-use Rattle.page.proofs.Searching.{pick-cases, by-test}
+use Rattle.page.proofs.Searching.{clash, pick-cases, by-test}
 
 pub block-some : (k : ℕ) → blockFits k ≡ true → 0 < k
 unfolding blockFits
@@ -71,7 +72,16 @@ opened-facts g n m e =
     }))))
   where
     refused : {r : Refusal} → Refused r ≡ Pages m → Open g n m
-    refused q = let z : _≡_ {A = ℕ} 0 1 = cc in absurd (omega arith)
+    refused q = clash (cc)
+
+-- a dump is refused for its layout or its length alone
+pub opened-undamaged : (g : Geometry) (n : ℕ) → openedOf g n ≡ Refused IndexDamaged → ⊥
+unfolding openedOf
+opened-undamaged g n e =
+    pick-cases (leb 13 (numberOf (g .layout))) _ _ _ ⊥ e (λ _ q. clash (cc))
+    (λ _ e₁. pick-cases (not (blockFits (g .block))) _ _ _ ⊥ e₁ (λ _ q. clash (cc))
+    (λ _ e₂. pick-cases (not (lengthFits n)) _ _ _ ⊥ e₂ (λ _ q. clash (cc))
+    (λ _ e₃. pick-cases (not (wholeBlocks g n)) _ _ _ ⊥ e₃ (λ _ q. clash (cc)) (λ _ q. clash (cc)))))
 
 -- a dump has fewer than 2^31 pages
 pub opened-most : (g : Geometry) (n m : ℕ) → openedOf g n ≡ Pages m → m ≤ mostBytes

@@ -1,4 +1,4 @@
--- Laws of the first number that passes a test, and of how many numbers do.
+-- Laws of a choice by a test, of the first number that passes a test, and of how many numbers do.
 use Prim.Native.Nat.{ℕ, zero, suc, _+_, _-_, _≤_, _<_, zero-le}
 use mathlib.Core.Bool.{Bool, true, false}
 use mathlib.Core.Path.{_≡_, refl, _∙_}
@@ -6,6 +6,10 @@ use native.Mathlib.Numerals.{add-one}
 use native.Mathlib.Omega.{arith}
 use Rattle.page.specs.Choice.{pick}
 use Rattle.page.specs.Search.{firstFrom, count, more}
+
+-- two different things are not equal
+pub clash : {P : Type 0} → _≡_ {A = ℕ} 0 1 → P
+clash z = absurd (omega arith)
 
 -- a choice that came out as r came by one of its two ways
 pub pick-cases : {A : Type 0} (b : Bool) (x y r : A) (P : Type 0) → pick b x y ≡ r → (b ≡ true → x ≡ r → P) → (b ≡ false → y ≡ r → P) → P

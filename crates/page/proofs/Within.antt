@@ -34,7 +34,7 @@ use Rattle.page.specs.declared.record.Data as «data»
 use Rattle.page.specs.declared.record.Record.the-variants as recorded
 use Rattle.page.proofs.Lengths.{opened-facts, page-in, page-within}
 use Rattle.page.proofs.Layouts.{roomy-facts}
-use Rattle.page.proofs.Searching.{pick-cases}
+use Rattle.page.proofs.Searching.{clash, pick-cases}
 
 -- neither of two tests that fail together holds
 or-left : (a b : Bool) → a || b ≡ false → a ≡ false
@@ -42,7 +42,7 @@ or-left true b e = e
 or-left false b e = refl
 
 or-right : (a b : Bool) → a || b ≡ false → b ≡ false
-or-right true b e = let z : _≡_ {A = ℕ} 0 1 = cc in absurd (omega arith)
+or-right true b e = clash (cc)
 or-right false b e = e
 
 -- from one number to another, both included
@@ -85,10 +85,6 @@ chunk-good n b = above-zero-good mostChunk n b
 pub type-within : (t : ℕ) → badType t ≡ false → Between 1 5 t
 unfolding badType
 type-within t e = not-zero-or-above 5 t e
-
--- two different things are not equal
-clash : {P : Type 0} → _≡_ {A = ℕ} 0 1 → P
-clash z = absurd (omega arith)
 
 -- what tags that claim a header are
 pub record HeaderClaimed (s : ℕ) (o : ObjectId) : Type 0 where

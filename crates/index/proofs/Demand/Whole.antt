@@ -1,5 +1,5 @@
 -- Demand 3, proved: a start makes the cells hold no page, every request keeps what they hold and is answered by it, and held cells have the chains
--- that the demand asks for.
+-- that the demand asks for. The answers are the paper's, and so none is IndexDamaged.
 use Prim.Native.Nat.{ℕ, _+_, _-_, _<_, _≤_}
 use mathlib.Core.Bool.{Bool}
 use mathlib.Core.List.{List, [], _∷_, _++_}
@@ -35,6 +35,7 @@ use Rattle.index.proofs.Held.Slices.{held-lent}
 use Rattle.index.proofs.Sorted.Order.{pages-most, ages-below}
 use Rattle.index.proofs.Answer.Lookups.{size-visited, chunk-visited}
 use Rattle.index.proofs.Demand.Requests.{steps, steps-past}
+use Rattle.index.proofs.Demand.Undamaged.{answers-undamaged}
 
 -- a chain made of a list has its records, in its order
 on-list : (p : ℕ) (L : List ℕ) → In p L → OnChain p (fromList L)
@@ -77,6 +78,7 @@ module _ (g : Geometry) (dump c : List ℕ) (rs : List Request) where
         Demand3 g dump c rs
     held-demand e u v w = record {
       answers = e;
+      undamaged = λ i. answers-undamaged g dump (length c) rs noneAdded (rw e at i);
       past = u;
       size-visits = v;
       chunk-visits = w;
