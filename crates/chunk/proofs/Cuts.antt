@@ -4,6 +4,7 @@ use mathlib.Core.Bool.{true, false}
 use mathlib.Core.Path.{_≡_, refl, ap}
 use native.Mathlib.Omega.{arith}
 use borrow.Author.Tests.{le-leb, lt-leb, leb-true, leb-false}
+use Rattle.page.proofs.Searching.{clash}
 use Rattle.chunk.specs.Cuts.{lower, hides, leaves}
 use Rattle.chunk.specs.declared.cut.Cut.{Cut}
 use Rattle.chunk.specs.declared.cut.Cut.the-variants.{At, Nowhere}
@@ -18,13 +19,13 @@ lower-swap (At a) (At b) (At x) = ap At (omega arith)
 module _ (place : ℕ) where
   -- a cut that hides a place still does after another, and so does the other
   pub lower-hides : (a b : Cut) → hides a place ≡ true → hides (lower a b) place ≡ true
-  lower-hides Nowhere b h = let z : _≡_ {A = ℕ} 0 1 = cc in absurd (omega arith)
+  lower-hides Nowhere b h = clash (cc)
   lower-hides (At a) Nowhere h = h
   lower-hides (At a) (At b) h = le-leb (min a b) place (omega (arith, leb-true a place h))
 
   pub lower-still : (a b : Cut) → hides b place ≡ true → hides (lower a b) place ≡ true
   lower-still Nowhere b h = h
-  lower-still (At a) Nowhere h = let z : _≡_ {A = ℕ} 0 1 = cc in absurd (omega arith)
+  lower-still (At a) Nowhere h = clash (cc)
   lower-still (At a) (At b) h = le-leb (min a b) place (omega (arith, leb-true b place h))
 
   -- and where neither does, the lower does not

@@ -4,12 +4,11 @@ use mathlib.Core.Bool.{Bool, true, false, _&&_}
 use mathlib.Core.Option.{Option, none, some}
 use mathlib.Core.Path.{_≡_, refl, ap, _∙_}
 use native.Mathlib.Numerals.{add-one}
-use native.Mathlib.Omega.{arith}
 use borrow.Author.Tests.{le-leb, lt-leb}
 use lib.Dec.{eqb, ltb, leb}
 use Rattle.page.specs.Choice.{pick}
 use Rattle.page.specs.Records.{isHeader, isData}
-use Rattle.page.proofs.Searching.{by-test}
+use Rattle.page.proofs.Searching.{clash, by-test}
 use Rattle.page.specs.declared.record.Record.{Record}
 use Rattle.page.specs.declared.number.PageNumber.{PageNumber}
 use Rattle.chunk.specs.Gather.{gather}
@@ -62,10 +61,10 @@ module _ (says : ℕ → Record) where
   -- what a scan found, as a page
   pub in-none : (r : Option ℕ) → newestIn says r ≡ Nothing → r ≡ none
   in-none none e = refl
-  in-none (some q) e = let z : _≡_ {A = ℕ} 0 1 = cc in absurd (omega arith)
+  in-none (some q) e = clash (cc)
 
   pub in-some : (r : Option ℕ) (p : PageNumber) (a : ℕ) → newestIn says r ≡ At p a → (r ≡ some (p .0)) × (ageOf says (p .0) ≡ a)
-  in-some none p a e = let z : _≡_ {A = ℕ} 0 1 = cc in absurd (omega arith)
+  in-some none p a e = clash (cc)
   in-some (some q) p a e = let h : q ≡ p .0 = cc in (ap some h, rw (← h) (at-age _ _ _ _ e))
 
   pub since-none : (o x : ℕ) → since says o x 0 ≡ 0

@@ -25,7 +25,7 @@ use Rattle.page.specs.declared.record.Record.{Record}
 use Rattle.page.specs.declared.record.Record.the-variants.{Header}
 use Rattle.page.specs.declared.record.Header as header
 use Rattle.page.proofs.Layouts.{and-left, and-right}
-use Rattle.page.proofs.Searching.{by-test, count-none, count-step}
+use Rattle.page.proofs.Searching.{clash, by-test, count-none, count-step}
 use Rattle.sort.specs.Arranged.{ascend, arranged}
 use Rattle.sort.proofs.Arranging.{arranged-none, arranged-behind, arranged-length}
 use Rattle.sort.proofs.Ascending.{In, Ascends, ascend-new, ascend-kept, ascend-back, ascend-ascends}
@@ -149,7 +149,7 @@ module _ (test : ℕ → Bool) (id : ℕ → ℕ) where
 
 -- a search that found page p
 at-some : (p : ℕ) (r : Option ℕ) → isAt p r ≡ true → r ≡ some p
-at-some p none e = let z : _≡_ {A = ℕ} 0 1 = cc in absurd (omega arith)
+at-some p none e = clash (cc)
 at-some p (some q) e = ap some (eqb-true q p e)
 
 module _ (says : ℕ → Record) where
@@ -224,7 +224,7 @@ module _ (says : ℕ → Record) where
       (λ u. omega (arith, since-one says o 0 n u zero-le))
       (λ u.
       ⊎-elim
-      (λ (k : p ≡ n). let z : true ≡ false = sym t ∙ ap (λ (q : ℕ). isOf o (says q)) k ∙ u in let y : _≡_ {A = ℕ} 0 1 = cc in omega arith)
+      (λ (k : p ≡ n). let z : true ≡ false = sym t ∙ ap (λ (q : ℕ). isOf o (says q)) k ∙ u in clash (cc))
       (λ (k : p < n). record-some o p n k t (sym (since-skip says o 0 n u) ∙ f))
       (eq-or-lt-of-le (le-of-suc-le-suc h)))
 

@@ -10,7 +10,7 @@ use native.Mathlib.Omega.{arith}
 use lib.Dec.{eqb, ltb, leb}
 use borrow.Author.Tests.{leb-true, leb-false, ltb-true, lt-ltb}
 use Rattle.page.specs.declared.record.Record.{Record}
-use Rattle.page.proofs.Searching.{by-test, pick-cases}
+use Rattle.page.proofs.Searching.{clash, by-test, pick-cases}
 use Rattle.page.proofs.Layouts.{and-left, and-right}
 use Rattle.chunk.specs.Records.{orderOf, ageOf, headerOf, fileSize, isGone, isFile}
 use Rattle.chunk.specs.Newest.{later, newest}
@@ -47,15 +47,15 @@ module _ (says : ℕ → Record) (test : Record → Bool) where
       (eq-or-lt-of-le (le-of-suc-le-suc h)))
     where
       no-later : (r : Option ℕ) → later says n r ≡ none → ⊥
-      no-later none k = let z : _≡_ {A = ℕ} 0 1 = cc in omega arith
-      no-later (some x) k = pick-cases (leb (ageOf says x) (ageOf says n)) _ _ none _ k (λ _ j. let z : _≡_ {A = ℕ} 0 1 = cc in omega arith) (λ _ j. let z : _≡_ {A = ℕ} 0 1 = cc in omega arith)
+      no-later none k = clash (cc)
+      no-later (some x) k = pick-cases (leb (ageOf says x) (ageOf says n)) _ _ none _ k (λ _ j. clash (cc)) (λ _ j. clash (cc))
 
   -- a search that finds a page: the newest that passes
   pub newest-found : (n p : ℕ) → newest says test n ≡ some p → IsNewest says test n p
   newest-found zero p e = absurd (never (sym (newest-none says test) ∙ e))
     where
       never : none ≡ some p → ⊥
-      never k = let z : _≡_ {A = ℕ} 0 1 = cc in omega arith
+      never k = clash (cc)
   newest-found (suc n) p e =
       pick-cases (test (says n)) _ _ (some p) _ (sym (newest-suc says test n) ∙ e)
       (λ t k. taken t (newest says test n) refl k (λ x i. newest-found n x i))
@@ -68,7 +68,7 @@ module _ (says : ℕ → Record) (test : Record → Bool) where
       })
     where
       both : test (says n) ≡ false → test (says n) ≡ true → ⊥
-      both a b = let z : _≡_ {A = ℕ} 0 1 = cc in omega arith
+      both a b = clash (cc)
 
       last : p ≡ n → test (says n) ≡ true → ((q : ℕ) → q < n → test (says q) ≡ true → ageOf says q ≤ ageOf says n) → IsNewest says test (suc n) p
       last i t f =
@@ -83,7 +83,7 @@ module _ (says : ℕ → Record) (test : Record → Bool) where
           ((x : ℕ) → newest says test n ≡ some x → IsNewest says test n x) → IsNewest says test (suc n) p
       taken t none i k ih =
           let j : p ≡ n = cc in
-          last j t (λ q h u. let m = newest-missing n i q h in absurd (let z : _≡_ {A = ℕ} 0 1 = cc in omega arith))
+          last j t (λ q h u. let m = newest-missing n i q h in absurd (clash (cc)))
       taken t (some x) i k ih =
           let f = ih x i in
           pick-cases (leb (ageOf says x) (ageOf says n)) _ _ (some p) _ k
@@ -134,7 +134,7 @@ module _ (says : ℕ → Record) (o h x base : ℕ) where
   lowest-cut-hides zero P c f = absurd (never (rw (cut-none says o h x) at c))
     where
       never : false ≡ true → ⊥
-      never e = let z : _≡_ {A = ℕ} 0 1 = cc in omega arith
+      never e = clash (cc)
   lowest-cut-hides (suc n) P c f =
       by-test (later-header n) P
       (λ t.
@@ -159,7 +159,7 @@ module _ (says : ℕ → Record) (o h x base : ℕ) where
           (λ v.
           let k = lower-leaves base (cutOf (eqb n h) (says n)) (lowestCut says o h x n) u v in
           let z : true ≡ false = sym c ∙ rw (cut-taken n t) k in
-          let y : _≡_ {A = ℕ} 0 1 = cc in absurd (omega arith))
+          clash (cc))
 
   pub hides-lowest-cut : (n p : ℕ) → Hides says o h x n base p → hides (lowestCut says o h x n) base ≡ true
   hides-lowest-cut zero p g = absurd (not-suc-le-zero (g .below))

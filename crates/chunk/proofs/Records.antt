@@ -7,11 +7,12 @@ use lib.Dec.{eqb}
 use borrow.Author.Tests.{eq-eqb, eqb-true}
 use Rattle.page.specs.declared.record.Record.{Record}
 use Rattle.page.specs.declared.record.Record.the-variants.{Other, Header, Data}
+use Rattle.page.proofs.Searching.{clash}
 use Rattle.chunk.specs.Records.{objectOf, isOf}
 
 -- a record of object o has that object
 pub of-object : (o : ℕ) (r : Record) → isOf o r ≡ true → objectOf r ≡ o
-of-object o Other h = let z : _≡_ {A = ℕ} 0 1 = cc in absurd (omega arith)
+of-object o Other h = clash (cc)
 of-object o (Header h) e = eqb-true _ _ e
 of-object o (Data d) e = eqb-true _ _ e
 

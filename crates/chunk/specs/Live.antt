@@ -6,6 +6,7 @@ use mathlib.Core.Option.{Option, none, some}
 use lib.Dec.{eqb}
 use Rattle.page.specs.Choice.{pick}
 use Rattle.page.specs.Search.{count}
+use Rattle.page.specs.Numbers.{pagesBefore}
 use Rattle.page.specs.Records.{isHeader}
 use Rattle.page.specs.declared.record.Record.{Record}
 use Rattle.sort.specs.Arranged.{arranged}
@@ -32,7 +33,7 @@ module _ (says : ℕ → Record) where
 
   -- whether page p is the first record of its object by page number: one such page for each object
   abbrev pub objectPage : ℕ → Bool
-  objectPage p = not (eqb (objectAt p) 0) && eqb (records says (objectAt p) p) 0
+  objectPage p = not (eqb (objectAt p) 0) && eqb (records says (objectAt p) (pagesBefore p)) 0
 
   module _ (n : ℕ) where
     -- how many distinct ids the records have

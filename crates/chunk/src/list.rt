@@ -142,7 +142,7 @@ fn objects_in(dump: &[u8], g: Geometry, pages: u32) -> u32
         if id == 0 {
             continue;
         }
-        if records_since(dump, g, n.0, ObjectId(id), 0) != 0 {
+        if records_since(dump, g, n.pages_before(), ObjectId(id), 0) != 0 {
             continue;
         }
         count += 1;

@@ -23,19 +23,19 @@ use Rattle.index.specs.Requests.{Request, Given, sizeSeen, chunkSeen, an
 use Rattle.index.specs.declared.additions.Added.the-variants.{Done}
 
 -- page p is one of the records of a chain
-abbrev pub OnChain : ℕ → Trace → Type 0
+abbrev pub OnChain : (page : ℕ) → Trace → Type 0
 OnChain p clean = ⊥
 OnChain p broken = ⊥
 OnChain p (rec q rest) = (p ≡ q) ⊎ OnChain p rest
 
 -- a chain leads strictly from newer to older records, all older than an age, and no link of it is damaged
-abbrev pub Falling : (ℕ → ℕ) → ℕ → Trace → Type 0
+abbrev pub Falling : (age : ℕ → ℕ) (bound : ℕ) → Trace → Type 0
 Falling age b clean = Unit {0}
 Falling age b broken = ⊥
 Falling age b (rec q rest) = (age q < b) × Falling age (age q) rest
 
 -- the words after an accepted start, lent the first w of the memory c
-abbrev pub started : Geometry → List ℕ → ℕ → List ℕ → List ℕ
+abbrev pub started : Geometry → (dump : List ℕ) (words : ℕ) (memory : List ℕ) → List ℕ
 started g dump w c = startOf g dump (take w c) .cells ++ drop w c
 
 module _ (g : Geometry) (dump c : List ℕ) (rs : List Request) where

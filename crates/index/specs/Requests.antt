@@ -34,22 +34,22 @@ use Rattle.index.specs.declared.additions.Added.the-variants.{Done, Refu
 
 -- a request: its K, how many words it is lent, and what it asks
 pub data Request : Type 0 where
-  start : ℕ → ℕ → Request
-  add : ℕ → ℕ → ℕ → Request
-  size : ℕ → ℕ → ℕ → Request
-  chunk : ℕ → ℕ → ℕ → ℕ → Request
-  read : ℕ → ℕ → ℕ → ℕ → List ℕ → Request
-  part : ℕ → ℕ → ℕ → ℕ → Request
-  list : ℕ → ℕ → List ℕ → Request
+  start : (k words : ℕ) → Request
+  add : (k words page : ℕ) → Request
+  size : (k words object : ℕ) → Request
+  chunk : (k words object chunk : ℕ) → Request
+  read : (k words object chunk : ℕ) (buffer : List ℕ) → Request
+  part : (k words object chunk : ℕ) → Request
+  list : (k words : ℕ) (buffer : List ℕ) → Request
 
 -- an answer; a read's and a listing's have the buffer afterwards, a borrowed part's its bytes
 pub data Answer : Type 0 where
   addition : Added → Answer
   aSize : Sized → Answer
   aChunk : Looked → Answer
-  aRead : Looked → List ℕ → Answer
-  aPart : List ℕ → Answer
-  aList : Listed → List ℕ → Answer
+  aRead : Looked → (buffer : List ℕ) → Answer
+  aPart : (bytes : List ℕ) → Answer
+  aList : Listed → (buffer : List ℕ) → Answer
 
 -- that an answer is this refusal; a borrowed part's bytes carry none
 abbrev pub Refuses : Refusal → Answer → Type 0
@@ -73,20 +73,20 @@ Given r [] = ⊥
 Given r (a ∷ rest) = Refuses r a ⊎ Given r rest
 
 -- what a listing of ids gives, by its answer
-abbrev pub listAnswer : List ℕ → List ℕ → Listed → Answer
+abbrev pub listAnswer : (buffer ids : List ℕ) → Listed → Answer
 listAnswer buffer ids a = aList a (wordsBy ids buffer a)
 
 module _ (g : Geometry) (dump : List ℕ) where
   -- what a read and a borrowed part give of a chunk lookup
-  abbrev pub readAnswer : ℕ → List ℕ → Looked → Answer
+  abbrev pub readAnswer : (k : ℕ) (buffer : List ℕ) → Looked → Answer
   readAnswer k buffer a = aRead (readBy (length buffer) a) (bufferBy (inBlocks g k) dump buffer (readBy (length buffer) a))
 
-  abbrev pub partAnswer : ℕ → Looked → Answer
+  abbrev pub partAnswer : (k : ℕ) → Looked → Answer
   partAnswer k a = aPart (partBy (inBlocks g k) dump a)
 
   -- OUR CALLS, by the definitions that their contracts equal, on a memory of words of which each is lent the first so many
 
-  unfoldable pub answerOn : List ℕ → Request → Answer
+  unfoldable pub answerOn : (memory : List ℕ) → Request → Answer
   answerOn c (start k w) = addition (startOf (inBlocks g k) dump (take w c) .answer)
   answerOn c (add k w p) = addition (addOf (inBlocks g k) dump (take w c) p .answer)
   answerOn c (size k w o) = aSize (sizeFrom (inBlocks g k) dump (take w c) o)
@@ -95,7 +95,7 @@ module _ (g : Geometry) (dump : List ℕ) where
   answerOn c (part k w o n) = partAnswer k (chunkFrom (inBlocks g k) dump (take w c) o n)
   answerOn c (list k w buffer) = listAnswer buffer (idsFrom (inBlocks g k) dump (take w c)) (listFrom (inBlocks g k) dump (take w c) (length buffer))
 
-  unfoldable pub wordsAfter : List ℕ → Request → List ℕ
+  unfoldable pub wordsAfter : (memory : List ℕ) → Request → List ℕ
   wordsAfter c (start k w) = startOf (inBlocks g k) dump (take w c) .cells ++ drop w c
   wordsAfter c (add k w p) = addOf (inBlocks g k) dump (take w c) p .cells ++ drop w c
   wordsAfter c (size k w o) = c
@@ -105,11 +105,11 @@ module _ (g : Geometry) (dump : List ℕ) where
   wordsAfter c (list k w buffer) = c
 
   -- the answers to a list of requests, and the words after it
-  unfoldable pub answersOn : List ℕ → List Request → List Answer
+  unfoldable pub answersOn : (memory : List ℕ) → List Request → List Answer
   answersOn c [] = []
   answersOn c (r ∷ rs) = answerOn c r ∷ answersOn (wordsAfter c r) rs
 
-  unfoldable pub wordsOf : List ℕ → List Request → List ℕ
+  unfoldable pub wordsOf : (memory : List ℕ) → List Request → List ℕ
   wordsOf c [] = c
   wordsOf c (r ∷ rs) = wordsOf (wordsAfter c r) rs
 
@@ -117,29 +117,29 @@ module _ (g : Geometry) (dump : List ℕ) where
 
   module _ (room : ℕ) where
     -- a dump of a named layout that is refused, an index slice that is too short, and then the rest, by the number of pages
-    abbrev pub unlessRefused : {A : Type 0} → (Refusal → A) → (ℕ → A) → ℕ → ℕ → A
+    abbrev pub unlessRefused : {A : Type 0} (refuse : Refusal → A) (answer : ℕ → A) (k words : ℕ) → A
     unlessRefused refuse answer k w =
         onPages refuse (λ n. pick (ltb (min w room) (cellsFor n)) (refuse ShortIndex) (answer n)) (openedOf (inBlocks g k) (length dump))
 
     -- an addition of page p of n: BadPage, AlreadyAdded where it has been added, else done
-    abbrev pub addedBy : (ℕ → Bool) → ℕ → ℕ → Added
+    abbrev pub addedBy : (done : ℕ → Bool) (page pages : ℕ) → Added
     addedBy done p n = pick (leb n p) (Refused BadPage) (pick (done p) (Refused AlreadyAdded) Done)
 
     -- demand 2's lookups, pages not yet added read as blank
-    abbrev pub sizeSeen : (ℕ → Bool) → ℕ → ℕ → Sized
+    abbrev pub sizeSeen : (done : ℕ → Bool) (object pages : ℕ) → Sized
     sizeSeen done o n = sizedOf (seenSays (recordAt g dump) done) o n (g .layout .«data»)
 
-    abbrev pub chunkSeen : (ℕ → Bool) → ℕ → ℕ → ℕ → Looked
+    abbrev pub chunkSeen : (done : ℕ → Bool) (object chunk pages : ℕ) → Looked
     chunkSeen done o c n = lookedOf (seenSays (recordAt g dump) done) o n (g .layout .«data») c
 
-    abbrev pub lookedBy : (ℕ → Bool) → ℕ → ℕ → ℕ → ℕ → Looked
+    abbrev pub lookedBy : (done : ℕ → Bool) (k words object chunk : ℕ) → Looked
     lookedBy done k w o c = unlessRefused (λ r. looked.Refused r 0 0) (chunkSeen done o c) k w
 
     -- the live objects, pages not yet added read as blank
-    abbrev pub liveSeen : (ℕ → Bool) → ℕ → List ℕ
+    abbrev pub liveSeen : (done : ℕ → Bool) (pages : ℕ) → List ℕ
     liveSeen done n = liveIds (seenSays (recordAt g dump) done) n
 
-    unfoldable pub answerBy : (ℕ → Bool) → Request → Answer
+    unfoldable pub answerBy : (done : ℕ → Bool) → Request → Answer
     answerBy done (start k w) = addition (unlessRefused Refused (λ n. Done) k w)
     answerBy done (add k w p) = addition (unlessRefused Refused (addedBy done p) k w)
     answerBy done (size k w o) = aSize (unlessRefused (λ r. sized.Refused r 0) (sizeSeen done o) k w)
@@ -150,7 +150,7 @@ module _ (g : Geometry) (dump : List ℕ) where
         unlessRefused (λ r. aList (listed.Refused r 0) buffer) (λ n. listAnswer buffer (liveSeen done n) (listedBy (length buffer) (liveSeen done n))) k w
 
     -- the pages added: an accepted start forgets all; an addition to which no refusal ordered before IndexDamaged applies adds its page
-    unfoldable pub addedAfter : (ℕ → Bool) → Request → ℕ → Bool
+    unfoldable pub addedAfter : (done : ℕ → Bool) → Request → ℕ → Bool
     addedAfter done (start k w) = unlessRefused (λ r. done) (λ n. noneAdded) k w
     addedAfter done (add k w p) = unlessRefused (λ r. done) (λ n. pick (leb n p) done (with p done)) k w
     addedAfter done (size k w o) = done
@@ -159,10 +159,10 @@ module _ (g : Geometry) (dump : List ℕ) where
     addedAfter done (part k w o c) = done
     addedAfter done (list k w buffer) = done
 
-    unfoldable pub answersBy : (ℕ → Bool) → List Request → List Answer
+    unfoldable pub answersBy : (done : ℕ → Bool) → List Request → List Answer
     answersBy done [] = []
     answersBy done (r ∷ rs) = answerBy done r ∷ answersBy (addedAfter done r) rs
 
-    unfoldable pub addedOf : (ℕ → Bool) → List Request → ℕ → Bool
+    unfoldable pub addedOf : (done : ℕ → Bool) → List Request → ℕ → Bool
     addedOf done [] = done
     addedOf done (r ∷ rs) = addedOf (addedAfter done r) rs

@@ -6,8 +6,7 @@ use mathlib.Core.List.{List}
 use lib.ListN.{length}
 use lib.Dec.{eqb, ltb, leb}
 use Rattle.page.specs.Choice.{pick}
-use Rattle.page.specs.Records.{isHeader}
-use Rattle.page.specs.Records.{recordOf, recordAt}
+use Rattle.page.specs.Records.{isHeader, recordOf, recordAt}
 use Rattle.page.specs.Lengths.{openedOf}
 use Rattle.page.specs.Numbers.{badObject, badChunk}
 use Rattle.page.specs.declared.record.Record.{Record}

@@ -26,7 +26,7 @@ use Rattle.page.specs.declared.tags.Claim.{Claim}
 use Rattle.page.specs.declared.tags.Claim.the-variants.{Blank, Foreign, Damaged, Header, Data}
 use Rattle.page.proofs.tags.Claim.{the-type}
 use Rattle.page.proofs.Arms.{allBut, before}
-use Rattle.page.proofs.Searching.{by-test, count-step, count-none, count-le}
+use Rattle.page.proofs.Searching.{clash, by-test, count-step, count-none, count-le}
 use Rattle.page.proofs.Layouts.{product-pos}
 
 -- a header, by which the number of its variant is named: the good variants are the last two
@@ -119,7 +119,7 @@ record Bears (s : ℕ) (c : Claim) : Type 0 where
   own : isGood c ≡ true → sequenceOf c ≡ s
 
 not-good-bears : (s : ℕ) (c : Claim) → isGood c ≡ false → Bears s c
-not-good-bears s c e = record { own = λ g. let z : _≡_ {A = ℕ} 0 1 = cc in absurd (omega arith) }
+not-good-bears s c e = record { own = λ g. clash (cc) }
 
 by-way : (s : ℕ) (b : Bool) {x y : Claim} → Bears s x → Bears s y → Bears s (pick b x y)
 by-way s true p q = p

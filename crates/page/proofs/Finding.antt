@@ -15,7 +15,7 @@ use Rattle.page.specs.declared.layout.Layout.{Layout}
 use Rattle.page.specs.declared.layout.Named.{Named}
 use Rattle.page.specs.declared.layout.Named.the-variants as named
 use Rattle.page.specs.declared.refusal.Refusal.the-variants.{BadLayout, BadLength, NoLayout}
-use Rattle.page.proofs.Searching.{pick-cases, by-test}
+use Rattle.page.proofs.Searching.{clash, pick-cases, by-test}
 use Rattle.page.proofs.Leading.{winning, highest-bounds, won-named, won-refused}
 
 -- what the pages of a candidate score, and whether it fits
@@ -64,12 +64,12 @@ pub record Found (dump : List ℕ) (k : ℕ) (l : Layout) : Type 0 where
 
 pub found-is : (dump : List ℕ) (k : ℕ) (l : Layout) → findOf dump k ≡ named.Layout l → Found dump k l
 found-is dump k l e =
-    let w = past-refusals dump k (named.Layout l) (λ z. let n : _≡_ {A = ℕ} 0 1 = cc in omega arith) (λ z. let n : _≡_ {A = ℕ} 0 1 = cc in omega arith) e in
+    let w = past-refusals dump k (named.Layout l) (λ z. clash (cc)) (λ z. clash (cc)) e in
     let score = candidateScore dump k in
     let o = winning score in
     let t = o .won in
     by-test (eqb (o .best) 0) _
-    (λ z. let r = won-refused t (eqb-true (o .best) 0 z) in let n : _≡_ {A = ℕ} 0 1 = cc in absurd (omega arith))
+    (λ z. let r = won-refused t (eqb-true (o .best) 0 z) in clash (cc))
     (λ z.
     let q = eqb-false (o .best) 0 z in
     let some : 0 < o .best = omega arith in
@@ -87,9 +87,9 @@ found-is dump k l e =
 -- where NoLayout is given, no candidate has a score
 pub none-found : (dump : List ℕ) (k : ℕ) → findOf dump k ≡ named.Refused NoLayout → (c : ℕ) → c < layouts → candidateScore dump k c ≡ 0
 none-found dump k e c h =
-    let w = past-refusals dump k (named.Refused NoLayout) (λ z. let n : _≡_ {A = ℕ} 0 1 = cc in omega arith) (λ z. let n : _≡_ {A = ℕ} 0 1 = cc in omega arith) e in
+    let w = past-refusals dump k (named.Refused NoLayout) (λ z. clash (cc)) (λ z. clash (cc)) e in
     let o = winning (candidateScore dump k) in
     let b = highest-bounds (candidateScore dump k) layouts c h in
     by-test (eqb (o .best) 0) _
     (λ z. let q = eqb-true (o .best) 0 z in omega (arith, o .won .top))
-    (λ z. let q = eqb-false (o .best) 0 z in let r = won-named (o .won) (omega arith) in let n : _≡_ {A = ℕ} 0 1 = cc in absurd (omega arith))
+    (λ z. let q = eqb-false (o .best) 0 z in let r = won-named (o .won) (omega arith) in clash (cc))

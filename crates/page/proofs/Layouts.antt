@@ -11,7 +11,7 @@ use lib.ListN.{getD}
 use borrow.Author.Tests.{leb-true, ltb-true, eqb-true}
 use Rattle.page.specs.Layouts.{headerBytes, tagLength, mostBytes, pageLen, layoutOf, layoutAt, dataSizes, spareSizes, tagOffsets, hasSizes, numberOfSizes, numberOf, roomy}
 use Rattle.page.specs.declared.layout.Layout.{Layout}
-use Rattle.page.proofs.Searching.{first-passes}
+use Rattle.page.proofs.Searching.{clash, first-passes}
 
 pub and-left : (a b : Bool) → a && b ≡ true → a ≡ true
 and-left true b e = refl
@@ -19,7 +19,7 @@ and-left false b e = e
 
 pub and-right : (a b : Bool) → a && b ≡ true → b ≡ true
 and-right true b e = e
-and-right false b e = let z : _≡_ {A = ℕ} 0 1 = cc in absurd (omega arith)
+and-right false b e = clash (cc)
 
 -- the one condition on sizes, as facts
 pub record Roomy (l : Layout) : Type 0 where

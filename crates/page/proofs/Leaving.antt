@@ -20,7 +20,7 @@ use Rattle.page.specs.declared.find.Gain.{Gain}
 use Rattle.page.specs.declared.geometry.Geometry.{Geometry}
 use Rattle.page.specs.declared.tags.Claim.{Claim}
 use Rattle.page.specs.declared.tags.Claim.the-variants.{Blank, Foreign, Damaged, Header, Data}
-use Rattle.page.proofs.Searching.{by-test, pick-cases, count-step, count-none, count-le}
+use Rattle.page.proofs.Searching.{clash, by-test, pick-cases, count-step, count-none, count-le}
 use Rattle.page.proofs.Lengths.{length-most}
 use Rattle.page.proofs.Blocks.{Through, through-none, through-on, whole-pages}
 
@@ -140,7 +140,7 @@ module _ {said : ℕ → Claim} {k pages next score marked : ℕ} (t : Through s
       let s : score ≡ scoreOf said k pages = t .scored ∙ rw e in
       let m : marked ≡ markedOf said pages = t .counted ∙ rw e in
       pick-cases (ltb (score + (pages - next)) need) true (ltb (2 * score + (pages - next)) marked) false _ won
-      (λ _ z. let n : _≡_ {A = ℕ} 0 1 = cc in absurd (omega arith))
+      (λ _ z. clash (cc))
       (λ low high.
       let a : need ≤ score + (pages - next) = ltb-false _ _ low in
       let b : marked ≤ 2 * score + (pages - next) = ltb-false _ _ high in

@@ -20,7 +20,7 @@ use Rattle.page.specs.Find.{candidateAt, candidateScore, findOf}
 use Rattle.page.specs.Reading.{inSpare, inTags, tagsOfCandidate, isRead, SameClaims, SameRead}
 use Rattle.page.specs.declared.geometry.Geometry.{Geometry}
 use Rattle.page.specs.declared.layout.Layout.{Layout}
-use Rattle.page.proofs.Searching.{by-test}
+use Rattle.page.proofs.Searching.{clash, by-test}
 use Rattle.page.proofs.Layouts.{roomy-facts}
 use Rattle.page.proofs.Lengths.{page-within}
 use Rattle.page.proofs.Naming.{beyond}
@@ -130,7 +130,7 @@ module _ {a b : List ℕ} {k : ℕ} (s : SameRead a b k) where
 -- so that one byte that is not read may be any other
 pub byte-unread : (dump : List ℕ) (k at v : ℕ) → isRead k (length dump) at ≡ false → findOf (set dump at v) k ≡ findOf dump k
 byte-unread dump k at v h =
-    let other : (j : ℕ) → isRead k (length dump) j ≡ true → j ≡ at → ⊥ = λ j r e. let z : true ≡ false = sym (rw e at r) ∙ h in let n : _≡_ {A = ℕ} 0 1 = cc in absurd (omega arith) in
+    let other : (j : ℕ) → isRead k (length dump) j ≡ true → j ≡ at → ⊥ = λ j r e. let z : true ≡ false = sym (rw e at r) ∙ h in clash (cc) in
     sym (finding-reads-tags (record { long = sym (length-set dump at v); bytes = λ j _ r. sym (getD-set-other dump at j v 0 (other j r)) }))
 
 -- nothing is counted where nothing passes

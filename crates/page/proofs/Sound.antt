@@ -29,7 +29,7 @@ use Rattle.page.proofs.record.Record as rec
 use Rattle.page.specs.declared.header.Asked.the-variants as asked
 use Rattle.page.proofs.kind.Kind.{the-type}
 use Rattle.page.proofs.Arms.{allBut}
-use Rattle.page.proofs.Searching.{by-test, pick-cases}
+use Rattle.page.proofs.Searching.{clash, by-test, pick-cases}
 
 -- every field that is bytes lies in the header
 pub text-fits : (f : Text) → textPlace f + textLength f ≤ headerBytes
@@ -73,8 +73,8 @@ module _ (g : Geometry) (dump : List ℕ) (i : ℕ) where
 
 asked-by : (p : Placed) (k : Kind) → askedBy (toldIn p k) ≡ asked.Header → isHeader k ≡ true
 unfolding askedBy toldIn
-asked-by (placed.Refused r) k e = let z : _≡_ {A = ℕ} 0 1 = cc in absurd (omega arith)
-asked-by placed.Here k e = pick-cases (isHeader k) _ _ _ _ e (λ t _. t) (λ _ q. let z : _≡_ {A = ℕ} 0 1 = cc in absurd (omega arith))
+asked-by (placed.Refused r) k e = clash (cc)
+asked-by placed.Here k e = pick-cases (isHeader k) _ _ _ _ e (λ t _. t) (λ _ q. clash (cc))
 
 -- a page whose fields can be read is a header, and lies in the dump
 pub asked-in : (g : Geometry) (dump : List ℕ) (i : ℕ) → askedOf g dump i ≡ asked.Header → pageIn g (length dump) i ≡ true

@@ -22,6 +22,7 @@ use Rattle.page.specs.declared.refusal.Refusal.{Refusal}
 use Rattle.page.proofs.Layouts.{roomy-facts}
 use Rattle.page.proofs.Lengths.{page-within}
 use Rattle.page.proofs.Sound.{asked-in, text-fits}
+use Rattle.page.proofs.Searching.{clash}
 
 -- a part of a part, counted from the list's begin
 pub part-of-part : (s : List ℕ) (a n b m : ℕ) → b + m ≤ n → take m (drop b (take n (drop a s))) ≡ take m (drop (a + b) s)
@@ -35,11 +36,11 @@ part-of-part s a n b m h =
 header-asked : (a : Asked) (v g : Fields) → headedBy a v ≡ headed.Fields g → a ≡ asked.Header
 unfolding headedBy
 header-asked asked.Header v g e = refl
-header-asked (asked.Refused r) v g e = let z : _≡_ {A = ℕ} 0 1 = cc in absurd (omega arith)
+header-asked (asked.Refused r) v g e = clash (cc)
 
 no-text : (a : Asked) (v : Fields) (r : Refusal) (s : List ℕ) → headedBy a v ≡ headed.Refused r → textBy a s ≡ []
 unfolding headedBy textBy
-no-text asked.Header v r s e = let z : _≡_ {A = ℕ} 0 1 = cc in absurd (omega arith)
+no-text asked.Header v r s e = clash (cc)
 no-text (asked.Refused q) v r s e = refl
 
 -- a page whose fields were given lies in the dump

@@ -1,4 +1,4 @@
--- Object ids and chunk numbers: the limits of document 01's page rules and refusal table.
+-- Object ids and chunk numbers: the limits of document 01's page rules and refusal table; and what a page number counts.
 use Prim.Native.Nat.{ℕ}
 use mathlib.Core.Bool.{Bool, _||_}
 use lib.Dec.{eqb, ltb}
@@ -18,3 +18,7 @@ badObject id = eqb id 0 || ltb mostObject id
 -- a number that no chunk has: 0, or above the largest
 unfoldable pub badChunk : ℕ → Bool
 badChunk n = eqb n 0 || ltb mostChunk n
+
+-- how many pages stand before page p: those from 0 to p - 1
+abbrev pub pagesBefore : (page : ℕ) → ℕ
+pagesBefore p = p

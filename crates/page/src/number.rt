@@ -1,6 +1,6 @@
-// The three kinds of number of document 01, which do not stand in for each other.
+// The three kinds of number of document 01, which stand neither for each other nor for a count.
 ghost use mathlib.Core.Path.{_≡_};
-ghost use Rattle.page.specs.Numbers.{badObject, badChunk};
+ghost use Rattle.page.specs.Numbers.{badObject, badChunk, pagesBefore};
 
 // The number of an object.
 pub struct ObjectId(pub u32);
@@ -38,5 +38,14 @@ impl ChunkNumber {
             return true;
         }
         ChunkNumber::MOST < self.0
+    }
+}
+
+impl PageNumber {
+    // How many pages stand before it.
+    pub fn pages_before(self) -> u32
+        ensures { λ r. ⌜ r ≡ pagesBefore (self .0) ⌝ }
+    {
+        self.0
     }
 }

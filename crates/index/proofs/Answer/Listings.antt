@@ -25,7 +25,7 @@ use Rattle.page.specs.declared.record.Record.the-variants.{Other, Header, Data}
 use Rattle.page.specs.declared.refusal.Refusal.the-variants.{ShortBuffer, ShortIndex, IndexDamaged}
 use Rattle.page.specs.declared.refusal.Refusal.{Refusal}
 use Rattle.page.proofs.Arms.{allBut}
-use Rattle.page.proofs.Searching.{by-test, pick-cases}
+use Rattle.page.proofs.Searching.{clash, by-test, pick-cases}
 use Rattle.chunk.specs.Records.{ageOf, isOf, headerOf, isGone}
 use Rattle.chunk.specs.Newest.{newestHeader}
 use Rattle.chunk.specs.Live.{liveIds, objectCount}
@@ -59,15 +59,11 @@ use Rattle.index.proofs.Sorted.Rules.{Listed, newest-none, newest-at}
 use Rattle.index.proofs.Held.Calls.{held-in, held-of}
 use Rattle.index.proofs.Answer.Walked.{added-listed}
 
--- a list with a record is not empty, and makes a chain with one
-some-length : (x : ℕ) (L : List ℕ) → In x L → 0 < length L
-some-length x [] i = absurd i
-some-length x (q ∷ L) i = omega arith
-
+-- a list with a record makes a chain with one
 some-chain : (x : ℕ) (L : List ℕ) → In x L → clean ≡ fromList L → ⊥
 unfolding fromList
 some-chain x [] i e = i
-some-chain x (q ∷ L) i e = let z : _≡_ {A = ℕ} 0 1 = cc in omega arith
+some-chain x (q ∷ L) i e = clash (cc)
 
 -- ---- on any cells
 
@@ -191,14 +187,14 @@ module _ (says : ℕ → Record) (P : ℕ) (c : List ℕ) (n : ℕ) where
         rw (le-ltb (length c) (cellsFor n) enough)
         (pick-cases (ltb 0 (count (damagedSlot ask.Live says P c n) n)) _ _ _ _ e
         (λ t q. let same : IndexDamaged ≡ r = cc in rw (t, same))
-        (λ t q. let z : _≡_ {A = ℕ} 0 1 = cc in absurd (omega arith)))
+        (λ t q. clash (cc)))
 
     pub list-counted : (room m : ℕ) → tallyIn ask.Live says P c n ≡ tallied.Count m → Counted room m
     unfolding tallyIn listIn slotIds
     list-counted room m e =
         rw (le-ltb (length c) (cellsFor n) enough, listed-count room _ _ (ids-length (askedSlot ask.Live says P c n) (keys c) n))
         (pick-cases (ltb 0 (count (damagedSlot ask.Live says P c n) n)) _ _ _ _ e
-        (λ t q. let z : _≡_ {A = ℕ} 0 1 = cc in absurd (omega arith))
+        (λ t q. clash (cc))
         (λ t q. let same : m ≡ count (askedSlot ask.Live says P c n) n = cc in (same, rw (t, same))))
 
 -- ---- on the chain of a list of records

@@ -14,7 +14,7 @@ use Rattle.page.specs.declared.record.Record.{Record}
 use Rattle.page.specs.declared.geometry.Geometry.{Geometry}
 use Rattle.page.specs.declared.geometry.Opened.the-variants.{Pages}
 use Rattle.page.proofs.Searching.{by-test}
-use Rattle.page.proofs.Within.{object-within, chunk-within}
+use Rattle.page.proofs.Within.{object-within}
 use Rattle.chunk.specs.Records.{ageOf}
 use Rattle.chunk.specs.Newest.{records}
 use Rattle.chunk.specs.Lookups.{sizedOf, lookedOf}

@@ -14,7 +14,7 @@ use Rattle.page.specs.Choice.{pick}
 use Rattle.page.specs.Records.{isHeader}
 use Rattle.page.proofs.Searching.{by-test}
 use Rattle.page.specs.declared.record.Record.{Record}
-use Rattle.page.specs.declared.record.Record.the-variants.{Other, Header, Data}
+use Rattle.page.specs.declared.record.Record.the-variants.{Header}
 use Rattle.page.specs.declared.refusal.Refusal.the-variants.{NoObject, NoHeader}
 use Rattle.chunk.specs.Records.{ageOf, isCopy, baseOf}
 use Rattle.chunk.specs.Newest.{newestCopy, since, records}

@@ -16,7 +16,7 @@ use Rattle.page.specs.declared.record.Data.{Data}
 use Rattle.page.specs.declared.record.Record.{Record}
 use Rattle.page.specs.declared.record.Record.the-variants as said
 use Rattle.page.proofs.Layouts.{and-left, and-right}
-use Rattle.page.proofs.Searching.{by-test}
+use Rattle.page.proofs.Searching.{clash, by-test}
 use Rattle.chunk.specs.Records.{objectOf, sequenceOf, ageOf}
 use Rattle.index.specs.Cells.{word, linkAt, linkTo}
 use Rattle.index.specs.Chains.{objects, isRecordOf, Lead, End, Damaged, To, roleOf, stepOf, stepAt, Trace, clean, broken, rec, by, leadOf, traceBy, trace}
@@ -151,8 +151,8 @@ module _ (n : ℕ) (obj age : ℕ → ℕ) (o : ℕ) (c : List ℕ) where
       where
         go : (m : Lead) → Told m → w < 2
         go End k = k .1
-        go Damaged k = let z : _≡_ {A = ℕ} 0 1 = cc in absurd (omega arith)
-        go (To q a) k = let f = k .2 in let z : _≡_ {A = ℕ} 0 1 = cc in absurd (omega arith)
+        go Damaged k = clash (cc)
+        go (To q a) k = let f = k .2 in clash (cc)
 
     -- a chain that goes on has a link to a record, and goes on from there
     pub trace-inverse :
@@ -162,8 +162,8 @@ module _ (n : ℕ) (obj age : ℕ → ℕ) (o : ℕ) (c : List ℕ) where
     trace-inverse q t e = go (leadOf n obj age o b w) (told (leadOf n obj age o b w) refl)
       where
         go : (m : Lead) → Told m → Leads n obj age o b w q × (trace n obj age c o (age q) (word c (linkAt q)) ≡ t)
-        go End k = let f = k .0 in let z : _≡_ {A = ℕ} 0 1 = cc in absurd (omega arith)
-        go Damaged k = let z : _≡_ {A = ℕ} 0 1 = cc in absurd (omega arith)
+        go End k = let f = k .0 in clash (cc)
+        go Damaged k = clash (cc)
         go (To p a) k =
             let f = k .2 in
             let same : p .0 ≡ q = cc in
@@ -204,14 +204,14 @@ module _ (says : ℕ → Record) (n o : ℕ) (c : List ℕ) (b w : ℕ) where
 
 -- what a record is by its role: data, or else a header
 pub role-data : (r : Record) (d : Data) → role.Data d ≡ roleOf r → r ≡ said.Data d
-role-data said.Other d e = let z : _≡_ {A = ℕ} 0 1 = cc in absurd (omega arith)
-role-data (said.Header h) d e = let z : _≡_ {A = ℕ} 0 1 = cc in absurd (omega arith)
+role-data said.Other d e = clash (cc)
+role-data (said.Header h) d e = clash (cc)
 role-data (said.Data k) d e = cc
 
 pub role-header : (r : Record) → 0 < objectOf r → role.Header ≡ roleOf r → isHeader r ≡ true
 role-header said.Other s e = absurd (omega arith)
 role-header (said.Header h) s e = refl
-role-header (said.Data d) s e = let z : _≡_ {A = ℕ} 0 1 = cc in absurd (omega arith)
+role-header (said.Data d) s e = clash (cc)
 
 -- a step to a page of the dump that is a record goes by its object and its sequence
 pub step-to :

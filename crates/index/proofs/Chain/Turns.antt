@@ -12,7 +12,7 @@ use borrow.Author.Tests.{eq-eqb, ne-eqb, lt-ltb, le-ltb, ltb-true}
 use Rattle.page.specs.Choice.{pick}
 use Rattle.page.specs.Records.{isHeader}
 use Rattle.page.specs.Search.{count, more}
-use Rattle.page.proofs.Searching.{by-test, count-none, count-le}
+use Rattle.page.proofs.Searching.{clash, by-test, count-none, count-le}
 use Rattle.page.specs.declared.number.PageNumber.{PageNumber}
 use Rattle.page.specs.declared.record.Record.{Record}
 use Rattle.page.specs.declared.refusal.Refusal.the-variants.{NoObject, NoHeader, PastEnd, IndexDamaged}
@@ -180,6 +180,6 @@ unfolding chunkFile
 chunk-live says P c size m t k h v g u e =
     file-cases k h v
     (λ f. f ≡ file.Header g u → chunkFile says P c size m t f ≡ pick (leb size (baseOf P c)) (looked.Refused PastEnd v 0) (copyFrom says P c h (shownOf P c size) v t m))
-    (λ r d. let z : _≡_ {A = ℕ} 0 1 = cc in absurd (omega arith))
+    (λ r d. clash (cc))
     (λ d. refl)
     e

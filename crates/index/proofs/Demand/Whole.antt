@@ -16,7 +16,7 @@ use Rattle.page.specs.declared.geometry.Opened.{Opened}
 use Rattle.page.specs.declared.geometry.Opened.the-variants as opened
 use Rattle.page.specs.declared.refusal.Refusal.{Refusal}
 use Rattle.page.specs.declared.refusal.Refusal.the-variants.{ShortIndex}
-use Rattle.page.proofs.Searching.{by-test}
+use Rattle.page.proofs.Searching.{clash, by-test}
 use Rattle.page.proofs.Lengths.{opened-facts, opened-some}
 use Rattle.chunk.specs.Records.{ageOf}
 use Rattle.chunk.specs.Newest.{records}
@@ -97,7 +97,7 @@ module _ (g : Geometry) (dump : List ℕ) (w : ℕ) (c : List ℕ) where
   accepted-start A = go (openedOf g (length dump)) refl
     where
       never : (r : Refusal) → Refused r ≡ Done → A
-      never r e = let z : _≡_ {A = ℕ} 0 1 = cc in absurd (omega arith)
+      never r e = clash (cc)
 
       enough : (m : ℕ) → openedOf g (length dump) ≡ opened.Pages m → m ≡ pageCount g (length dump) → cellsFor m ≤ length (take w c)
           → (openedOf g (length dump) ≡ opened.Pages (pageCount g (length dump)) → cellsFor (pageCount g (length dump)) ≤ length (take w c) → A) → A

@@ -16,7 +16,7 @@ use lib.Dec.{eqb}
 use borrow.Author.Tests.{eqb-true, ne-eqb}
 use Rattle.page.specs.Search.{count}
 use Rattle.page.specs.declared.refusal.Refusal.the-variants.{AlreadyAdded}
-use Rattle.page.proofs.Searching.{by-test}
+use Rattle.page.proofs.Searching.{clash, by-test}
 use Rattle.sort.proofs.Ascending.{In}
 use Rattle.index.specs.Cells.{cellsFor, word, linkAt, linkTo, marked, keyAt, firstAt, keys, isMarked, last, linked, claimed}
 use Rattle.index.specs.Slots.{slot, firstIn, first, used}
@@ -43,7 +43,7 @@ answerTo false = Done
 
 or-left : (t u : Bool) → (t || u) ≡ true → u ≡ false → t ≡ true
 or-left true u e f = refl
-or-left false u e f = let z : _≡_ {A = ℕ} 0 1 = cc in absurd (omega arith)
+or-left false u e f = clash (cc)
 
 module _
     (n : ℕ) (obj age : ℕ → ℕ)

@@ -17,6 +17,7 @@ use Rattle.page.specs.declared.geometry.Opened.{Opened}
 use Rattle.page.specs.declared.geometry.Opened.the-variants as opened
 use Rattle.page.specs.declared.refusal.Refusal.{Refusal}
 use Rattle.page.proofs.Lengths.{opened-some}
+use Rattle.page.proofs.Searching.{clash}
 use Rattle.chunk.specs.Records.{ageOf}
 use Rattle.sort.proofs.Ascending.{In}
 use Rattle.index.specs.Cells.{cellsFor, firstAt, keys, isMarked}
@@ -76,7 +77,7 @@ module _ (c : List ℕ) where
   either false x y h k = k
 
   stored : (d : List ℕ) → Unchanged (record { answer = Done; cells = d })
-  stored d r e = let z : _≡_ {A = ℕ} 0 1 = cc in absurd (omega arith)
+  stored d r e = clash (cc)
 
   start-in-refused : (x : Opened) → Unchanged (startIn x c)
   unfolding startIn

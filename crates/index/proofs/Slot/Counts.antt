@@ -8,7 +8,7 @@ use native.Mathlib.Decide.{ℕ-discrete}
 use native.Mathlib.Numerals.{add-one}
 use native.Mathlib.Omega.{arith}
 use Rattle.page.specs.Search.{count, more}
-use Rattle.page.proofs.Searching.{count-step, count-none, count-le}
+use Rattle.page.proofs.Searching.{clash, count-step, count-none, count-le}
 
 module _ (test : ℕ → Bool) where
   pub count-suc : (m : ℕ) → count test (suc m) ≡ more (test m) (count test m)
@@ -30,7 +30,7 @@ module _ (test : ℕ → Bool) where
   count-miss p (suc m) h e = rw (count-suc m) (go (ℕ-discrete p m) (λ k. count-miss p m k e) (test m) refl)
     where
       go : Dec (p ≡ m) → (p < m → count test m < m) → (t : Bool) → test m ≡ t → more t (count test m) < suc m
-      go (yes k) ih true f = let z : true ≡ false = sym f ∙ ap test (sym k) ∙ e in let y : _≡_ {A = ℕ} 0 1 = cc in absurd (omega arith)
+      go (yes k) ih true f = let z : true ≡ false = sym f ∙ ap test (sym k) ∙ e in clash (cc)
       go (yes k) ih false f = omega (arith, count-le test m)
       go (no k) ih true f = let a = ih (omega arith) in omega arith
       go (no k) ih false f = omega (arith, count-le test m)

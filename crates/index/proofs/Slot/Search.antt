@@ -14,6 +14,7 @@ use lib.Dec.{eqb}
 use borrow.Author.Tests.{eq-eqb, ne-eqb, le-ltb}
 use Rattle.page.specs.Choice.{pick}
 use Rattle.page.specs.Search.{count}
+use Rattle.page.proofs.Searching.{clash}
 use Rattle.index.specs.Cells.{cellsFor, word, keys, firstAt}
 use Rattle.index.specs.Slots.{serves, down, slot, foundOr, firstIn, first, firstLink, used}
 use Rattle.index.specs.declared.slots.Found.{Found}
@@ -139,7 +140,7 @@ module _ (key key′ : ℕ → ℕ) (o s : ℕ) (free : key s ≡ 0) (others : (
           rw (others m ne) (simp f)
       go false f ih =
           let ne : m ≢ s =
-          λ q. let b : serves o 0 ≡ false = ap (serves o) (sym free ∙ ap key (sym q)) ∙ f in let y : _≡_ {A = ℕ} 0 1 = cc in absurd (omega arith) in
+          λ q. let b : serves o 0 ≡ false = ap (serves o) (sym free ∙ ap key (sym q)) ∙ f in clash (cc) in
           rw (others m ne) (simp f (ih (λ j e. h j (simp f e))))
 
   pub slot-fill : (n : ℕ) → (key (slot n key o) ≡ 0 → ⊥) → slot n key′ o ≡ slot n key o
@@ -155,13 +156,13 @@ module _ (key key′ : ℕ → ℕ) (o s : ℕ) (free : key s ≡ 0) (others : (
       go (Slot i) b e f u = rw (down-fill (o % n + 1) (λ j q z. let k : i ≡ j = cc in u (ap key k ∙ z)) ∙ e) refl
       go Nothing (Slot i) e f u =
           rw (
-            down-fill (o % n + 1) (λ j q z. let y : _≡_ {A = ℕ} 0 1 = cc in absurd (omega arith)) ∙ e,
+            down-fill (o % n + 1) (λ j q z. clash (cc)) ∙ e,
             down-fill n (λ j q z. let k : i ≡ j = cc in u (ap key k ∙ z)) ∙ f,
           ) refl
       go Nothing Nothing e f u =
           rw (
-            down-fill (o % n + 1) (λ j q z. let y : _≡_ {A = ℕ} 0 1 = cc in absurd (omega arith)) ∙ e,
-            down-fill n (λ j q z. let y : _≡_ {A = ℕ} 0 1 = cc in absurd (omega arith)) ∙ f,
+            down-fill (o % n + 1) (λ j q z. clash (cc)) ∙ e,
+            down-fill n (λ j q z. clash (cc)) ∙ f,
           ) refl
 
 -- the link to an object's first record, if s is its slot

@@ -1,34 +1,26 @@
 -- The records of a dump are in a strict order: by sequence, then by page. A page number is below 2^32, so that two ages are equal only if the
 -- pages are; and no record's sequence is so large that its age reaches the top.
-use Prim.Native.Nat.{ℕ, _-_, _*_, _/_, _≤_, _<_}
+use Prim.Native.Nat.{ℕ, _-_, _≤_, _<_}
 use mathlib.Core.Bool.{true, false}
 use mathlib.Core.List.{List}
 use mathlib.Core.Path.{_≡_, refl}
-use native.Mathlib.Nat.{mul-le-mul-right, div-mul-le-self}
 use native.Mathlib.Omega.{arith}
 use lib.ListN.{length}
-use lib.Dec.{eqb}
-use borrow.Author.Tests.{eqb-true, eqb-false}
-use Rattle.page.specs.Records.{isHeader}
-use Rattle.page.specs.Records.{recordAt}
-use Rattle.page.specs.Layouts.{pageLen}
-use Rattle.page.specs.Layouts.{mostBytes}
+use Rattle.page.specs.Records.{isHeader, recordAt}
 use Rattle.page.specs.Lengths.{openedOf}
-use Rattle.page.specs.Numbers.{mostChunk, badChunk}
 use Rattle.page.specs.declared.record.Record.{Record}
 use Rattle.page.specs.declared.record.Record.the-variants.{Other, Header, Data}
 use Rattle.page.specs.declared.geometry.Geometry.{Geometry}
 use Rattle.page.specs.declared.geometry.Opened.the-variants.{Pages}
-use Rattle.page.proofs.Layouts.{product-le}
-use Rattle.page.proofs.Searching.{by-test}
-use Rattle.page.proofs.Lengths.{opened-facts, opened-some, opened-most, length-most}
-use Rattle.page.proofs.Within.{chunk-within, header-within, data-within}
-use Rattle.chunk.specs.Records.{objectOf, sequenceOf, ageOf, chunkOf, baseOf}
+use Rattle.page.proofs.Searching.{clash}
+use Rattle.page.proofs.Lengths.{opened-most}
+use Rattle.page.proofs.Within.{header-within, data-within}
+use Rattle.chunk.specs.Records.{objectOf, sequenceOf, ageOf}
 use Rattle.index.specs.Chains.{objects, top}
 
 -- a test comes out one way only
 pub never : {A : Type 0} → false ≡ true → A
-never e = let z : _≡_ {A = ℕ} 0 1 = cc in absurd (omega arith)
+never e = clash (cc)
 
 module _ (g : Geometry) (dump : List ℕ) where
   -- no sequence is the largest word
@@ -56,13 +48,6 @@ module _ (g : Geometry) (dump : List ℕ) where
   module _ (n : ℕ) (e : openedOf g (length dump) ≡ Pages n) where
     pub pages-most : n ≤ 1073741824
     pages-most = opened-most g (length dump) n e
-
-    -- a page has no more bytes than a dump may have
-    pub data-most : g .layout .«data» ≤ mostBytes
-    data-most =
-        let f = opened-facts g (length dump) n e in
-        let some : 1 ≤ length dump / pageLen (g .layout) = rw (f .pages) (opened-some g (length dump) n e) in
-        omega (arith, length-most (length dump) (f .long), div-mul-le-self (length dump) (pageLen (g .layout)), mul-le-mul-right (pageLen (g .layout)) some)
 
     pub ages-below : (x : ℕ) → x < n → ageOf (recordAt g dump) x < top
     ages-below x h = age-below x (omega (arith, pages-most))

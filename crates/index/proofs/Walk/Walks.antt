@@ -1,6 +1,6 @@
 -- Walks down a chain. Down to the newest header, a walk goes through the list of the records above it; below that, through the list of the
 -- records above the copy, which is hidden or not by the lowest cut of the headers there.
-use Prim.Native.Nat.{ℕ, suc, _+_, _-_, _≤_, _<_, max}
+use Prim.Native.Nat.{ℕ, suc, _+_, _-_, _<_, max}
 use mathlib.Core.Bool.{Bool, true, false}
 use mathlib.Core.List.{List, [], _∷_, _++_}
 use mathlib.Core.Logic.{inl, inr}
@@ -9,7 +9,7 @@ use native.Mathlib.Omega.{arith}
 use lib.ListN.{length}
 use Rattle.page.specs.Choice.{pick}
 use Rattle.page.specs.Records.{isHeader, isData}
-use Rattle.page.proofs.Searching.{by-test}
+use Rattle.page.proofs.Searching.{clash, by-test}
 use Rattle.page.specs.declared.record.Record.{Record}
 use Rattle.page.specs.declared.record.Record.the-variants.{Other, Header, Data}
 use Rattle.chunk.specs.Records.{objectOf, isCopy, baseOf}
@@ -30,8 +30,8 @@ use Rattle.index.proofs.Sorted.Parting.{Fails}
 -- another page has no object
 pub other-none : (k : Record) → isHeader k ≡ false → isData k ≡ false → objectOf k ≡ 0
 other-none Other h d = refl
-other-none (Header r) h d = let z : _≡_ {A = ℕ} 0 1 = cc in absurd (omega arith)
-other-none (Data r) h d = let z : _≡_ {A = ℕ} 0 1 = cc in absurd (omega arith)
+other-none (Header r) h d = clash (cc)
+other-none (Data r) h d = clash (cc)
 
 -- a record that is no header is data
 module _ (o : ℕ) (pos : 0 < o) where
@@ -47,7 +47,7 @@ module _ (o : ℕ) (pos : 0 < o) where
 pub no-copy : (c : ℕ) (k : Record) → isHeader k ≡ true → isCopy c k ≡ false
 no-copy c Other e = refl
 no-copy c (Header h) e = refl
-no-copy c (Data d) e = let z : _≡_ {A = ℕ} 0 1 = cc in absurd (omega arith)
+no-copy c (Data d) e = clash (cc)
 
 module _ (says : ℕ → Record) where
   abbrev pub headed : ℕ → Bool

@@ -36,24 +36,26 @@ loop-again c =
 loop-again-2 : tie.Need-loop-again-2 Inv-loop μ-loop
 loop-again-2 c =
     let r = c .before in
-    let o = r .before .before in
+    let b = r .before in
+    let o = b .before .before in
     let k = o .before in
     let q = k .before .before .loop in
     let a = k .before .before .before .before .args in
     let t : objectPage (recordAt (a .g) (a .dump .now)) (q .i) ≡ false =
-    rw (← k .record-at .ensures, ← o .object-of .ensures, ne-eqb _ _ (r .before .if1 .left), ← r .records-since .ensures, ne-eqb _ _ (c .if2 .taken))
+    rw (← k .record-at .ensures, ← o .object-of .ensures, ne-eqb _ _ (b .before .if1 .left), ← b .pages-before .ensures, ← r .records-since .ensures, ne-eqb _ _ (c .if2 .taken))
     in
     (search needs, search needs, q .inv .2 ∙ sym (count-skip _ (q .i) t))
 
 loop-again-3 : tie.Need-loop-again-3 Inv-loop μ-loop
 loop-again-3 c =
     let r = c .before in
-    let o = r .before .before in
+    let b = r .before in
+    let o = b .before .before in
     let k = o .before in
     let q = k .before .before .loop in
     let a = k .before .before .before .before .args in
     let t : objectPage (recordAt (a .g) (a .dump .now)) (q .i) ≡ true =
-    rw (← k .record-at .ensures, ← o .object-of .ensures, ne-eqb _ _ (r .before .if1 .left), ← r .records-since .ensures, eq-eqb _ _ (c .if2 .left))
+    rw (← k .record-at .ensures, ← o .object-of .ensures, ne-eqb _ _ (b .before .if1 .left), ← b .pages-before .ensures, ← r .records-since .ensures, eq-eqb _ _ (c .if2 .left))
     in
     (search needs, search needs, rw (q .inv .2) (sym (count-take _ (q .i) t)))
 
@@ -75,6 +77,7 @@ objects-in-spec =
     (search needs)
     (search needs)
     loop-again
+    (search needs)
     (search needs)
     (search needs)
     loop-again-2

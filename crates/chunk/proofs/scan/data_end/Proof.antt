@@ -4,8 +4,7 @@ use mathlib.Core.Bool.{false}
 use mathlib.Core.Path.{_≡_, sym, _∙_}
 use native.Mathlib.Omega.{arith}
 use borrow.Author.Needs.{needs}
-use Rattle.page.specs.Records.{isData}
-use Rattle.page.specs.Records.{recordAt}
+use Rattle.page.specs.Records.{isData, recordAt}
 use Rattle.page.proofs.Sound.{else-data}
 use Rattle.chunk.specs.Sizes.{dataEnd}
 use Rattle.chunk.proofs.Gathering.{end-none, end-skip, end-step}

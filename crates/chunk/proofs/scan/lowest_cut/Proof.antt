@@ -4,8 +4,7 @@ use mathlib.Core.Bool.{false}
 use mathlib.Core.Path.{_≡_, sym, _∙_}
 use native.Mathlib.Omega.{arith}
 use borrow.Author.Needs.{needs}
-use Rattle.page.specs.Records.{isHeader}
-use Rattle.page.specs.Records.{recordAt}
+use Rattle.page.specs.Records.{isHeader, recordAt}
 use Rattle.page.proofs.Sound.{else-header}
 use Rattle.chunk.specs.Cuts.{lowestCut}
 use Rattle.chunk.proofs.Gathering.{cut-none, cut-skip, cut-step}

@@ -5,7 +5,6 @@ use borrow.Author.Needs.{needs}
 use Rattle.page.proofs.Lengths.{opened-most}
 use Rattle.chunk.specs.declared.answer.Sized.the-variants as sized
 use Rattle.index.specs.Walks.{sizeFrom}
-use Rattle.index.proofs.Walk.Ahead.{is-sized}
 use Rattle.file.specs.Table.{tableFrom, tableBy, filledBy}
 use Rattle.file.proofs.Chunks.{data-some, table-short, table-rows, table-filled}
 use Rattle.file.proofs.table.table_in.Statement.{statement}

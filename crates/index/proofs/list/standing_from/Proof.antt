@@ -2,7 +2,6 @@
 -- older record, so that the bound falls.
 use mathlib.Core.Bool.{false}
 use mathlib.Core.Path.{_≡_, refl, sym, _∙_}
-use native.Mathlib.Omega.{arith}
 use borrow.Author.Needs.{needs}
 use Rattle.page.specs.Records.{recordAt}
 use Rattle.index.specs.Chains.{top}

@@ -1,8 +1,7 @@
 -- The loop's invariant: the blocks before `next` are gone through. Pages that are lost do not reach what is needed; gone through and not lost they do.
 use Prim.Native.Nat.{_+_, _-_, _<_}
-use mathlib.Core.Path.{_≡_, sym, ap, _∙_}
+use mathlib.Core.Path.{sym, ap, _∙_}
 use native.Mathlib.Omega.{arith}
-use borrow.Author.Needs.{needs}
 use Rattle.page.specs.Tags.{claimAt}
 use Rattle.page.specs.Leaving.{atLeast}
 use Rattle.page.proofs.Blocks.{Through, through-none, through-on, through-ends}
