@@ -2,6 +2,7 @@
 //! memory. A dump is never opened for writing. Of an input that is longer than
 //! any dump no more is taken than makes it too long.
 
+use std::cell::Cell;
 use std::ffi::{OsStr, OsString};
 use std::fs::{File, Metadata};
 use std::io::{self, Read, Seek, SeekFrom};
@@ -12,6 +13,7 @@ use memmap2::{Mmap, MmapOptions};
 
 use crate::ffi;
 use crate::progress::Progress;
+use crate::second;
 use crate::signals::Watched;
 use crate::standard;
 
@@ -32,6 +34,16 @@ struct Mapped {
     _watched: Watched,
     map: Mmap,
     file: File,
+    /// Whether a second thread was at work.
+    is_shared: Cell<bool>,
+}
+
+impl Drop for Mapped {
+    fn drop(&mut self) {
+        if self.is_shared.get() {
+            second::unmap(&self.map);
+        }
+    }
 }
 
 impl Dump {
@@ -42,6 +54,21 @@ impl Dump {
         let bytes = bytes(name, copy).map_err(|why| unread(name, &why))?;
         let name = name.to_os_string();
         Ok(Dump { name, bytes })
+    }
+
+    /// Does work on the dump, and beside it other work where the dump is long,
+    /// mapped and in memory.
+    pub fn beside<T, U: Send>(
+        &self,
+        work: impl FnOnce() -> T,
+        other: impl FnOnce() -> U + Send,
+    ) -> (T, Option<U>) {
+        let Bytes::Mapped(mapped) = &self.bytes else {
+            return (work(), None);
+        };
+        let (answer, other) = second::beside(&mapped.map, &mapped.file, work, other);
+        mapped.is_shared.set(other.is_some());
+        (answer, other)
     }
 
     /// Fails where a mapped file is no longer as long as it was: bytes that it
@@ -87,6 +114,7 @@ fn bytes(name: &OsStr, copy: bool) -> io::Result<Bytes> {
         _watched,
         map,
         file,
+        is_shared: Cell::new(false),
     }))
 }
 

@@ -4,6 +4,7 @@
 //!
 //! - `ffi`: the library's calls, declared and wrapped.
 //! - `dump`: a dump as a slice of bytes.
+//! - `second`: a second thread on a long dump.
 //! - `arguments`, `typed`, `usage`: what was typed, and what is wrong with it.
 //! - `block`: K where nobody names it.
 //! - `refusal`: the names of the refusals, and what each means.
@@ -18,7 +19,7 @@
 //! - `progress`: how far a command is.
 //! - `signals`, `standard`: signals, and standard input and output.
 //!
-//! `unsafe` is in `ffi`, `dump`, `signals` and `standard` alone.
+//! `unsafe` is in `ffi`, `dump`, `second`, `signals` and `standard` alone.
 
 pub mod arguments;
 pub mod block;
@@ -33,6 +34,7 @@ pub mod objects;
 mod progress;
 pub mod refusal;
 pub mod script;
+mod second;
 pub mod signals;
 pub mod standard;
 pub mod table;

@@ -11,6 +11,25 @@ use crate::table::{Piece, Table};
 const SOME_IDS: usize = 4096;
 const SOME_ROWS: usize = 1024;
 
+/// Pages in runs, each with the word by which it has its place.
+pub type Runs = Vec<(u32, Range<u32>)>;
+
+/// An index without pages, and the runs in which they are to be added.
+pub struct Started {
+    cells: Vec<u32>,
+    runs: Runs,
+}
+
+impl Started {
+    /// Starts the index, or gives the number of the refusal.
+    pub fn of(dump: &[u8], on: Geometry, runs: Runs) -> Result<Started, u32> {
+        let pages = ffi::pages(dump, on).given()?.pages;
+        let mut cells = vec![0; ffi::cells(pages)];
+        done(ffi::start(dump, on, &mut cells))?;
+        Ok(Started { cells, runs })
+    }
+}
+
 /// A dump with the index of all its pages.
 pub struct Objects<'d> {
     dump: &'d [u8],
@@ -21,19 +40,20 @@ pub struct Objects<'d> {
 impl<'d> Objects<'d> {
     /// Makes the index, or gives the number of the refusal.
     pub fn of(dump: &'d [u8], on: Geometry) -> Result<Objects<'d>, u32> {
-        Objects::telling(dump, on, |_| ())
+        let started = Started::of(dump, on, by_sequence(dump, on.layout))?;
+        Objects::telling(dump, on, started, |_| ())
     }
 
-    /// The same; tells of each run of pages that is added how many they are.
+    /// The same, of what was started; tells of each run of pages that is added how
+    /// many they are.
     pub fn telling(
         dump: &'d [u8],
         on: Geometry,
+        started: Started,
         mut tell: impl FnMut(u32),
     ) -> Result<Objects<'d>, u32> {
-        let pages = ffi::pages(dump, on).given()?.pages;
-        let mut cells = vec![0; ffi::cells(pages)];
-        done(ffi::start(dump, on, &mut cells))?;
-        for (_, run) in by_sequence(dump, on) {
+        let Started { mut cells, runs } = started;
+        for (_, run) in runs {
             ffi::add_run(dump, on, &mut cells, run.start, run.end).given()?;
             tell(run.end - run.start);
         }
@@ -114,15 +134,21 @@ fn done(refusal: u32) -> Result<(), u32> {
 /// the order of these words and of pages. Any order is right, so that no rule is
 /// decided here; in this one each record is newer than all that were added
 /// before, and no addition walks, whatever the dump and K.
-fn by_sequence(dump: &[u8], on: Geometry) -> Vec<(u32, Range<u32>)> {
-    let layout = ffi::layout(on.layout);
+///
+/// The second half of the pages is read first: where another thread reads the
+/// dump from its begin on, each has the system map a half.
+pub fn by_sequence(dump: &[u8], layout: u32) -> Runs {
+    let layout = ffi::layout(layout);
     let page_len = (layout.data + layout.spare) as usize;
     let tags = (layout.data + layout.tag) as usize;
-    let mut runs: Vec<(u32, Range<u32>)> = Vec::new();
-    for (number, page) in (0..).zip(dump.chunks_exact(page_len)) {
-        let word = u32::from_le_bytes([0, 1, 2, 3].map(|byte| page[tags + byte]));
+    // what is no layout has no pages
+    let pages = dump.len().checked_div(page_len).unwrap_or(0) as u32;
+    let mut runs = Runs::new();
+    for number in (pages / 2..pages).chain(0..pages / 2) {
+        let at = number as usize * page_len + tags;
+        let word = u32::from_le_bytes([0, 1, 2, 3].map(|byte| dump[at + byte]));
         match runs.last_mut() {
-            Some((same, run)) if *same == word => run.end = number + 1,
+            Some((same, run)) if *same == word && run.end == number => run.end += 1,
             _ => runs.push((word, number..number + 1)),
         }
     }
@@ -162,10 +188,26 @@ mod tests {
         let (first, second) = w.split_at(w.len() / 2);
         let turned = [second, first].concat();
         let on = Geometry { block: 8, ..W };
-        let runs = by_sequence(&turned, on);
+        let runs = by_sequence(&turned, on.layout);
         assert_eq!(runs, [(4097, 4..8), (4098, 0..3), (u32::MAX, 3..4)]);
         let objects = Objects::of(&turned, on).unwrap();
         assert_eq!(objects.size(257).size, 1034);
+    }
+
+    #[test]
+    fn what_is_no_layout_is_refused() {
+        let dump = include_bytes!("../tests/data/W");
+        let on = Geometry { layout: 13, ..W };
+        assert_eq!(Objects::of(dump, on).err(), Some(1), "BadLayout");
+    }
+
+    /// A run over the middle may be two, which follow each other; one over the end
+    /// and the begin is none.
+    #[test]
+    fn runs_do_not_go_round() {
+        let w = include_bytes!("../tests/data/W");
+        let alike = [&w[..w.len() / 2]; 3].concat();
+        assert_eq!(by_sequence(&alike, W.layout), [(4097, 0..6), (4097, 6..12)]);
     }
 
     /// A run of no pages is refused as one of some would be, and is done where

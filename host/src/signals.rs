@@ -9,7 +9,7 @@ use std::ffi::{c_char, c_int, c_void, CString, OsStr};
 use std::os::unix::ffi::OsStrExt;
 use std::path::Path;
 use std::ptr;
-use std::sync::atomic::{AtomicPtr, Ordering::SeqCst};
+use std::sync::atomic::{AtomicBool, AtomicPtr, Ordering::SeqCst};
 
 /// Sets what signals do, for the whole process.
 pub fn set() {
@@ -45,6 +45,9 @@ struct Place {
 
 /// The dumps that are watched; no command has more at a time.
 static WATCHED: [AtomicPtr<Place>; 4] = [const { AtomicPtr::new(ptr::null_mut()) }; 4];
+
+/// Whether a lost byte is being told of: two threads may meet one.
+static SAID: AtomicBool = AtomicBool::new(false);
 
 /// A map is watched for as long as this is held.
 pub struct Watched(*mut Place);
@@ -83,6 +86,11 @@ extern "C" fn on_bus(signal: c_int, info: *mut libc::siginfo_t, _: *mut c_void) 
         let place = unsafe { slot.load(SeqCst).as_ref() };
         let offset = place.map(|place| (place, at.wrapping_sub(place.start)));
         if let Some((place, offset)) = offset.filter(|(place, offset)| *offset < place.length) {
+            // another thread that lost a byte says so, and ends this one too
+            while SAID.swap(true, SeqCst) {
+                // Safety: waits for the end.
+                unsafe { libc::pause() };
+            }
             say(&place.sentence);
             say_number(offset);
             say(b" is not there: the file was shortened meanwhile, or its medium fails\n");

@@ -4,6 +4,7 @@ mod chunk;
 mod completions;
 mod extract;
 mod find;
+mod guess;
 pub mod header;
 mod list;
 mod opened;

@@ -1,15 +1,19 @@
 //! A dump with its layout and K, and what a refusal means for whoever asked.
 
+use std::cell::Cell;
+
 use crate::arguments::{Block, On, Source};
 use crate::block::Fitting;
 use crate::dump::Dump;
 use crate::failure::Failure;
 use crate::ffi::{self, Answer as _, Geometry, LayoutAnswer};
-use crate::objects::Objects;
+use crate::objects::{by_sequence, Objects, Started};
 use crate::progress::Progress;
 use crate::refusal::{meaning, Asked};
 use crate::standard::say;
 use crate::typed::Typed;
+
+use super::guess::{self, Guess};
 
 /// A dump that its layout and K divide, each of which was named or found.
 pub struct Opened {
@@ -18,6 +22,7 @@ pub struct Opened {
     pub block: Typed,
     pub pages: u32,
     named: Option<Typed>,
+    started: Cell<Option<Started>>,
 }
 
 impl Opened {
@@ -30,14 +35,15 @@ impl Opened {
     pub fn open(source: &Source, named: Option<&Typed>, block: &Block) -> Result<Opened, Failure> {
         let dump = Dump::open(&source.dump, source.copy).map_err(Failure::File)?;
         let first = block.block.clone().unwrap_or_else(|| Typed::from(1));
-        let answer = match named {
-            Some(named) => ffi::layout(named.number),
-            None => found(&dump, first.number),
+        let k = block.block.as_ref().map(|typed| typed.number);
+        let (answer, guess) = match named {
+            Some(named) => (ffi::layout(named.number), None),
+            None => found(&dump, k),
         };
         let layout = done(&dump, answer.given(), Asked::dump(&dump, named, &first))?;
-        let fitting = match block.block {
-            Some(_) => None,
-            None => Some(fitting(&dump, layout)),
+        let (fitting, started) = match guess.filter(|guess| guess.layout == layout) {
+            Some(guess) => (guess.fitting, Some(guess.started)),
+            None => (k.is_none().then(|| fitting(&dump, layout)), None),
         };
         let mut opened = Opened {
             dump,
@@ -45,6 +51,7 @@ impl Opened {
             block: fitting.as_ref().map_or(first, |f| f.taken().into()),
             pages: 0,
             named: named.cloned(),
+            started: Cell::new(started),
         };
         let pages = ffi::pages(&opened.dump, opened.geometry());
         opened.pages = opened.given(pages, opened.asked())?.pages;
@@ -67,7 +74,12 @@ impl Opened {
         let asked = self.asked();
         let progress = Progress::new("adding pages", Some(self.pages.into()));
         let told = |pages: u32| progress.add(pages.into());
-        let objects = Objects::telling(&self.dump, self.geometry(), told);
+        let on = self.geometry();
+        let started = match self.started.take() {
+            Some(started) => Ok(started),
+            None => Started::of(&self.dump, on, by_sequence(&self.dump, on.layout)),
+        };
+        let objects = started.and_then(|s| Objects::telling(&self.dump, on, s, told));
         Ok((self.done(objects, asked)?, asked))
     }
 
@@ -95,16 +107,20 @@ impl Opened {
     }
 }
 
-/// The layout of a dump in blocks of so many pages.
-fn found(dump: &Dump, block: u32) -> LayoutAnswer {
+/// The layout of a dump in blocks of K pages, or of one where K is to be found; and
+/// what a second thread made meanwhile of a guess.
+fn found(dump: &Dump, k: Option<u32>) -> (LayoutAnswer, Option<Guess>) {
     let _progress = Progress::new("finding the layout", None);
-    ffi::find(dump, block)
+    let bytes: &[u8] = dump;
+    let find = || ffi::find(bytes, k.unwrap_or(1));
+    let (answer, guess) = dump.beside(find, || Guess::of(bytes, k));
+    (answer, guess.flatten())
 }
 
 /// Which K fit a dump under a layout.
 fn fitting(dump: &Dump, layout: LayoutAnswer) -> Fitting {
     let _progress = Progress::new("finding K", None);
-    Fitting::of(layout.number, |on, need| ffi::score(dump, on, need))
+    guess::fitting(dump, layout)
 }
 
 /// What was done on a dump, if all of it was there, or the refusal with what it

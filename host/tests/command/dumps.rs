@@ -69,3 +69,25 @@ pub fn long(chunks: u32) -> Vec<u8> {
     }
     dump
 }
+
+/// 64 MiB and more: 32,768 pages of 2048/64 in blocks of 64, each block with a
+/// file of its own, header first. The tags of the middle 64th stand at one offset
+/// of the spare, all others at another.
+pub fn spread(middle: usize, rest: usize) -> Vec<u8> {
+    let mut dump = vec![0xFF; 32_768 * 2112];
+    for (number, to) in (0..).zip(dump.chunks_exact_mut(2112)) {
+        let (block, n) = (number / 64, number % 64);
+        let is_middle = number / 512 == 32;
+        let tags = 2048 + if is_middle { middle } else { rest };
+        let mut from = page(n.min(1) as usize).to_vec();
+        let word = |at: usize| u32::from_le_bytes(from[at..at + 4].try_into().unwrap());
+        let object = word(DATA + 4) + block;
+        from = with(&with(&from, DATA, 0x1001 + block), DATA + 4, object);
+        if n > 0 {
+            from = with(&from, DATA + 8, n);
+        }
+        to[..DATA].copy_from_slice(&from[..DATA]);
+        to[tags..tags + 16].copy_from_slice(&from[DATA..]);
+    }
+    dump
+}

@@ -4,6 +4,7 @@
 //! - `transcript`: every command on W, every refusal and every habit, with stored output.
 //! - `found`: K where it is not named.
 //! - `inputs`: dumps and scripts that are no plain files.
+//! - `spread`: dumps that are long enough for a second thread.
 //! - `shortened`: dumps that lose bytes while they are read.
 //! - `outputs`: standard output that is closed, full or left.
 //! - `out`: files that `read --out` writes.
@@ -16,6 +17,7 @@ mod out;
 mod outputs;
 mod progress;
 mod shortened;
+mod spread;
 mod transcript;
 
 use std::path::Path;

@@ -1,12 +1,18 @@
 //! Dumps that lose bytes while they are read: a sentence that says where, and
 //! status 2, never a signal.
 
+use std::env;
 use std::fs::{self, File};
+use std::hint::black_box;
 use std::io::{Read, Write};
 use std::path::Path;
-use std::process::{Child, Output, Stdio};
-use std::thread::sleep;
+use std::process::{Child, Command, Output, Stdio};
+use std::sync::Barrier;
+use std::thread::{self, sleep};
 use std::time::Duration;
+
+use lohenarr::dump::Dump;
+use lohenarr::signals;
 
 use super::dumps::{self, W};
 use super::{lohenarr, said};
@@ -39,7 +45,7 @@ fn ended(mut child: Child, script: &str) -> Output {
     child.wait_with_output().unwrap()
 }
 
-fn shorten(dump: &Path, length: u64) {
+pub fn shorten(dump: &Path, length: u64) {
     let file = File::options().write(true).open(dump).unwrap();
     file.set_len(length).unwrap();
 }
@@ -88,4 +94,39 @@ fn a_byte_that_the_system_cannot_read() {
     let lost = "lohenarr: cannot read long: byte ";
     assert!(said(&output).starts_with(lost), "{}", said(&output));
     assert_eq!(output.status.code(), Some(2));
+}
+
+/// Two threads miss a byte at once, in a process of their own.
+#[test]
+#[ignore = "it ends the process; the next test runs it"]
+fn two_threads() {
+    signals::set();
+    let dump = Dump::open("W".as_ref(), false).unwrap();
+    shorten(Path::new("W"), 0);
+    let (bytes, both): (&[u8], _) = (&dump, Barrier::new(2));
+    thread::scope(|scope| {
+        for at in [0, 4096] {
+            let both = &both;
+            scope.spawn(move || {
+                both.wait();
+                black_box(bytes[at])
+            });
+        }
+    });
+}
+
+#[test]
+fn one_sentence_of_two_threads() {
+    let folder = dumps::folder();
+    for _ in 0..50 {
+        fs::write(folder.path().join("W"), W).unwrap();
+        let mut command = Command::new(env::current_exe().unwrap());
+        command.args(["--exact", "--ignored", "shortened::two_threads"]);
+        let output = command.current_dir(&folder).output().unwrap();
+        let said = said(&output);
+        let lost = [0, 4096].map(|byte| format!("lohenarr: cannot read W: byte {byte} is not"));
+        assert!(lost.iter().any(|lost| said.starts_with(lost)), "{said}");
+        assert_eq!(said.matches("lohenarr").count(), 1, "{said}");
+        assert_eq!(output.status.code(), Some(2));
+    }
 }
