@@ -1,7 +1,8 @@
 -- Records and their order (document 01, "Newest, size and cuts"), over what each page says.
-use Prim.Native.Nat.{ℕ, _+_, _-_, _*_}
+use Prim.Native.Nat.{ℕ, _+_, _*_}
 use mathlib.Core.Bool.{Bool, false, _&&_, _||_}
 use lib.Dec.{eqb}
+use Rattle.page.specs.Numbers.{chunksBefore}
 use Rattle.page.specs.Records.{isHeader, isData}
 use Rattle.page.specs.declared.record.Record.{Record}
 use Rattle.page.specs.declared.record.Record.the-variants.{Other, Header, Data}
@@ -78,4 +79,4 @@ isFile (Data d) = false
 
 -- where chunk n begins in its file, with P data bytes to a page
 abbrev pub baseOf : (P chunk : ℕ) → ℕ
-baseOf P n = (n - 1) * P
+baseOf P n = chunksBefore n * P

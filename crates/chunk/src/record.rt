@@ -114,10 +114,7 @@ pub fn base_of(data: u32, n: ChunkNumber) -> u64
     ensures { λ r. ⌜ r ≡ baseOf «data» (n .0) ⌝ }
     ensures { λ r. ⌜ r + 2 ^ 32 < 2 ^ 64 ⌝ }
 {
-    if n.0 == 0 {
-        return 0;
-    }
-    ((n.0 - 1) as u64) * (data as u64)
+    (n.chunks_before() as u64) * (data as u64)
 }
 
 // Whether a page is a record of object o.

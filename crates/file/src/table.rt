@@ -6,6 +6,7 @@ ghost use lib.ListN.{length, drop};
 ghost use Rattle.page.specs.Records.{recordAt};
 ghost use Rattle.page.specs.Lengths.{openedOf};
 ghost use Rattle.page.specs.declared.geometry.Opened.the-variants as opened;
+ghost use Rattle.index.specs.Cells.{cellsFor};
 ghost use Rattle.index.specs.Walks.{chunkFrom};
 ghost use Rattle.file.specs.Table.{wordsOf, chunksIn, rows, allAhead, noted, closedWord, Closed, filledBy, tableFrom};
 use chunk::answer::Sized;
@@ -15,7 +16,7 @@ use chunk::lookup::valid_of;
 use chunk::record::base_of;
 use chunk::record::smaller;
 use index::cells::clear;
-use index::cells::link_of;
+use index::cells::link_at;
 use index::chains::Role;
 use index::chains::Step;
 use index::chains::TOP;
@@ -123,6 +124,7 @@ fn fill(
     table: &mut [u32],
 )
     requires { ⌜ pages ≤ 2 ^ 31 ⌝ }
+    requires { ⌜ cellsFor pages ≤ length (now cells) ⌝ }
     requires { ⌜ wordsOf count ≤ length (now table) ⌝ }
     ensures { λ _. ⌜ now (table .exit) ≡ rows (allAhead (recordAt g (now (dump .entry))) (g .layout .«data») size pages (now (cells .entry)) (o .0) first) count ++ drop (wordsOf count) (now (table .entry)) ⌝ }
 {
@@ -143,7 +145,8 @@ fn fill(
             }
             Step::Record(q, age, role) => {
                 bound = age;
-                link = link_of(cells, q);
+                let i = link_at(q);
+                link = cells[i];
                 let Role::Data(d) = role else {
                     cut = cut_past(dump, g, q, newest, cut);
                     newest = false;

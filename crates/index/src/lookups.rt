@@ -5,10 +5,11 @@ ghost use lib.ListN.{length};
 ghost use Rattle.page.specs.Records.{recordAt};
 ghost use Rattle.chunk.specs.Lookups.{fileAt};
 ghost use Rattle.chunk.specs.Answers.{readBy, partBy, bufferBy};
+ghost use Rattle.index.specs.Cells.{cellsFor};
 ghost use Rattle.index.specs.Chains.{top};
 ghost use Rattle.index.specs.Walks.{recordsIn, sizeFile, sizeAt, sizeWalk, copyFrom, chunkReached, chunkWalk, under, below, sizeIn, chunkIn, sizeFrom, chunkFrom};
 use crate::cells::cells_for;
-use crate::cells::link_of;
+use crate::cells::link_at;
 use crate::chains::Role;
 use crate::chains::Step;
 use crate::chains::TOP;
@@ -54,6 +55,7 @@ fn size_file(dump: &[u8], g: Geometry, h: PageNumber, end: u64, visits: u32) -> 
 
 // The size of object o by its chain from a link. A chunk lookup reaches the header by a walk of its own: a size lookup notes no copies.
 fn size_walk(dump: &[u8], g: Geometry, pages: u32, cells: &[u32], o: ObjectId, first: u32) -> Sized
+    requires { ⌜ cellsFor pages ≤ length (now cells) ⌝ }
     ensures { λ r. ⌜ r ≡ sizeWalk (recordAt g (now (dump .entry))) (g .layout .«data») (under (recordAt g (now (dump .entry))) pages (now (cells .entry)) (o .0) top first) ⌝ }
 {
     let mut link = first;
@@ -77,9 +79,10 @@ fn size_walk(dump: &[u8], g: Geometry, pages: u32, cells: &[u32], o: ObjectId, f
                 let Role::Data(d) = role else {
                     return size_file(dump, g, q, end, visits);
                 };
-                end = end_with(end, g.layout.data, d);
                 bound = age;
-                link = link_of(cells, q);
+                let i = link_at(q);
+                link = cells[i];
+                end = end_with(end, g.layout.data, d);
             }
         }
     }

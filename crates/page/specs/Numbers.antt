@@ -1,5 +1,5 @@
--- Object ids and chunk numbers: the limits of document 01's page rules and refusal table; and what a page number counts.
-use Prim.Native.Nat.{ℕ}
+-- Object ids and chunk numbers: the limits of document 01's page rules and refusal table; and what numbers count.
+use Prim.Native.Nat.{ℕ, _-_}
 use mathlib.Core.Bool.{Bool, _||_}
 use lib.Dec.{eqb, ltb}
 
@@ -18,6 +18,10 @@ badObject id = eqb id 0 || ltb mostObject id
 -- a number that no chunk has: 0, or above the largest
 unfoldable pub badChunk : ℕ → Bool
 badChunk n = eqb n 0 || ltb mostChunk n
+
+-- how many chunks stand before chunk n: those from 1 to n - 1
+abbrev pub chunksBefore : (chunk : ℕ) → ℕ
+chunksBefore n = n - 1
 
 -- how many pages stand before page p: those from 0 to p - 1
 abbrev pub pagesBefore : (page : ℕ) → ℕ

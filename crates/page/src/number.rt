@@ -1,6 +1,6 @@
 // The three kinds of number of document 01, which stand neither for each other nor for a count.
 ghost use mathlib.Core.Path.{_≡_};
-ghost use Rattle.page.specs.Numbers.{badObject, badChunk, pagesBefore};
+ghost use Rattle.page.specs.Numbers.{badObject, badChunk, chunksBefore, pagesBefore};
 
 // The number of an object.
 pub struct ObjectId(pub u32);
@@ -38,6 +38,16 @@ impl ChunkNumber {
             return true;
         }
         ChunkNumber::MOST < self.0
+    }
+
+    // How many chunks stand before it; none before the first, nor before a number that no chunk has.
+    pub fn chunks_before(self) -> u32
+        ensures { λ r. ⌜ r ≡ chunksBefore (self .0) ⌝ }
+    {
+        if self.0 == 0 {
+            return 0;
+        }
+        self.0 - 1
     }
 }
 

@@ -2,12 +2,13 @@
 -- an older record, so that the bound falls.
 use Prim.Native.Nat.{ℕ, _≤_, _<_, min}
 use mathlib.Core.List.{List, _++_}
-use mathlib.Core.Path.{_≡_, refl, sym, _∙_}
+use mathlib.Core.Path.{_≡_, refl, sym, ap, _∙_}
 use native.Mathlib.Omega.{arith}
 use lib.ListN.{length, drop, replicate}
 use borrow.Author.Needs.{needs}
 use Rattle.page.specs.Records.{recordAt}
 use Rattle.chunk.specs.Lookups.{shownOf}
+use Rattle.index.specs.Cells.{word}
 use Rattle.index.specs.Walks.{under}
 use Rattle.index.specs.Ahead.{ahead}
 use Rattle.index.specs.declared.chains.Step.the-variants.{End, Damaged, Record}
@@ -51,15 +52,15 @@ module _ (k : tie.After-clear Inv-loop μ-loop) where
   entry = begin .args .table .now
 
   same-length : length after ≡ length entry
-  same-length = clear-length entry after (begin .args .count) (begin .pre .1) front
+  same-length = clear-length entry after (begin .args .count) (begin .pre .1 .1) front
 
   same-rest : drop (wordsOf (begin .args .count)) after ≡ drop (wordsOf (begin .args .count)) entry
-  same-rest = clear-rest entry after (begin .args .count) (begin .pre .1) front
+  same-rest = clear-rest entry after (begin .args .count) (begin .pre .1 .1) front
 
 loop-holds : tie.Need-loop-holds Inv-loop μ-loop
 loop-holds c =
     let k = c .before .before in
-    (refl, refl, λ x h i. free (cleared (entry k) (after k) (begin k .args .count) (begin k .pre .1) (front k) x h i) refl)
+    (refl, refl, λ x h i. free (cleared (entry k) (after k) (begin k .args .count) (begin k .pre .1 .1) (front k) x h i) refl)
 
 -- the words behind the rows on the way
 module _ (q : tie.At-loop Inv-loop μ-loop) where
@@ -73,7 +74,7 @@ module _ (q : tie.At-loop Inv-loop μ-loop) where
   Room t = wordsOf (s .args .count) ≤ length t
 
   room : Room (q .loop .table)
-  room = omega (arith, q .loop .inv .0, same-length k, s .pre .1)
+  room = omega (arith, q .loop .inv .0, same-length k, s .pre .1 .1)
 
   abbrev Rest : List ℕ → Type 0
   Rest t = drop (wordsOf (s .args .count)) t ≡ drop (wordsOf (s .args .count)) (s .args .table .now)
@@ -121,18 +122,31 @@ Here c =
 here : (c : tie.After-step Inv-loop μ-loop) → Here c
 here c = stepped _ _ _ _ _ _ (Record _ _ _) (sym (c .step .given .1) ∙ c .before .before .follow .ensures)
 
+-- the record whose link is read
+abbrev passed : tie.After-link-at Inv-loop μ-loop → tie.After-step Inv-loop μ-loop
+passed c = c .before .before
+
+mul-link : tie.Need-mul-link Inv-loop μ-loop
+mul-link c = omega (arith, here (passed c) .leads .inside, c .link-at .ensures, start (passed c) .pre .0)
+
+read-link : tie.Need-shared-slice-read-link Inv-loop μ-loop
+read-link c =
+    let i = c .before in
+    omega (arith, here (passed i) .leads .inside, i .link-at .ensures, start (passed i) .pre .1 .0)
+
 loop-less : tie.Need-loop-less Inv-loop μ-loop
-loop-less c = here (c .before .before .before .before .before) .older
+loop-less c = here (passed (c .before .before .before .before)) .older
 
 -- a header writes no row, and cuts
 loop-again : tie.Need-loop-again Inv-loop μ-loop
 loop-again c =
-    let g = c .before .before .before .before .before in
+    let l = c .before .before .before .before in
+    let g = passed l in
     let q = turn g .loop in
     let a = start g .args in
     let says = recordAt (a .g) (a .dump .now) in
     let e = role-header (says (g .step .given .0 .0 .0)) (here g .leads .some) (sym (c .before .enum-told3 .given .1) ∙ here g .is) in
-    let on = here g .onward _ (c .before .before .before .link-of .ensures) in (
+    let on = here g .onward _ (ap (word (a .cells .now)) (l .link-at .ensures)) in (
       q .inv .0,
       q .inv .1,
       λ x h i.
@@ -142,24 +156,25 @@ loop-again c =
 
 note-requires : tie.Need-note-requires Inv-loop μ-loop
 note-requires c κs =
-    let g = c .before .before .before .before .before .before in
+    let g = passed (c .before .before .before .before .before) in
     (room (turn g), omega (arith, here g .leads .inside, start g .pre .0))
 
 loop-less-2 : tie.Need-loop-less-2 Inv-loop μ-loop
-loop-less-2 c = here (c .before .before .before .before .before .before .before .before .before) .older
+loop-less-2 c = here (passed (c .before .before .before .before .before .before .before .before)) .older
 
 -- data is noted in its row
 loop-again-2 : tie.Need-loop-again-2 Inv-loop μ-loop
 loop-again-2 c =
     let n = c .before .before in
     let r = n .before .before .before in
-    let g = r .before .before .before .before in
+    let l = r .before .before .before in
+    let g = passed l in
     let q = turn g .loop in
     let a = start g .args in
     let says = recordAt (a .g) (a .dump .now) in
     let d = r .role .given .0 .0 in
     let e = role-data (says (g .step .given .0 .0 .0)) d (sym (r .role .given .1) ∙ here g .is) in
-    let on = here g .onward _ (r .before .before .link-of .ensures) in (
+    let on = here g .onward _ (ap (word (a .cells .now)) (l .link-at .ensures)) in (
       rw (n .note .ensures) (noted-length (q .table) (a .count) (a .g .layout .«data») (a .size) (q .cut) (g .step .given .0 .0 .0) (d .chunk .0) (d .count) ∙ q .inv .0),
       rw (n .note .ensures) (noted-rest (q .table) (a .count) (a .g .layout .«data») (a .size) (q .cut) (g .step .given .0 .0 .0) (d .chunk .0) (d .count) ∙ q .inv .1),
       λ x h i.
@@ -186,6 +201,8 @@ fill-spec =
     returns-2
     (search needs)
     (search needs)
+    mul-link
+    read-link
     (search needs)
     (search needs)
     (search needs)

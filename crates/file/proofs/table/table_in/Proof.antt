@@ -5,6 +5,7 @@ use borrow.Author.Needs.{needs}
 use Rattle.page.proofs.Lengths.{opened-most}
 use Rattle.chunk.specs.declared.answer.Sized.the-variants as sized
 use Rattle.index.specs.Walks.{sizeFrom}
+use Rattle.index.proofs.Walk.Ahead.{is-sized}
 use Rattle.file.specs.Table.{tableFrom, tableBy, filledBy}
 use Rattle.file.proofs.Chunks.{data-some, table-short, table-rows, table-filled}
 use Rattle.file.proofs.table.table_in.Statement.{statement}
@@ -40,7 +41,7 @@ fill-requires c κs =
     let g = w .before .before .before in
     let s = start g in (
       omega (arith, opened-most _ _ _ (s .pre)),
-      omega (arith, w .words-of .ensures, e .if1 .left),
+      (is-sized _ _ _ _ _ _ _ (s .pre) (given-size g) .room, omega (arith, w .words-of .ensures, e .if1 .left)),
     )
 
 returns-2 : tie.Need-returns-2

@@ -19,6 +19,11 @@ returns-2 c =
     let b = c .before .before in
     rw (← b .before .cells-for .ensures, le-ltb _ _ (b .if1 .left), ← c .before .is-bad .ensures, c .if2 .taken)
 
+size-walk-requires : tie.Need-size-walk-requires
+size-walk-requires c κs =
+    let d = c .before in
+    omega (arith, d .before .before .if1 .left, d .before .before .before .cells-for .ensures)
+
 returns-3 : tie.Need-returns-3
 unfolding sizeIn chain
 returns-3 c =
@@ -36,4 +41,4 @@ returns-3 c =
     (c .size-walk .ensures)
 
 pub size-in-spec : {M : Type 1} → statement M
-size-in-spec = tie.close (tie.spec (search needs) returns (search needs) returns-2 (search needs) (search needs) returns-3)
+size-in-spec = tie.close (tie.spec (search needs) returns (search needs) returns-2 (search needs) size-walk-requires returns-3)

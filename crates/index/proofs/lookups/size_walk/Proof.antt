@@ -8,6 +8,7 @@ use borrow.Author.Tests.{ne-eqb}
 use Rattle.page.specs.Records.{recordAt}
 use Rattle.page.proofs.Within.{data-within}
 use Rattle.chunk.specs.Records.{ageOf}
+use Rattle.index.specs.Cells.{word}
 use Rattle.index.specs.Chains.{objects, top}
 use Rattle.index.specs.Walks.{recordsIn, sizeReached, reach, sizeWalk, under}
 use Rattle.index.specs.declared.chains.Step.the-variants.{End, Damaged, Record}
@@ -88,25 +89,39 @@ returns-4 c =
     c .size-file .ensures
     ∙ sym (turn g .loop .inv .1 ∙ ap (sizeReached _) (reach-here says _ _ _ _ _ _ _ _ (here g .onward _ refl) e))
 
+-- the record at which data was passed
+abbrev passed : tie.After-link-at Inv-loop μ-loop → tie.After-step Inv-loop μ-loop
+passed c = c .before .before .before .before .before
+
+mul-link : tie.Need-mul-link Inv-loop μ-loop
+mul-link c = omega (arith, here (passed c) .leads .inside, c .link-at .ensures)
+
+read-link : tie.Need-shared-slice-read-link Inv-loop μ-loop
+read-link c =
+    let g = passed (c .before) in
+    omega (arith, here g .leads .inside, c .before .link-at .ensures, start g .pre)
+
 loop-less : tie.Need-loop-less Inv-loop μ-loop
-loop-less c = here (c .before .before .before .before .before .before) .older
+loop-less c = here (passed (c .before .before)) .older
 
 -- no page of data has the chunk number 0: nothing is noted as its copy
 loop-again : tie.Need-loop-again Inv-loop μ-loop
 loop-again c =
-    let g = c .before .before .before .before .before .before in
+    let i = c .before .before in
+    let g = passed i in
     let q = turn g .loop in
     let a = start g .args in
     let says = recordAt (a .g) (a .dump .now) in
-    let d = c .before .before .before .role .given .0 .0 in
-    let e = role-data (says (g .step .given .0 .0 .0)) d (sym (c .before .before .before .role .given .1) ∙ here g .is) in
+    let r = i .before .before in
+    let d = r .role .given .0 .0 in
+    let e = role-data (says (g .step .given .0 .0 .0)) d (sym (r .role .given .1) ∙ here g .is) in
     let some : d .chunk .0 ≡ 0 → ⊥ = λ z. absurd (omega (arith, data-within (a .g) (a .dump .now) (g .step .given .0 .0 .0) d e .chunk .least)) in
-    let on = here g .onward _ (c .link-of .ensures) in (
+    let on = here g .onward _ (ap (word (a .cells .now)) (i .link-at .ensures)) in (
       omega (arith, q .inv .0, count-on _ _ _ on),
       q .inv .1
           ∙ ap (sizeReached says)
           (reach-on says _ _ _ _ _ _ _ _ on (rw e refl)
-          ∙ rw (e, ne-eqb (d .chunk .0) 0 some, c .before .end-with .ensures)),
+          ∙ rw (e, ne-eqb (d .chunk .0) 0 some, c .end-with .ensures)),
     )
 
 pub size-walk-spec : {M : Type 1} → statement M
@@ -129,6 +144,8 @@ size-walk-spec =
     (search needs)
     returns-4
     (search needs)
+    mul-link
+    read-link
     (search needs)
     loop-less
     loop-again)
