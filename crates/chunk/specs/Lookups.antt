@@ -34,6 +34,7 @@ shownOf P c size = min P (size - baseOf P c)
 abbrev pub validOf : (P chunk : ℕ) → Record → (shown : ℕ) → Cut → ℕ
 validOf P c k shown cut = min (countOf k) (leaves cut (baseOf P c) shown)
 
+-- object o of a dump of n pages
 module _ (says : ℕ → Record) (o n : ℕ) where
   -- by its newest header, if it has one
   unfoldable pub fileBy : Option ℕ → File

@@ -9,12 +9,12 @@ use Rattle.chunk.specs.Gather.{gather}
 use Rattle.chunk.specs.Records.{ageOf, isOf, headerOf, isCopy}
 
 -- the newer of page p and another, if there is one
-abbrev pub later : (ℕ → Record) → ℕ → Option ℕ → Option ℕ
+abbrev pub later : (says : ℕ → Record) (page : ℕ) → Option ℕ → Option ℕ
 later says p none = some p
 later says p (some q) = pick (leb (ageOf says q) (ageOf says p)) (some p) (some q)
 
 -- the newest of the first n pages that pass a test
-unfoldable pub newest : (ℕ → Record) → (Record → Bool) → ℕ → Option ℕ
+unfoldable pub newest : (says : ℕ → Record) (test : Record → Bool) (pages : ℕ) → Option ℕ
 newest says test n = gather (λ p r. pick (test (says p)) (later says p r) r) none n
 
 -- whether a page is a data page of object o with chunk number c

@@ -23,7 +23,7 @@ abbrev pub orderOf : (sequence page : ℕ) → ℕ
 orderOf sequence page = sequence * 4294967296 + page
 
 -- how new page p is
-abbrev pub ageOf : (ℕ → Record) → ℕ → ℕ
+abbrev pub ageOf : (says : ℕ → Record) (page : ℕ) → ℕ
 ageOf says p = orderOf (sequenceOf (says p)) p
 
 -- whether a page is a record of object o; a header of it; a data page of it

@@ -31,12 +31,12 @@ newestIn says none = Nothing
 newestIn says (some p) = At (record { 0 = p }) (ageOf says p)
 
 -- the newer of a page and another, by their ages
-abbrev pub laterIn : Newest → (p age : ℕ) → Newest
+abbrev pub laterIn : Newest → (page age : ℕ) → Newest
 laterIn Nothing p a = At (record { 0 = p }) a
 laterIn (At q b) p a = pick (leb b a) (At (record { 0 = p }) a) (At q b)
 
 -- the largest end so far, with page p too
-unfoldable pub endWith : (end P o x p : ℕ) → Record → ℕ
+unfoldable pub endWith : (end P object age page : ℕ) → Record → ℕ
 endWith end P o x p r = pick (dataOf o r && ltb x (orderOf (sequenceOf r) p)) (max (endOf P r) end) end
 
 -- the lowest cut so far, with page p too

@@ -8,7 +8,7 @@ use Rattle.chunk.specs.Gather.{gather}
 use Rattle.chunk.specs.Records.{ageOf, dataOf, chunkOf, countOf, fileSize, baseOf}
 
 -- where the bytes of a data page end in its file
-abbrev pub endOf : ℕ → Record → ℕ
+abbrev pub endOf : (P : ℕ) → Record → ℕ
 endOf P k = baseOf P (chunkOf k) + countOf k
 
 -- the largest end among the data records of object o newer than an age

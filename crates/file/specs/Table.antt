@@ -72,11 +72,11 @@ filledBy look table (Refused r n) = table
 filledBy look table (Rows z m) = rows look m ++ drop (wordsOf m) table
 
 -- the table of object o of a dump, by any cells, in so many words
-unfoldable pub tableFrom : Geometry → (dump cells : List ℕ) (o room : ℕ) → Tabled
+unfoldable pub tableFrom : Geometry → (dump cells : List ℕ) (object room : ℕ) → Tabled
 tableFrom g dump cells o room = tableBy (g .layout .«data») room (sizeFrom g dump cells o)
 
 -- what lies ahead for each chunk of a file of a size, from a link on
-abbrev pub allAhead : (says : ℕ → Record) (P size n : ℕ) (cells : List ℕ) (o first c : ℕ) → Looked
+abbrev pub allAhead : (says : ℕ → Record) (P size pages : ℕ) (cells : List ℕ) (object first chunk : ℕ) → Looked
 allAhead says P size n cells o first c = ahead says P c (shownOf P c size) true Nowhere (under says n cells o top first)
 
 -- a table of m rows in which page q, of chunk number c and byte count n, is noted: if the chunk has a row, nothing is noted there, and no newer

@@ -75,7 +75,7 @@ module _ (says : ℕ → Record) where
   behind (rec q t) = pick (isHeader (says q)) t (behind t)
 
   -- the size that the newest header h gives, with the largest end of the data above it
-  abbrev pub sizeAt : (h end : ℕ) → ℕ
+  abbrev pub sizeAt : (header end : ℕ) → ℕ
   sizeAt h end = max (fileSize (says h)) end
 
   -- the size by what was reached
@@ -116,7 +116,7 @@ module _ (says : ℕ → Record) where
     seek shown cut v (rec q t) = pick (isShown cut q) (found shown cut q (v + 1)) (seek shown (cutBy false q cut) (v + 1) t)
 
     -- the copy that was met above the newest header h, where nothing cuts, or else the copy below it
-    unfoldable pub copyFrom : (h shown v : ℕ) → Trace → Met → Looked
+    unfoldable pub copyFrom : (header shown visits : ℕ) → Trace → Met → Looked
     copyFrom h shown v t (Copy q) = found shown Nowhere (q .0) v
     copyFrom h shown v t Nothing = seek shown (cutBy true h Nowhere) v t
 
