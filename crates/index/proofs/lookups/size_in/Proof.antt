@@ -1,4 +1,4 @@
--- The refusals come in the definition's order; an object that is not bad has an id above 0.
+-- The refusals come in the definition's order; behind them the words are enough for the walk.
 use mathlib.Core.Path.{_∙_}
 use native.Mathlib.Omega.{arith}
 use borrow.Author.Needs.{needs}
