@@ -64,7 +64,7 @@ typedef struct {
     uint32_t count;
 } lohenarr_kind_answer;
 
-/* The header fields that are numbers. */
+/* The header fields that are numbers. size_high alters no answer. */
 typedef struct {
     uint32_t refusal;
     uint32_t page_type;
@@ -85,6 +85,7 @@ typedef struct {
     uint64_t win_modified;
     uint32_t inband_shadow;
     uint32_t inband_shrink;
+    uint32_t size_high;
     uint32_t shadowed_id;
     uint32_t shrink;
 } lohenarr_header_answer;
@@ -185,10 +186,10 @@ lohenarr_header_answer lohenarr_header(const uint8_t *dump, size_t len, lohenarr
 /* The name in a header, 256 bytes. */
 lohenarr_part_answer lohenarr_header_name(const uint8_t *dump, size_t len, lohenarr_geometry geometry, uint32_t page);
 
-/* The alias in a header, 128 bytes. */
+/* The alias in a header, 160 bytes. */
 lohenarr_part_answer lohenarr_header_alias(const uint8_t *dump, size_t len, lohenarr_geometry geometry, uint32_t page);
 
-/* The reserved bytes of a header, 8 bytes. */
+/* The reserved bytes of a header, 4 bytes. */
 lohenarr_part_answer lohenarr_header_reserved(const uint8_t *dump, size_t len, lohenarr_geometry geometry, uint32_t page);
 
 /* The size of an object, from the dump alone. */

@@ -104,7 +104,7 @@ impl KindAnswer {
     pub const DATA: u32 = 5;
 }
 
-/// The header fields that are numbers, in the order of document 01's table.
+/// The header fields that are numbers, in the table's order.
 #[repr(C)]
 #[derive(Clone, Copy, Debug, PartialEq, Eq)]
 pub struct HeaderAnswer {
@@ -127,6 +127,7 @@ pub struct HeaderAnswer {
     pub win_modified: u64,
     pub inband_shadow: u32,
     pub inband_shrink: u32,
+    pub size_high: u32,
     pub shadowed_id: u32,
     pub shrink: u32,
 }

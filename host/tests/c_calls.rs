@@ -39,6 +39,10 @@ fn places() -> String {
             "header_answer.win_created",
             offset_of!(HeaderAnswer, win_created),
         ),
+        (
+            "header_answer.size_high",
+            offset_of!(HeaderAnswer, size_high),
+        ),
         ("header_answer.shrink", offset_of!(HeaderAnswer, shrink)),
         ("part_answer.length", offset_of!(PartAnswer, length)),
         ("size_answer.size", offset_of!(SizeAnswer, size)),

@@ -34,6 +34,7 @@ refusedHeader refusal = record {
   «win_modified» = 0;
   «inband_shadow» = 0;
   «inband_shrink» = 0;
+  «size_high» = 0;
   «shadowed_id» = 0;
   shrink = 0;
 }
@@ -59,6 +60,7 @@ fieldsAnswer f = record {
   «win_modified» = f .«win_modified»;
   «inband_shadow» = f .«inband_shadow»;
   «inband_shrink» = f .«inband_shrink»;
+  «size_high» = f .«size_high»;
   «shadowed_id» = f .«shadowed_id»;
   shrink = f .shrink;
 }

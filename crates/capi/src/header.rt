@@ -10,7 +10,7 @@ use page::header::Headed;
 use page::header::header;
 use page::number::PageNumber;
 
-// The fields in the order of document 01's table.
+// The fields in the table's order.
 #[repr(C)]
 pub struct HeaderAnswer {
     pub refusal: u32,
@@ -32,6 +32,7 @@ pub struct HeaderAnswer {
     pub win_modified: u64,
     pub inband_shadow: u32,
     pub inband_shrink: u32,
+    pub size_high: u32,
     pub shadowed_id: u32,
     pub shrink: u32,
 }
@@ -59,6 +60,7 @@ fn refused_header(refusal: u32) -> HeaderAnswer
         win_modified: 0,
         inband_shadow: 0,
         inband_shrink: 0,
+        size_high: 0,
         shadowed_id: 0,
         shrink: 0,
     }
@@ -87,6 +89,7 @@ fn fields_answer(f: Fields) -> HeaderAnswer
         win_modified: f.win_modified,
         inband_shadow: f.inband_shadow,
         inband_shrink: f.inband_shrink,
+        size_high: f.size_high,
         shadowed_id: f.shadowed_id,
         shrink: f.shrink,
     }

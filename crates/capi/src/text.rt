@@ -48,7 +48,7 @@ pub extern "C" fn lohenarr_header_name(dump: &[u8], geometry: Geometry, page: u3
     text_answer(dump, geometry, page, Text::Name)
 }
 
-// The alias in a header, 128 bytes.
+// The alias in a header, 160 bytes.
 #[no_mangle]
 pub extern "C" fn lohenarr_header_alias(dump: &[u8], geometry: Geometry, page: u32) -> PartAnswer
     ensures { λ r. ⌜ r ≡ textAnswer Alias (geometryAt geometry) (now (dump .entry)) page ⌝ }
@@ -57,7 +57,7 @@ pub extern "C" fn lohenarr_header_alias(dump: &[u8], geometry: Geometry, page: u
     text_answer(dump, geometry, page, Text::Alias)
 }
 
-// The reserved bytes of a header, 8 bytes.
+// The reserved bytes of a header, 4 bytes.
 #[no_mangle]
 pub extern "C" fn lohenarr_header_reserved(dump: &[u8], geometry: Geometry, page: u32) -> PartAnswer
     ensures { λ r. ⌜ r ≡ textAnswer Reserved (geometryAt geometry) (now (dump .entry)) page ⌝ }

@@ -16,7 +16,7 @@ use Rattle.page.specs.Find.{highest, winner, winnerOf}
 use Rattle.page.specs.Leaving.{inTurn, needOf}
 use Rattle.page.specs.declared.layout.Named.the-variants as named
 use Rattle.page.specs.declared.refusal.Refusal.the-variants.{NoLayout}
-use Rattle.page.proofs.Searching.{by-test}
+use Rattle.page.proofs.Searching.{by-test, one-more}
 
 -- the guess has the first turn, the first of the table that of the guess, and any other its own
 module _ (guess : ℕ) where
@@ -81,10 +81,6 @@ leads-none score order =
       before = λ t h. absurd (omega arith);
     }
 
--- one turn more: the turns before it, and it
-turn-more : (P : ℕ → Type 0) (turns t : ℕ) → t < turns + 1 → P turns → (t < turns → P t) → P t
-turn-more P turns t h last earlier = ⊎-elim (λ e. rw e last) earlier (eq-or-lt-of-le (le-of-suc-le-suc (rw add-one at h)))
-
 module _ {score order : ℕ → ℕ} {turns best found : ℕ} (l : Leads score order turns best found) where
   -- something is needed to lead
   pub need-some : 0 < needOf (order turns) found best
@@ -100,8 +96,8 @@ module _ {score order : ℕ → ℕ} {turns best found : ℕ} (l : Leads score o
         within = l .within;
         some = l .some;
         here = l .here;
-        most = λ t g. turn-more (λ i. score (order i) ≤ best) turns t g (omega (arith, need-between (order turns) found best .1)) (l .most t);
-        before = λ t g. turn-more (λ i. order i < found → score (order i) < best) turns t g (λ early. rw (need-early (order turns) found best early) at h) (l .before t);
+        most = λ t g. one-more (λ i. score (order i) ≤ best) turns t g (omega (arith, need-between (order turns) found best .1)) (l .most t);
+        before = λ t g. one-more (λ i. order i < found → score (order i) < best) turns t g (λ early. rw (need-early (order turns) found best early) at h) (l .before t);
       }
 
   -- one that does leads
@@ -111,8 +107,8 @@ module _ {score order : ℕ → ℕ} {turns best found : ℕ} (l : Leads score o
         within = g;
         some = λ _. omega (arith, need-some);
         here = λ _. refl;
-        most = λ t b. turn-more (λ i. score (order i) ≤ score (order turns)) turns t b (omega arith) (λ a. omega (arith, l .most t a, least));
-        before = λ t b. turn-more (λ i. order i < order turns → score (order i) < score (order turns)) turns t b (λ e. absurd (omega arith)) (earlier t);
+        most = λ t b. one-more (λ i. score (order i) ≤ score (order turns)) turns t b (omega arith) (λ a. omega (arith, l .most t a, least));
+        before = λ t b. one-more (λ i. order i < order turns → score (order i) < score (order turns)) turns t b (λ e. absurd (omega arith)) (earlier t);
       }
     where
       least : best ≤ score (order turns)

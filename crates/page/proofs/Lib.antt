@@ -14,5 +14,6 @@ pub mod Leaving
 pub mod Finding
 pub mod Reading
 pub mod Within
+pub mod Headers
 pub mod Marked
 pub mod Needed

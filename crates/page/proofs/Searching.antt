@@ -1,7 +1,9 @@
 -- Laws of a choice by a test, of the first number that passes a test, and of how many numbers do.
 use Prim.Native.Nat.{ℕ, zero, suc, _+_, _-_, _≤_, _<_, zero-le}
 use mathlib.Core.Bool.{Bool, true, false}
+use mathlib.Core.Logic.{⊎-elim}
 use mathlib.Core.Path.{_≡_, refl, _∙_}
+use native.Mathlib.Nat.{eq-or-lt-of-le, le-of-suc-le-suc}
 use native.Mathlib.Numerals.{add-one}
 use native.Mathlib.Omega.{arith}
 use Rattle.page.specs.Choice.{pick}
@@ -20,6 +22,10 @@ pick-cases false x y r P e f g = g refl e
 pub by-test : (b : Bool) (P : Type 0) → (b ≡ true → P) → (b ≡ false → P) → P
 by-test true P f g = f refl
 by-test false P f g = g refl
+
+-- below n + 1 are n and the numbers below n
+pub one-more : (P : ℕ → Type 0) (n i : ℕ) → i < n + 1 → P n → (i < n → P i) → P i
+one-more P n i h last earlier = ⊎-elim (λ e. rw e last) earlier (eq-or-lt-of-le (le-of-suc-le-suc (rw add-one at h)))
 
 module _ (test : ℕ → Bool) where
   -- a search that is not at its end looks at the next number

@@ -6,10 +6,10 @@ use mathlib.Core.Bool.{Bool, true, false, not, _||_}
 use mathlib.Core.List.{List}
 use mathlib.Core.Path.{_≡_, refl, _∙_}
 use lib.Dec.{eqb, ltb}
-use lib.ListN.{length, getD}
+use lib.ListN.{length, getD, take, drop, length-take, List·getD-eq-default}
 use lib.Seq.{getD-take, getD-drop}
 use native.Mathlib.Omega.{arith}
-use borrow.Author.Tests.{eqb-false, ltb-false, lt-ltb, le-ltb, ne-eqb}
+use borrow.Author.Tests.{eqb-false, ltb-true, ltb-false, lt-ltb, le-ltb, ne-eqb}
 use Rattle.page.specs.Choice.{pick}
 use Rattle.page.specs.Words.{le32}
 use Rattle.page.specs.Numbers.{mostObject, mostChunk, badObject, badChunk}
@@ -34,7 +34,7 @@ use Rattle.page.specs.declared.record.Data as «data»
 use Rattle.page.specs.declared.record.Record.the-variants as recorded
 use Rattle.page.proofs.Lengths.{opened-facts, page-in, page-within}
 use Rattle.page.proofs.Layouts.{roomy-facts}
-use Rattle.page.proofs.Searching.{clash, pick-cases}
+use Rattle.page.proofs.Searching.{clash, by-test, pick-cases}
 
 -- neither of two tests that fail together holds
 or-left : (a b : Bool) → a || b ≡ false → a ≡ false
@@ -331,21 +331,17 @@ abbrev pub AllBytes : List ℕ → Type 0
 AllBytes s = (i : ℕ) → getD s i 0 < 256
 
 -- the bytes of a page are bytes of the dump
-page-byte : (g : Geometry) (dump : List ℕ) (i j : ℕ) → AllBytes dump → j < pageLen (g .layout) → getD (pageAt g dump i) j 0 < 256
+pub page-bytes : (g : Geometry) (dump : List ℕ) (i : ℕ) → AllBytes dump → AllBytes (pageAt g dump i)
 unfolding pageAt
-page-byte g dump i j b h = rw (getD-take, getD-drop) (b (i * pageLen (g .layout) + j))
+page-bytes g dump i b j =
+    let long = pageLen (g .layout) in
+    by-test (ltb j long) _ (λ t. let h : j < long = ltb-true _ _ t in rw (getD-take, getD-drop) (b (i * long + j)))
+    (λ t. let h : long ≤ j = ltb-false _ _ t in rw (List·getD-eq-default (take long (drop (i * long) dump)) 0 {n = j} (simp length-take (omega arith))) (omega arith))
 
--- a word of a page is below 2^32
-pub word-below : (g : Geometry) (dump : List ℕ) (i at : ℕ) → AllBytes dump → at + 4 ≤ pageLen (g .layout) → le32 (pageAt g dump i) at < 2 ^ 32
+-- a word of bytes is below 2^32
+pub word-below : (s : List ℕ) (at : ℕ) → AllBytes s → le32 s at < 2 ^ 32
 unfolding le32
-word-below g dump i at b h =
-    omega (
-      arith,
-      page-byte g dump i at b (omega arith),
-      page-byte g dump i (at + 1) b (omega arith),
-      page-byte g dump i (at + 2) b (omega arith),
-      page-byte g dump i (at + 3) b (omega arith),
-    )
+word-below s at b = omega (arith, b at, b (at + 1), b (at + 2), b (at + 3))
 
 -- a header's parent and size are machine words
 pub record HeaderWords (h : header.Header) : Type 0 where
@@ -356,9 +352,6 @@ pub header-words : (g : Geometry) (dump : List ℕ) (i : ℕ) (h : header.Header
 unfolding fieldsOf
 header-words g dump i h b e =
     let f = header-says g dump i h e in
-    let w = header-within g dump i h e in
-    let r = roomy-facts (g .layout) (page-within g (length dump) i (w .page) .room) in
-    record {
-      parent = rw (f .parent-is) (word-below g dump i atParent b (omega arith));
-      size = rw (f .size-is) (word-below g dump i atSize b (omega arith));
-    }
+    let page = pageAt g dump i in
+    let bytes = page-bytes g dump i b in
+    record { parent = rw (f .parent-is) (word-below page atParent bytes); size = rw (f .size-is) (word-below page atSize bytes) }

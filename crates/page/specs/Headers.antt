@@ -1,4 +1,4 @@
--- The header page (document 01, "Header page"; source document 000): where each field stands, and how many bytes it has.
+-- The header page (document 01, "Header page", and from the alias on document 02, item 2): where each field stands, and how many bytes it has.
 use Prim.Native.Nat.{ℕ}
 use mathlib.Core.List.{List}
 use lib.ListN.{take, drop}
@@ -50,31 +50,34 @@ abbrev pub atAlias : ℕ
 atAlias = 0x12C
 
 abbrev pub atRdev : ℕ
-atRdev = 0x1AC
+atRdev = 0x1CC
 
 abbrev pub atWinCreated : ℕ
-atWinCreated = 0x1B0
+atWinCreated = 0x1D0
 
 abbrev pub atWinAccessed : ℕ
-atWinAccessed = 0x1B8
+atWinAccessed = 0x1D8
 
 abbrev pub atWinModified : ℕ
-atWinModified = 0x1C0
+atWinModified = 0x1E0
 
 abbrev pub atInbandShadow : ℕ
-atInbandShadow = 0x1C8
+atInbandShadow = 0x1E8
 
 abbrev pub atInbandShrink : ℕ
-atInbandShrink = 0x1CC
+atInbandShrink = 0x1EC
+
+abbrev pub atSizeHigh : ℕ
+atSizeHigh = 0x1F0
 
 abbrev pub atReserved : ℕ
-atReserved = 0x1D0
+atReserved = 0x1F4
 
 abbrev pub atShadowed : ℕ
-atShadowed = 0x1D8
+atShadowed = 0x1F8
 
 abbrev pub atShrink : ℕ
-atShrink = 0x1DC
+atShrink = 0x1FC
 
 -- the fields that are numbers
 unfoldable pub fieldsOf : List ℕ → Fields
@@ -97,6 +100,7 @@ fieldsOf page = record {
   «win_modified» = le64 page atWinModified;
   «inband_shadow» = le32 page atInbandShadow;
   «inband_shrink» = le32 page atInbandShrink;
+  «size_high» = le32 page atSizeHigh;
   «shadowed_id» = le32 page atShadowed;
   shrink = le32 page atShrink;
 }
@@ -109,8 +113,8 @@ textPlace Reserved = atReserved
 
 abbrev pub textLength : Text → ℕ
 textLength Name = 256
-textLength Alias = 128
-textLength Reserved = 8
+textLength Alias = 160
+textLength Reserved = 4
 
 -- the bytes of such a field
 unfoldable pub textOf : Text → List ℕ → List ℕ

@@ -1,4 +1,4 @@
--- Which bytes of a dump the finding of its layout reads (document 02, item 3).
+-- Which bytes are read: of a page by its kind and its fields, and of a dump by the finding of its layout (document 02, items 2 and 3).
 use Prim.Native.Nat.{ℕ, _+_, _%_, _<_}
 use mathlib.Core.Bool.{Bool, true, _&&_}
 use mathlib.Core.Path.{_≡_}
@@ -6,12 +6,26 @@ use mathlib.Core.List.{List, [], _∷_, _++_}
 use lib.ListN.{length, getD}
 use lib.Dec.{leb, ltb}
 use Rattle.page.specs.Search.{count}
+use Rattle.page.specs.Words.{le32}
+use Rattle.page.specs.Headers.{atType, atParent, atSize, atShrink}
 use Rattle.page.specs.Layouts.{layouts, layoutAt, tagLength, pageLen, tagPlace}
 use Rattle.page.specs.Lengths.{blockFits, lengthFits, wholeBlocks, pageIn}
-use Rattle.page.specs.Tags.{claimAt}
+use Rattle.page.specs.Tags.{tagBytes, claimAt}
 use Rattle.page.specs.Find.{candidateAt}
 use Rattle.page.specs.Shelf.{tagged, erased}
 use Rattle.page.specs.declared.layout.Layout.{Layout}
+
+-- two pages with the same first n bytes
+abbrev pub SameFirst : (count : ℕ) (p q : List ℕ) → Type 0
+SameFirst n p q = (i : ℕ) → i < n → getD p i 0 ≡ getD q i 0
+
+-- two pages of a layout with the same tags, type, parent, file size and shrink word
+pub record SameWords (l : Layout) (p q : List ℕ) : Type 0 where
+  pub tags : tagBytes l p ≡ tagBytes l q
+  pub page-type : le32 p atType ≡ le32 q atType
+  pub parent : le32 p atParent ≡ le32 q atParent
+  pub size : le32 p atSize ≡ le32 q atSize
+  pub shrink : le32 p atShrink ≡ le32 q atShrink
 
 -- whether byte `at` of a dump of this layout lies in the spare of its page
 unfoldable pub inSpare : Layout → ℕ → Bool

@@ -33,7 +33,7 @@ erased n = replicate n 0xFF
 -- a header of object 257, type 1 and parent 1
 unfoldable pub headerPage : (sequence size shrink : ℕ) → List ℕ
 headerPage sequence size shrink =
-    wordBytes 1 ++ wordBytes 1 ++ erased 0x11C ++ wordBytes size ++ erased 0xB4 ++ wordBytes shrink ++ erased 0x20 ++
+    wordBytes 1 ++ wordBytes 1 ++ erased 0x11C ++ wordBytes size ++ erased 0xD4 ++ wordBytes shrink ++
     tagged sequence 0x10000101 0x80000001 0
 
 -- a data page of object 257

@@ -8,7 +8,7 @@ use crate::word::half_at;
 use crate::word::long_at;
 use crate::word::word_at;
 
-// The fields that are numbers, in the order of document 01's table.
+// The fields that are numbers, in the table's order.
 pub struct Fields {
     pub page_type: u32,
     pub parent: u32,
@@ -28,6 +28,7 @@ pub struct Fields {
     pub win_modified: u64,
     pub inband_shadow: u32,
     pub inband_shrink: u32,
+    pub size_high: u32,
     pub shadowed_id: u32,
     pub shrink: u32,
 }
@@ -69,23 +70,25 @@ impl Fields {
 
     pub const ALIAS: usize = 0x12C;
 
-    pub const RDEV: usize = 0x1AC;
+    pub const RDEV: usize = 0x1CC;
 
-    pub const WIN_CREATED: usize = 0x1B0;
+    pub const WIN_CREATED: usize = 0x1D0;
 
-    pub const WIN_ACCESSED: usize = 0x1B8;
+    pub const WIN_ACCESSED: usize = 0x1D8;
 
-    pub const WIN_MODIFIED: usize = 0x1C0;
+    pub const WIN_MODIFIED: usize = 0x1E0;
 
-    pub const INBAND_SHADOW: usize = 0x1C8;
+    pub const INBAND_SHADOW: usize = 0x1E8;
 
-    pub const INBAND_SHRINK: usize = 0x1CC;
+    pub const INBAND_SHRINK: usize = 0x1EC;
 
-    pub const RESERVED: usize = 0x1D0;
+    pub const SIZE_HIGH: usize = 0x1F0;
 
-    pub const SHADOWED_ID: usize = 0x1D8;
+    pub const RESERVED: usize = 0x1F4;
 
-    pub const SHRINK: usize = 0x1DC;
+    pub const SHADOWED_ID: usize = 0x1F8;
+
+    pub const SHRINK: usize = 0x1FC;
 
     // The numbers of a header page.
     pub(crate) fn of_page(page: &[u8]) -> Fields
@@ -111,6 +114,7 @@ impl Fields {
             win_modified: long_at(page, Fields::WIN_MODIFIED),
             inband_shadow: word_at(page, Fields::INBAND_SHADOW),
             inband_shrink: word_at(page, Fields::INBAND_SHRINK),
+            size_high: word_at(page, Fields::SIZE_HIGH),
             shadowed_id: word_at(page, Fields::SHADOWED_ID),
             shrink: word_at(page, Fields::SHRINK),
         }
@@ -135,8 +139,8 @@ impl Text {
     {
         match self {
             Text::Name => 256,
-            Text::Alias => 128,
-            Text::Reserved => 8,
+            Text::Alias => 160,
+            Text::Reserved => 4,
         }
     }
 }

@@ -45,8 +45,8 @@ impl<'a> Header<'a> {
         line(&fields)
     }
 
-    /// The fields with their names, in the order of document 01's table.
-    pub fn fields(&self) -> [Field<'a>; 23] {
+    /// The fields with their names, in the table's order.
+    pub fn fields(&self) -> [Field<'a>; 24] {
         let n = &self.numbers;
         [
             ("type", n.page_type.into()),
@@ -69,6 +69,7 @@ impl<'a> Header<'a> {
             ("win_modified", n.win_modified.into()),
             ("inband_shadow", n.inband_shadow.into()),
             ("inband_shrink", n.inband_shrink.into()),
+            ("size_high", n.size_high.into()),
             ("reserved", Value::Bytes(self.reserved)),
             ("shadowed_id", n.shadowed_id.into()),
             ("shrink", n.shrink.into()),

@@ -59,6 +59,7 @@ int main(void) {
     FIELD(lohenarr_kind_answer, count);
     FIELD(lohenarr_header_answer, rdev);
     FIELD(lohenarr_header_answer, win_created);
+    FIELD(lohenarr_header_answer, size_high);
     FIELD(lohenarr_header_answer, shrink);
     FIELD(lohenarr_part_answer, length);
     FIELD(lohenarr_size_answer, size);

@@ -8,9 +8,11 @@ pub const W: &[u8] = include_bytes!("../data/W");
 const PAGE: usize = 528;
 const DATA: usize = 512;
 
-/// Where a header has its name and its size.
+/// Where a header has its name, its size and its alias, and the word behind that.
 const NAME: usize = 0xA;
 const SIZE: usize = 0x124;
+const ALIAS: usize = 0x12C;
+const RDEV: usize = 0x1CC;
 
 /// A new folder with the dumps. It goes when this does.
 pub fn folder() -> TempDir {
@@ -31,6 +33,7 @@ pub fn folder() -> TempDir {
     put("gzip", &[b"\x1F\x8B\x08\0", &W[..PAGE - 3]].concat());
     put("newline", &named(b"a\nb"));
     put("backslash", &named(b"a\\x0Ab"));
+    put("link", &link());
     put(
         "far",
         &[page(0), &with(page(1), DATA + 8, 0xF_FFFF)].concat(),
@@ -56,7 +59,19 @@ fn named(name: &[u8]) -> Vec<u8> {
     let mut page = page(0).to_vec();
     page[NAME..SIZE].fill(0);
     page[NAME..NAME + name.len()].copy_from_slice(name);
-    with(&page, 0x12C, 0)
+    with(&page, ALIAS, 0)
+}
+
+/// A symbolic link whose target is as long as can be. The words of the header
+/// behind it are 1, 2 and so on.
+fn link() -> Vec<u8> {
+    let mut page = named(b"link");
+    page[ALIAS..RDEV - 1].fill(b'a');
+    page[RDEV - 1] = 0;
+    for (n, at) in (1..).zip((RDEV..DATA).step_by(4)) {
+        page = with(&page, at, n);
+    }
+    with(&with(&page, 0, 2), DATA + 4, 2 << 28 | 257)
 }
 
 /// One file of so many whole chunks, each page of which is in a block of its

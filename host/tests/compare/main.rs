@@ -1,7 +1,7 @@
 //! The proved library and a second reader, which shares no code with it, on
 //! the same dumps and requests: they must agree on every answer.
 //!
-//! - `second`: the second reader, written from document 01 alone.
+//! - `second`: the second reader, written from the documents alone.
 //! - `generator`: dumps and requests from a seed.
 //! - `library`: the library's answers to the same requests.
 //! - `corpus`: dumps that the YAFFS2 driver wrote.

@@ -256,7 +256,7 @@ impl<'d> Index<'d> {
         if matches!(word(header, 4), 3 | 4) {
             return 0;
         }
-        if word(header, 0) == 1 && (newest || word(header, 0x1DC) != 0) {
+        if word(header, 0) == 1 && (newest || word(header, 0x1FC) != 0) {
             return u64::from(word(header, 0x124));
         }
         NOWHERE

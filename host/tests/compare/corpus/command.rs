@@ -9,7 +9,7 @@ use lohenarr::arguments::{Arguments, Parsed};
 use lohenarr::commands;
 use tempfile::TempDir;
 
-use super::{cases, Case, DRIVERS_OWN};
+use super::{cases, value, Case, DRIVERS_OWN};
 use crate::sha256;
 
 /// What the command writes.
@@ -78,4 +78,52 @@ fn the_command_reads_what_the_driver_shows() {
             assert_eq!(sha256(&bytes), file.sha256, "{name}: object {object}");
         }
     }
+}
+
+/// The pages of headers whose word at 1FC is set, by the bytes alone.
+fn marked(case: &Case) -> Vec<usize> {
+    let sizes = case.layout.split('/').map(|size| size.parse().unwrap());
+    let [data, spare, tag]: [usize; 3] = sizes.collect::<Vec<_>>().try_into().unwrap();
+    let word = |page: &[u8], at| u32::from_le_bytes(page[at..at + 4].try_into().unwrap());
+    let is_marked = |page: &[u8]| {
+        let written = (0x1000..=0xEFFF_FF00).contains(&word(page, data + tag));
+        let chunk = word(page, data + tag + 8);
+        written && (chunk == 0 || chunk >> 31 == 1) && word(page, 0x1FC) != 0
+    };
+    let pages = case.dump.chunks(data + spare).enumerate();
+    pages
+        .filter(|(_, page)| is_marked(page))
+        .map(|(number, _)| number)
+        .collect()
+}
+
+/// The headers that are shown as shrink-marked are those in which the driver set
+/// the word at 1FC. They are few.
+#[test]
+fn the_command_shows_the_marks_that_the_driver_set() {
+    let folder = tempfile::tempdir().unwrap();
+    let mut counts = [0, 0];
+    for case in cases() {
+        let block = ["--block", &case.block];
+        let pages = lines("pages", &written(&case, &folder), &block);
+        let headers: Vec<&str> = pages
+            .lines()
+            .filter(|line| line.contains(" kind=header "))
+            .collect();
+        let shown = headers.iter().filter(|line| line.ends_with(" shrink=1"));
+        let shown: Vec<usize> = shown
+            .map(|line| value(line, "page").parse().unwrap())
+            .collect();
+        assert_eq!(shown, marked(&case), "{}", case.name);
+        println!(
+            "{}: {} of {} headers",
+            case.name,
+            shown.len(),
+            headers.len()
+        );
+        counts = [counts[0] + shown.len(), counts[1] + headers.len()];
+    }
+    let [marked, headers] = counts;
+    println!("{marked} of {headers} headers are marked");
+    assert!(0 < marked && marked < headers, "{marked} of {headers}");
 }

@@ -46,7 +46,7 @@ impl Builder {
     /// size and shrink. All others stay as they are.
     pub fn header(&mut self, page: usize, words: [u32; 4]) {
         let at = page * self.layout.page();
-        for (place, word) in [0x0, 0x4, 0x124, 0x1DC].into_iter().zip(words) {
+        for (place, word) in [0x0, 0x4, 0x124, 0x1FC].into_iter().zip(words) {
             self.put(at + place, word);
         }
     }

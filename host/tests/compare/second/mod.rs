@@ -1,4 +1,4 @@
-//! The second reader. It works out every rule of document 01 anew for each
+//! The second reader. It works out every rule of the documents anew for each
 //! call, from the whole dump: all records are collected and sorted, and an
 //! index is the set of pages added since the start. What its words hold, and
 //! what they say where something else wrote them, it has from docs/CELLS.md.

@@ -159,12 +159,11 @@ pub fn kind(dump: &[u8], layout: Layout, page: usize, wrong: Wrong) -> Kind {
         if tags.wrong_type(file_type, wrong) {
             return Kind::Damaged;
         }
-        let shrink = word(data, 0x1DC);
         Body::Header {
             file_type,
             parent: word(data, 4),
-            size: word(data, 0x124),
-            shrink: shrink == 1 || shrink != 0 && wrong != Wrong::ShrinkMarkOnlyOne,
+            size: file_size(data, wrong),
+            shrink: shrink_mark(data, wrong),
         }
     } else {
         Body::Data {
@@ -180,14 +179,35 @@ pub fn kind(dump: &[u8], layout: Layout, page: usize, wrong: Wrong) -> Kind {
     })
 }
 
+/// The size that a header gives a file.
+fn file_size(data: &[u8], wrong: Wrong) -> u32 {
+    match (wrong, word(data, 0x1F0)) {
+        (Wrong::SizeHighRead, 1..=0xFFFF_FFFE) => 0xFFFF_FFFF,
+        _ => word(data, 0x124),
+    }
+}
+
+/// Whether the shrink word of a header is set.
+fn shrink_mark(data: &[u8], wrong: Wrong) -> bool {
+    let mark = match wrong {
+        Wrong::ShrinkAtOldPlace => word(data, 0x1DC),
+        Wrong::ShrinkInBand => word(data, 0x1EC),
+        _ => word(data, 0x1FC),
+    };
+    match wrong {
+        Wrong::ShrinkMarkOnlyOne => mark == 1,
+        _ => mark != 0,
+    }
+}
+
 /// A header field: its value, or its bytes where it is no number.
 pub enum Field<'d> {
     Number(u64),
     Bytes(&'d [u8]),
 }
 
-/// The header table: name, offset, width, and whether the field is a number.
-const FIELDS: [(&str, usize, usize, bool); 23] = [
+/// The header table, up to the last byte of a header: name, offset, width, and whether the field is a number.
+pub const FIELDS: [(&str, usize, usize, bool); 24] = [
     ("type", 0x0, 4, true),
     ("parent", 0x4, 4, true),
     ("unused1", 0x8, 2, true),
@@ -201,24 +221,31 @@ const FIELDS: [(&str, usize, usize, bool); 23] = [
     ("created", 0x120, 4, true),
     ("file_size", 0x124, 4, true),
     ("equivalent_id", 0x128, 4, true),
-    ("alias", 0x12C, 128, false),
-    ("rdev", 0x1AC, 4, true),
-    ("win_created", 0x1B0, 8, true),
-    ("win_accessed", 0x1B8, 8, true),
-    ("win_modified", 0x1C0, 8, true),
-    ("inband_shadow", 0x1C8, 4, true),
-    ("inband_shrink", 0x1CC, 4, true),
-    ("reserved", 0x1D0, 8, false),
-    ("shadowed_id", 0x1D8, 4, true),
-    ("shrink", 0x1DC, 4, true),
+    ("alias", 0x12C, 160, false),
+    ("rdev", 0x1CC, 4, true),
+    ("win_created", 0x1D0, 8, true),
+    ("win_accessed", 0x1D8, 8, true),
+    ("win_modified", 0x1E0, 8, true),
+    ("inband_shadow", 0x1E8, 4, true),
+    ("inband_shrink", 0x1EC, 4, true),
+    ("size_high", 0x1F0, 4, true),
+    ("reserved", 0x1F4, 4, false),
+    ("shadowed_id", 0x1F8, 4, true),
+    ("shrink", 0x1FC, 4, true),
 ];
 
 /// The fields of a header page, in the order of the table.
-pub fn fields(dump: &[u8], layout: Layout, page: usize) -> Vec<(&'static str, Field<'_>)> {
+pub fn fields(
+    dump: &[u8],
+    layout: Layout,
+    page: usize,
+    wrong: Wrong,
+) -> Vec<(&'static str, Field<'_>)> {
     let data = data(dump, layout, page);
     FIELDS
         .iter()
         .map(|&(name, at, width, is_number)| {
+            let (at, width) = place(name, at, width, wrong);
             let bytes = &data[at..at + width];
             let field = match is_number {
                 true => Field::Number(number(bytes)),
@@ -227,4 +254,16 @@ pub fn fields(dump: &[u8], layout: Layout, page: usize) -> Vec<(&'static str, Fi
             (name, field)
         })
         .collect()
+}
+
+/// Where a field stands and how many bytes it has.
+fn place(name: &str, at: usize, width: usize, wrong: Wrong) -> (usize, usize) {
+    match (wrong, name) {
+        (Wrong::AliasCutShort, "alias") => (at, 128),
+        (Wrong::AliasOverRdev, "alias") => (at, 164),
+        (Wrong::FieldsAtOldPlaces, _) if at >= 0x1CC => (at - 32, width),
+        (Wrong::ReservedWithSizeHigh, "reserved") => (0x1F0, 8),
+        (Wrong::SizeHighOfInBandShrink, "size_high") => (0x1EC, width),
+        _ => (at, width),
+    }
 }

@@ -71,6 +71,6 @@ impl<'d> Reader<'d> {
             _ => false,
         };
         refuse(&[(Refusal::NotHeader, !header)], self.wrong)?;
-        Ok(fields(self.dump, layout, page))
+        Ok(fields(self.dump, layout, page, self.wrong))
     }
 }

@@ -6,7 +6,7 @@ macro_rules! wrong_rules {
         /// Which rule is wrong.
         #[derive(Clone, Copy, Debug, PartialEq, Eq)]
         pub enum Wrong {
-            /// Every rule is as document 01 says.
+            /// Every rule is as the documents say.
             None,
             $($(#[$doc])* $name,)*
         }
@@ -46,6 +46,24 @@ wrong_rules! {
     TypeOfOneByte,
     /// The shrink mark is the value 1 alone.
     ShrinkMarkOnlyOne,
+    /// The shrink mark stands where it would with an alias of 128 bytes.
+    ShrinkAtOldPlace,
+    /// The in-band word sets the shrink mark.
+    ShrinkInBand,
+    /// A file whose size has a high word is as long as 32 bits can say.
+    SizeHighRead,
+
+    // Header fields.
+    /// The alias has 128 bytes.
+    AliasCutShort,
+    /// The alias has 164 bytes.
+    AliasOverRdev,
+    /// The fields behind the alias stand as if it had 128 bytes.
+    FieldsAtOldPlaces,
+    /// The reserved bytes are 8, from the size's high word on.
+    ReservedWithSizeHigh,
+    /// The size's high word is the in-band shrink word.
+    SizeHighOfInBandShrink,
 
     // Finding.
     /// Among equal scores the last candidate wins.

@@ -3,6 +3,7 @@
 use crate::generator::shelf::{shelf, BLOCK, LAYOUT};
 use crate::second::index::{Lent, Over, Reader};
 use crate::second::layout::Named;
+use crate::second::page::FIELDS;
 use crate::second::script::{answer, index_words, Request};
 use crate::second::wrong::Wrong;
 
@@ -86,13 +87,26 @@ fn whole_dump_answers() {
     );
     let header = ask(Request::Header { layout, k, page: 4 });
     let fields: Vec<&str> = header.split(' ').collect();
-    assert_eq!(fields.len(), 23);
+    assert_eq!(fields.len(), 24);
     assert_eq!(fields[..3], ["type=1", "parent=1", "unused1=65535"]);
     assert_eq!(fields[3], format!("name={}", "ff".repeat(256)));
     assert_eq!(fields[11], "file_size=300");
     assert_eq!(fields[15], "win_created=18446744073709551615");
-    assert_eq!(fields[20], "reserved=ffffffffffffffff");
-    assert_eq!(fields[22], "shrink=1");
+    assert_eq!(fields[13], format!("alias={}", "ff".repeat(160)));
+    assert_eq!(
+        fields[20..22],
+        ["size_high=4294967295", "reserved=ffffffff"]
+    );
+    assert_eq!(fields[23], "shrink=1");
+}
+
+#[test]
+fn the_fields_are_all_of_a_header() {
+    let end = FIELDS.iter().fold(0, |end, &(name, at, width, _)| {
+        assert_eq!(at, end, "{name}");
+        at + width
+    });
+    assert_eq!(end, 512);
 }
 
 #[test]

@@ -5,8 +5,12 @@ use Rattle.page.specs.Headers.{fieldsOf}
 use Rattle.page.proofs.fields.Fields.of_page.Statement.{statement}
 use Rattle.page.proofs.fields.Fields.of_page.Tie as tie
 
+-- so long a way back to the precondition is written out
 word-at-requires-15 : tie.Need-word-at-requires-15
 word-at-requires-15 c κs = omega (arith, c .before .before .before .before .before .before .before .before .before .before .before .before .before .before .before .before .before .before .before .before .pre)
+
+word-at-requires-16 : tie.Need-word-at-requires-16
+word-at-requires-16 c κs = omega (arith, c .before .before .before .before .before .before .before .before .before .before .before .before .before .before .before .before .before .before .before .before .before .pre)
 
 -- the calls, from the last field's back to the first one's
 returns : tie.Need-returns
@@ -14,7 +18,8 @@ unfolding fieldsOf
 returns c =
     let shrink = c in
     let shadowed = shrink .before in
-    let inband-shrink = shadowed .before in
+    let size-high = shadowed .before in
+    let inband-shrink = size-high .before in
     let inband-shadow = inband-shrink .before in
     let win-modified = inband-shadow .before in
     let win-accessed = win-modified .before in
@@ -51,8 +56,9 @@ returns c =
       ← win-modified .long-at3 .ensures,
       ← inband-shadow .word-at12 .ensures,
       ← inband-shrink .word-at13 .ensures,
-      ← shadowed .word-at14 .ensures,
-      ← shrink .word-at15 .ensures,
+      ← size-high .word-at14 .ensures,
+      ← shadowed .word-at15 .ensures,
+      ← shrink .word-at16 .ensures,
     )
 
 pub of-page-spec : {M : Type 1} → statement M
@@ -79,4 +85,5 @@ of-page-spec =
     (search needs)
     (search needs)
     word-at-requires-15
+    word-at-requires-16
     returns)
