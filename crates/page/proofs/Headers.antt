@@ -1,10 +1,10 @@
 -- A header's fields are all of its 512 bytes: two pages that agree on every number and every text agree on each of them. So no byte of a header is
 -- left out of what the calls give, and the table has no gap. Field by field, each beginning where the one before it ends.
-use Prim.Native.Nat.{ℕ, zero, suc, _+_, _^_, _<_}
+use Prim.Native.Nat.{ℕ, zero, suc, _+_, _<_}
 use mathlib.Core.List.{List}
 use mathlib.Core.Path.{_≡_, refl, ap}
 use native.Mathlib.Omega.{arith}
-use lib.ListN.{getD, take, drop}
+use lib.ListN.{getD}
 use lib.Seq.{getD-take, getD-drop}
 use Rattle.page.specs.Words.{le16, le32, le64}
 use Rattle.page.specs.Layouts.{headerBytes}
@@ -103,8 +103,8 @@ module _ (p q : List ℕ) (bp : AllBytes p) (bq : AllBytes q) where
       let shadowed = word atShadowed (ap (λ f. f .«shadowed_id») e) reserved in
       word atShrink (ap (λ f. f .shrink) e) shadowed
 
--- a page has its kind by its tags and these four words. So nothing else in it decides anything: not the alias, nor a time, nor an in-band word, nor
--- the high word of the size
+-- A page has its kind, with all that the rules of records know of it, by its tags and four words of its header. So no other field decides anything: not
+-- the alias, nor a time, nor an in-band word, nor the high word of the size.
 kind-words : (l : Layout) (p q : List ℕ) (t : Tags) (c : Claim) → SameWords l p q → kindBy p t c ≡ kindBy q t c
 unfolding kindBy headerOf
 kind-words l p q t claim.Blank s = refl

@@ -32,8 +32,7 @@ use Rattle.page.specs.declared.kind.Kind.the-variants.{Blank, Foreign, D
 use Rattle.page.specs.declared.record.Header as header
 use Rattle.page.specs.declared.record.Data as «data»
 use Rattle.page.specs.declared.record.Record.the-variants as recorded
-use Rattle.page.proofs.Lengths.{opened-facts, page-in, page-within}
-use Rattle.page.proofs.Layouts.{roomy-facts}
+use Rattle.page.proofs.Lengths.{opened-facts, page-in}
 use Rattle.page.proofs.Searching.{clash, by-test, pick-cases}
 
 -- neither of two tests that fail together holds

@@ -206,7 +206,8 @@ pub enum Field<'d> {
     Bytes(&'d [u8]),
 }
 
-/// The header table, up to the last byte of a header: name, offset, width, and whether the field is a number.
+/// The header table, up to a header's last byte: name, offset, width, and
+/// whether the field is a number.
 pub const FIELDS: [(&str, usize, usize, bool); 24] = [
     ("type", 0x0, 4, true),
     ("parent", 0x4, 4, true),
