@@ -4,6 +4,7 @@ pub mod Gathering
 pub mod Cases
 pub mod Looking
 pub mod Undamaged
+pub mod Reading
 pub mod Laying
 pub mod Marked
 pub mod Meaning

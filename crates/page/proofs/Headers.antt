@@ -4,21 +4,25 @@ use Prim.Native.Nat.{ℕ, zero, suc, _+_, _<_}
 use mathlib.Core.List.{List}
 use mathlib.Core.Path.{_≡_, refl, ap}
 use native.Mathlib.Omega.{arith}
-use lib.ListN.{getD}
+use lib.ListN.{length, getD}
 use lib.Seq.{getD-take, getD-drop}
 use Rattle.page.specs.Words.{le16, le32, le64}
 use Rattle.page.specs.Layouts.{headerBytes}
 use Rattle.page.specs.Tags.{tagsOf, tagBytes, claimOf, claimOn}
-use Rattle.page.specs.Kinds.{headerOf, kindBy, kindOf}
-use Rattle.page.specs.Reading.{SameFirst, SameWords}
+use Rattle.page.specs.Lengths.{pageIn}
+use Rattle.page.specs.Kinds.{headerOf, kindBy, kindOf, kindAt}
+use Rattle.page.specs.Records.{recordOf, recordAt}
+use Rattle.page.specs.Reading.{SameFirst, SameWords, SameSaid, SamePages}
 use Rattle.page.specs.Headers.{atType, atParent, atUnused1, atUnused2, atMode, atUid, atGid, atAccessed, atModified, atCreated, atSize, atEquivalent, atRdev, atWinCreated, atWinAccessed, atWinModified, atInbandShadow, atInbandShrink, atSizeHigh, atShadowed, atShrink, fieldsOf, textPlace, textLength, textOf}
+use Rattle.page.specs.declared.geometry.Geometry.{Geometry}
 use Rattle.page.specs.declared.layout.Layout.{Layout}
+use Rattle.page.specs.declared.number.ObjectId.{ObjectId}
 use Rattle.page.specs.declared.tags.Tags.{Tags}
 use Rattle.page.specs.declared.tags.Claim.{Claim}
 use Rattle.page.specs.declared.tags.Claim.the-variants as claim
 use Rattle.page.specs.declared.fields.Text.{Text}
 use Rattle.page.specs.declared.fields.Text.the-variants.{Name, Alias, Reserved}
-use Rattle.page.proofs.Searching.{one-more}
+use Rattle.page.proofs.Searching.{by-test, one-more}
 use Rattle.page.proofs.Within.{AllBytes, word-below}
 
 -- how long a header is
@@ -103,16 +107,26 @@ module _ (p q : List ℕ) (bp : AllBytes p) (bq : AllBytes q) where
       let shadowed = word atShadowed (ap (λ f. f .«shadowed_id») e) reserved in
       word atShrink (ap (λ f. f .shrink) e) shadowed
 
--- A page has its kind, with all that the rules of records know of it, by its tags and four words of its header. So no other field decides anything: not
--- the alias, nor a time, nor an in-band word, nor the high word of the size.
-kind-words : (l : Layout) (p q : List ℕ) (t : Tags) (c : Claim) → SameWords l p q → kindBy p t c ≡ kindBy q t c
+-- A page has its kind, with all that the rules of records know of it, by its tags and, if it is a header, four of its words. So no other field decides
+-- anything: not the alias, nor a time, nor an in-band word, nor the high word of the size.
+kind-words : (p q : List ℕ) (t : Tags) (c : Claim) → ((sequence : ℕ) (object : ObjectId) → c ≡ claim.Header sequence object → SameWords p q) → kindBy p t c ≡ kindBy q t c
 unfolding kindBy headerOf
-kind-words l p q t claim.Blank s = refl
-kind-words l p q t claim.Foreign s = refl
-kind-words l p q t claim.Damaged s = refl
-kind-words l p q t (claim.Header sequence object) s = rw (s .page-type, s .parent, s .size, s .shrink)
-kind-words l p q t (claim.Data d) s = refl
+kind-words p q t claim.Blank same = refl
+kind-words p q t claim.Foreign same = refl
+kind-words p q t claim.Damaged same = refl
+kind-words p q t (claim.Header sequence object) same =
+    let w = same sequence object refl in
+    rw (w .page-type, w .parent, w .size, w .shrink)
+kind-words p q t (claim.Data d) same = refl
 
-pub kind-reads : (l : Layout) (p q : List ℕ) → SameWords l p q → kindOf l p ≡ kindOf l q
+pub kind-reads : (l : Layout) (p q : List ℕ) → SameSaid l p q → kindOf l p ≡ kindOf l q
 unfolding kindOf claimOn
-kind-reads l p q s = rw (s .tags) (kind-words l p q (tagsOf (tagBytes l q)) (claimOf (l .«data») (tagsOf (tagBytes l q))) s)
+kind-reads l p q s = rw (s .tags) (kind-words p q (tagsOf (tagBytes l q)) (claimOf (l .«data») (tagsOf (tagBytes l q))) (s .words))
+
+-- so two dumps whose pages agree on these have the same records
+pub records-read : (g : Geometry) (a b : List ℕ) → SamePages g a b → recordAt g a ≡ recordAt g b
+unfolding recordAt kindAt
+records-read g a b s = λ j i. recordOf (same i j)
+  where
+    same : (i : ℕ) → kindAt g a i ≡ kindAt g b i
+    same i = by-test (pageIn g (length a) i) _ (λ t. rw (← s .long, t) (kind-reads (g .layout) _ _ (s .said i t))) (λ t. rw (← s .long, t))

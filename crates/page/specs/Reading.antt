@@ -10,22 +10,35 @@ use Rattle.page.specs.Words.{le32}
 use Rattle.page.specs.Headers.{atType, atParent, atSize, atShrink}
 use Rattle.page.specs.Layouts.{layouts, layoutAt, tagLength, pageLen, tagPlace}
 use Rattle.page.specs.Lengths.{blockFits, lengthFits, wholeBlocks, pageIn}
-use Rattle.page.specs.Tags.{tagBytes, claimAt}
+use Rattle.page.specs.Pages.{pageAt}
+use Rattle.page.specs.Tags.{tagBytes, claimOn, claimAt}
 use Rattle.page.specs.Find.{candidateAt}
 use Rattle.page.specs.Shelf.{tagged, erased}
+use Rattle.page.specs.declared.geometry.Geometry.{Geometry}
 use Rattle.page.specs.declared.layout.Layout.{Layout}
+use Rattle.page.specs.declared.number.ObjectId.{ObjectId}
+use Rattle.page.specs.declared.tags.Claim.the-variants as claim
 
 -- two pages with the same first n bytes
 abbrev pub SameFirst : (count : ℕ) (p q : List ℕ) → Type 0
 SameFirst n p q = (i : ℕ) → i < n → getD p i 0 ≡ getD q i 0
 
--- two pages of a layout with the same tags, type, parent, file size and shrink word
-pub record SameWords (l : Layout) (p q : List ℕ) : Type 0 where
-  pub tags : tagBytes l p ≡ tagBytes l q
+-- two headers with the same type, parent, file size and shrink word
+pub record SameWords (p q : List ℕ) : Type 0 where
   pub page-type : le32 p atType ≡ le32 q atType
   pub parent : le32 p atParent ≡ le32 q atParent
   pub size : le32 p atSize ≡ le32 q atSize
   pub shrink : le32 p atShrink ≡ le32 q atShrink
+
+-- two pages of a layout with the same tags, and with the same words if the tags are a header's
+pub record SameSaid (l : Layout) (p q : List ℕ) : Type 0 where
+  pub tags : tagBytes l p ≡ tagBytes l q
+  pub words : (sequence : ℕ) (object : ObjectId) → claimOn l q ≡ claim.Header sequence object → SameWords p q
+
+-- two dumps of one length, whose pages are so
+pub record SamePages (g : Geometry) (a b : List ℕ) : Type 0 where
+  pub long : length a ≡ length b
+  pub said : (i : ℕ) → pageIn g (length a) i ≡ true → SameSaid (g .layout) (pageAt g a i) (pageAt g b i)
 
 -- whether byte `at` of a dump of this layout lies in the spare of its page
 unfoldable pub inSpare : Layout → ℕ → Bool
