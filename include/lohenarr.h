@@ -64,7 +64,7 @@ typedef struct {
     uint32_t count;
 } lohenarr_kind_answer;
 
-/* The header fields that are numbers. size_high alters no answer. */
+/* The header fields that are numbers. No other call reads size_high. */
 typedef struct {
     uint32_t refusal;
     uint32_t page_type;
