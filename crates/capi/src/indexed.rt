@@ -226,13 +226,7 @@ pub extern "C" fn lohenarr_records(
     ensures { λ r. ⌜ r ≡ listAnswer (recordsFrom (geometryAt geometry) (now (dump .entry)) (now (cells .entry)) object (length (now (words .entry)))) ⌝ }
     ensures { λ _. ⌜ now (words .exit) ≡ wordsBy (pagesFrom (geometryAt geometry) (now (dump .entry)) (now (cells .entry)) object) (now (words .entry)) (recordsFrom (geometryAt geometry) (now (dump .entry)) (now (cells .entry)) object (length (now (words .entry)))) ⌝ }
 {
-    list_answer(records(
-        dump,
-        geometry_at(geometry),
-        cells,
-        ObjectId(object),
-        words,
-    ))
+    list_answer(records(dump, geometry_at(geometry), cells, ObjectId(object), words))
 }
 
 // How many objects have an added record.
