@@ -69,7 +69,7 @@ module _
     met-from = rw (e, first-link n cells o (opened-some g (length dump) n e) (is-sized g dump cells o z v n e s .room))
 
     -- the copies that one walk finds are those of the lookups, and so are the chunks that it finds damaged
-    copies-looked : copiesTo ahead m ≡ copiesTo look m
+    pub copies-looked : copiesTo ahead m ≡ copiesTo look m
     copies-looked =
         copies-same ahead look m
         (λ c h i.
