@@ -1,2 +1,4 @@
 // Whole files: where the copy of every chunk is, by one walk down the object's chain.
+pub mod copies;
+pub mod copy;
 pub mod table;

@@ -51,7 +51,7 @@ fn words_of(count: u32) -> usize
 }
 
 // How many chunks a file of this size has, of those that have numbers.
-fn chunks_in(data: u32, size: u64) -> u32
+pub(crate) fn chunks_in(data: u32, size: u64) -> u32
     requires { ⌜ 0 < «data» ⌝ }
     ensures { λ r. ⌜ r ≡ chunksIn «data» size ⌝ }
     ensures { λ r. ⌜ r < 2 ^ 20 ⌝ }
