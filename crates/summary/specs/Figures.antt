@@ -4,7 +4,7 @@ use mathlib.Core.List.{List}
 use lib.ListN.{length}
 use Rattle.page.specs.Counts.{countsBelow}
 use Rattle.page.specs.Find.{findOf}
-use Rattle.page.specs.Lengths.{geometryOf, openedOf}
+use Rattle.page.specs.Lengths.{geometryOf, pageCount, openedOf}
 use Rattle.page.specs.Records.{recordAt}
 use Rattle.page.specs.declared.count.Counted.{Counted}
 use Rattle.page.specs.declared.count.Counted.the-variants as counted
@@ -30,18 +30,18 @@ figuresAt g dump n = record {
   live = liveCount (recordAt g dump) n;
 }
 
--- those of a dump that is read so
-unfoldable pub figuredOn : Geometry → List ℕ → Figured
-figuredOn g dump = onPages (λ r. figured.Refused r) (λ n. figured.Figures (figuresAt g dump n)) (openedOf g (length dump))
-
 -- those under a layout that was found, or why none was
 unfoldable pub figuredBy : Named → (dump : List ℕ) (k : ℕ) → Figured
 figuredBy (named.Refused r) dump k = figured.Refused r
-figuredBy (named.Layout l) dump k = figuredOn (geometryOf l k) dump
+figuredBy (named.Layout l) dump k = let g = geometryOf l k in figured.Figures (figuresAt g dump (pageCount g (length dump)))
 
 -- those of a dump in blocks of k pages
 unfoldable pub figuredOf : (dump : List ℕ) (k : ℕ) → Figured
 figuredOf dump k = figuredBy (findOf dump k) dump k
+
+-- those of a dump that is read so, or why it is refused
+unfoldable pub figuredOn : Geometry → List ℕ → Figured
+figuredOn g dump = onPages (λ r. figured.Refused r) (λ n. figured.Figures (figuresAt g dump n)) (openedOf g (length dump))
 
 -- what counting gave, where it was not refused; 0 else
 abbrev pub countsIn : Counted → Counts

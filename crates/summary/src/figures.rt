@@ -56,7 +56,7 @@ fn number_in(t: Tallied) -> u32
 }
 
 // The figures of a dump that is read so. Opening alone refuses: the other calls refuse as it does.
-pub fn figures_on(dump: &[u8], g: Geometry) -> Figured
+fn figures_on(dump: &[u8], g: Geometry) -> Figured
     ensures { λ r. ⌜ r ≡ figuredOn g (now (dump .entry)) ⌝ }
 {
     let opened = g.opened(dump.len());

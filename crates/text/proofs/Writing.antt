@@ -42,3 +42,8 @@ accepted {text} {after} {after₁} {next} {next₁} bytes p h q =
     let f = within (length bytes) next (length text) (m .1) h (w .short) in
     let l = le-ltb (length bytes) (length text) f in
     (rw l (ap Bytes (same (length bytes) next (length text) (m .1) h (w .short))), rw l (whole w f))
+
+-- a text that has room is written whole, and what is written has room
+pub fits : (room : ℕ) (text : List ℕ) → length text ≤ room → writtenBy room text ≡ Bytes (length text)
+unfolding writtenBy
+fits room text h = rw (le-ltb room (length text) h)
