@@ -44,7 +44,7 @@ const CHUNKS: u32 = 6;
 // An object that every dump is asked for, live or not.
 const ALWAYS: u32 = 300;
 
-// The most bytes of a name and a number: no name here has more than 11, and no number more than 20.
+// The most bytes of a name, a number and the end of a line: no name here has more than 8, and no number more than 20.
 const PART: usize = 32;
 
 // Prints a text that was put into bytes and has this end; stored output would show one that they had no room for.

@@ -1,10 +1,9 @@
 // The text of the report: ten lines, or the one line of a refusal.
 ghost use mathlib.Core.Path.{_≡_};
-ghost use Prim.Native.Nat.{_≤_};
 ghost use lib.ListN.{length};
 ghost use Rattle.text.specs.Put.{Put};
 ghost use Rattle.text.specs.Whole.{writtenBy, bytesBy};
-ghost use Rattle.summary.specs.Report.{layoutLine, kindLines, tenLines, refusalLine, textOf, reportOf, longest};
+ghost use Rattle.summary.specs.Report.{layoutLine, kindLines, tenLines, refusalLine, textOf, reportOf};
 use crate::figures::Figured;
 use crate::figures::Figures;
 use crate::figures::figures_of;
@@ -58,7 +57,7 @@ fn put_refusal(buf: &mut [u8], at: usize, r: Refusal) -> usize
 }
 
 // Puts the report.
-pub fn put_report(buf: &mut [u8], at: usize, f: Figured) -> usize
+fn put_report(buf: &mut [u8], at: usize, f: Figured) -> usize
     ensures { λ r. ⌜ Put (textOf f) (now (buf .entry)) at (now (buf .exit)) r ⌝ }
 {
     match f {
@@ -68,7 +67,7 @@ pub fn put_report(buf: &mut [u8], at: usize, f: Figured) -> usize
 }
 
 // Writes the report, if it fits.
-pub fn write_figured(f: Figured, buf: &mut [u8]) -> Written
+fn write_figured(f: Figured, buf: &mut [u8]) -> Written
     ensures { λ r. ⌜ r ≡ writtenBy (length (now (buf .entry))) (textOf f) ⌝ }
     ensures { λ r. ⌜ now (buf .exit) ≡ bytesBy (textOf f) (now (buf .entry)) ⌝ }
 {

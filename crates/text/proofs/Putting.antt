@@ -40,6 +40,11 @@ pub nothing : (bytes : List ℕ) (at : ℕ) → length bytes < most → at ≤ m
 unfolding over
 nothing bytes at h g = record { short = h; holds = refl; behind = rw add-zero (sym (exact at g)) }
 
+-- a byte past the end was put
+pub left-out : (bytes : List ℕ) (at next x : ℕ) → length bytes < most → length bytes ≤ at → next ≡ counted (at + 1) → Put (x ∷ []) bytes at bytes next
+unfolding over
+left-out bytes at next x h g e = record { short = h; holds = sym (set-out bytes at x g); behind = e }
+
 -- a text, and then another
 pub also : {s t b b₁ b₂ : List ℕ} {at m r : ℕ} → Put s b at b₁ m → Put t b₁ m b₂ r → Put (s ++ t) b at b₂ r
 unfolding over counted

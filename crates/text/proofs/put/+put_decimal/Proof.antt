@@ -1,5 +1,4 @@
--- A number is put in decimal: its tenth part first, where it has one, and then its last digit. The number falls at each call.
-use mathlib.Core.Path.{_≡_, refl, sym, _∙_}
+-- Where there is a tenth part it is put first; then the last digit. The number falls with each call.
 use Prim.Native.Nat.{ℕ, _<_}
 use native.Mathlib.Omega.{arith}
 use borrow.Author.Needs.{needs}
@@ -40,10 +39,14 @@ pub +put-decimal-spec : {M : Type 1} → statement M
     (search needs)
     (search needs)
     (λ c. search needs)
-    (λ c. rw (one-digit _ (c .before .before .before .before .before .if1 .taken), ← c .before .before .before .last-digit .ensures) (c .before .before .put-byte .ensures))
+    (λ c.
+    let test = c .before .before .before .before .before in
+    rw (one-digit _ (test .if1 .taken), ← c .before .before .before .last-digit .ensures) (c .before .before .put-byte .ensures))
     (λ c κs. (omega arith, tt))
     (search needs)
     (search needs)
     (λ c. search needs)
-    (λ c. rw (more-digits _ (c .before .before .before .before .before .before .before .before .before .if1 .left), ← c .before .before .before .last-digit2 .ensures)
-    (also (c .before .before .before .before .before .before .before .put-decimal .ensures) (c .before .before .put-byte2 .ensures)))
+    (λ c.
+    let tenth = c .before .before .before .before .before .before .before in
+    rw (more-digits _ (tenth .before .before .if1 .left), ← c .before .before .before .last-digit2 .ensures)
+    (also (tenth .put-decimal .ensures) (c .before .before .put-byte2 .ensures)))

@@ -1,4 +1,4 @@
--- A byte string is put byte by byte. The invariant: what was put is the string's first i bytes.
+-- Byte by byte. The loop's invariant: the first i bytes of the string were put.
 use mathlib.Core.Path.{_≡_, refl}
 use Prim.Native.Nat.{ℕ, _≤_, _-_}
 use native.Mathlib.Omega.{arith}
