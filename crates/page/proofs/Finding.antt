@@ -1,4 +1,5 @@
--- Laws of finding the layout: a found layout fits and divides the dump, which is accepted under it; no candidate has a higher score and none before it as high a one.
+-- Laws of finding the layout: a found layout fits and divides the dump, which is accepted under it; no candidate has a higher score and none
+-- before it as high a one.
 use Prim.Native.Nat.{ℕ, _≤_, _<_}
 use mathlib.Core.Bool.{Bool, true, not}
 use mathlib.Core.List.{List}

@@ -1,14 +1,16 @@
 -- How long a report is. Nothing that it counts is more than a dump has bytes, which is a number of ten digits.
-use Prim.Native.Nat.{ℕ, _+_, _^_, _≤_, _<_}
+use Prim.Native.Nat.{ℕ, _+_, _≤_}
+use mathlib.Core.Bool.{cond}
 use mathlib.Core.List.{List}
 use mathlib.Core.Path.{_≡_, refl}
 use native.Mathlib.Nat.{le-trans}
 use native.Mathlib.Omega.{arith}
+use lib.Dec.{ltb}
 use lib.ListN.{length, length-append}
 use Rattle.page.specs.Counts.{AtMost}
 use Rattle.page.specs.Find.{findOf}
 use Rattle.page.specs.Layouts.{mostBytes}
-use Rattle.page.specs.Lengths.{geometryOf, pageCount, openedOf}
+use Rattle.page.specs.Lengths.{geometryOf, openedOf}
 use Rattle.page.specs.Records.{recordAt}
 use Rattle.page.specs.Refusals.{refusalNumber}
 use Rattle.page.specs.declared.count.Counts.{Counts}
@@ -27,7 +29,10 @@ use Rattle.page.proofs.Searching.{count-le}
 use Rattle.chunk.specs.Live.{objectCount, liveCount}
 use Rattle.text.specs.Lines.{fieldOf, lineOf}
 use Rattle.text.specs.Quoted.{bytesOf}
+use Rattle.text.specs.Whole.{writtenBy}
+use Rattle.text.specs.declared.written.Written.the-variants.{Bytes, Short}
 use Rattle.text.proofs.Lines.{field-length, line-length}
+use Rattle.text.proofs.Writing.{exactly}
 use Rattle.summary.specs.Figures.{figuresAt, figuredBy, figuredOf}
 use Rattle.summary.specs.Report.{longest, layoutLine, kindLines, tenLines, refusalLine, textOf, reportOf}
 
@@ -109,3 +114,8 @@ found-length dump k (named.Layout l) e = figures-length (geometryOf l k) dump _ 
 pub report-length : (dump : List ℕ) (k : ℕ) → length (reportOf dump k) ≤ longest
 unfolding reportOf figuredOf
 report-length dump k = found-length dump k (findOf dump k) refl
+
+-- so the length that is told is the report's own, whether it is written or not
+pub report-told :
+    (room : ℕ) (dump : List ℕ) (k : ℕ) → let n = length (reportOf dump k) in writtenBy room (reportOf dump k) ≡ cond (ltb room n) (Short n) (Bytes n)
+report-told room dump k = exactly room (reportOf dump k) (le-trans (report-length dump k) (omega arith))

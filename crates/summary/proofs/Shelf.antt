@@ -1,13 +1,11 @@
 -- The report of W, letter by letter as document 01 has it: computed from the definitions. What W's pages are is known from the crate of pages.
-use mathlib.Core.List.{List}
-use mathlib.Core.Path.{_≡_, refl, fun-ext, sym, _∙_}
+use mathlib.Core.Path.{_≡_, fun-ext, sym, _∙_}
 use lib.ListN.{length, getD}
 use Rattle.page.specs.Counts.{countsBelow}
 use Rattle.page.specs.Lengths.{openedOf}
 use Rattle.page.specs.Records.{recordOf, recordAt}
 use Rattle.page.specs.Search.{count}
 use Rattle.page.specs.Shelf.{shelfGeometry, shelf, shelfKinds}
-use Rattle.page.specs.declared.count.Counts.{Counts}
 use Rattle.page.specs.declared.geometry.Opened.the-variants.{Pages}
 use Rattle.page.specs.declared.kind.Kind.the-variants.{Blank}
 use Rattle.page.proofs.Counting.{counted-pages}

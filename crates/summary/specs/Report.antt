@@ -12,34 +12,34 @@ use Rattle.summary.specs.declared.figures.Figured.{Figured}
 use Rattle.summary.specs.declared.figures.Figured.the-variants as figured
 use Rattle.summary.specs.declared.figures.Figures.{Figures}
 
--- P/S/T
+-- the layout as P/S/T
 unfoldable pub layoutLine : Layout → List ℕ
-layoutLine l = fieldOf (bytesOf "layout=") (l .«data») ++ (fieldOf (bytesOf "/") (l .spare) ++ lineOf (bytesOf "/") (l .tag))
+layoutLine l = fieldOf (bytesOf "layout=") (l .«data») ++ fieldOf (bytesOf "/") (l .spare) ++ lineOf (bytesOf "/") (l .tag)
 
 -- how many pages are of each kind
 unfoldable pub kindLines : Counts → List ℕ
 kindLines c =
     lineOf (bytesOf "blank=") (c .blank) ++
-    (lineOf (bytesOf "foreign=") (c .foreign) ++
-    (lineOf (bytesOf "damaged=") (c .damaged) ++
-    (lineOf (bytesOf "headers=") (c .headers) ++
-    lineOf (bytesOf "data=") (c .«data»))))
+    lineOf (bytesOf "foreign=") (c .foreign) ++
+    lineOf (bytesOf "damaged=") (c .damaged) ++
+    lineOf (bytesOf "headers=") (c .headers) ++
+    lineOf (bytesOf "data=") (c .«data»)
 
--- all lines
+-- the ten lines
 unfoldable pub tenLines : Figures → List ℕ
 tenLines f =
     layoutLine (f .geometry .layout) ++
-    (lineOf (bytesOf "block=") (f .geometry .block) ++
-    (lineOf (bytesOf "pages=") (f .pages) ++
-    (kindLines (f .counts) ++
-    (lineOf (bytesOf "objects=") (f .objects) ++
-    lineOf (bytesOf "live=") (f .live)))))
+    lineOf (bytesOf "block=") (f .geometry .block) ++
+    lineOf (bytesOf "pages=") (f .pages) ++
+    kindLines (f .counts) ++
+    lineOf (bytesOf "objects=") (f .objects) ++
+    lineOf (bytesOf "live=") (f .live)
 
 -- `refusal=` and its number
 unfoldable pub refusalLine : Refusal → List ℕ
 refusalLine r = lineOf (bytesOf "refusal=") (refusalNumber r)
 
--- the text for what was found out
+-- the text of figures, or of a refusal
 unfoldable pub textOf : Figured → List ℕ
 textOf (figured.Figures f) = tenLines f
 textOf (figured.Refused r) = refusalLine r

@@ -1,6 +1,6 @@
 -- Texts put one after the other: `also` is the one law by which pieces make a text. A position that stopped counting lies past the end of all lent
 -- bytes, as the true one does, so it stands for it.
-use Prim.Native.Nat.{ℕ, zero, suc, _+_, _≤_, _<_}
+use Prim.Native.Nat.{ℕ, suc, _+_, _≤_, _<_}
 use mathlib.Core.Path.{_≡_, refl, ap, sym, _∙_}
 use mathlib.Core.Logic.{⊎-elim}
 use mathlib.Core.List.{List, [], _∷_, _++_}

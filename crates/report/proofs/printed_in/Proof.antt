@@ -1,6 +1,5 @@
 -- The bytes are enough for every report, so it is written whole.
-use mathlib.Core.Path.{_≡_, sym, _∙_}
-use native.Mathlib.Omega.{arith}
+use mathlib.Core.Path.{_≡_}
 use borrow.Author.Needs.{needs}
 use lib.ListN.{length, length-take}
 use Rattle.page.proofs.Searching.{clash}

@@ -1,7 +1,7 @@
 -- A longer input is refused, and any other reported on.
 use borrow.Author.Needs.{needs}
-use lib.ListN.{length}
 use borrow.Author.Tests.{lt-ltb, le-ltb}
+use lib.ListN.{length}
 use Rattle.report.specs.Printed.{mostRead, printedOf}
 use Rattle.report.proofs.write_printed.Statement.{statement}
 use Rattle.report.proofs.write_printed.Tie as tie

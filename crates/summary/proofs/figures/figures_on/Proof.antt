@@ -1,6 +1,6 @@
 -- Where the dump is opened, counting and tallying are not refused.
-use borrow.Author.Needs.{needs}
 use mathlib.Core.Path.{ap, sym, _∙_}
+use borrow.Author.Needs.{needs}
 use Rattle.summary.specs.Figures.{countsIn, numberIn, figuredOn}
 use Rattle.summary.proofs.Figured.{figured-pages}
 use Rattle.summary.proofs.figures.figures_on.Statement.{statement}

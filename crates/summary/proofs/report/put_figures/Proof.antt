@@ -13,9 +13,12 @@ returns c =
     let kinds = objects .before .before .before .before .before .before in
     let pages = kinds .before .before .before .before in
     let block = pages .before .before .before .before .before .before in
-    also (block .before .before .before .before .before .before .put-layout .ensures)
-    (also (block .put-line .ensures)
-    (also (pages .put-line2 .ensures) (also (kinds .put-kinds .ensures) (also (objects .put-line3 .ensures) (live .put-line4 .ensures)))))
+    let layout = block .before .before .before .before .before .before in
+    also
+    (also
+    (also (also (also (layout .put-layout .ensures) (block .put-line .ensures)) (pages .put-line2 .ensures)) (kinds .put-kinds .ensures))
+    (objects .put-line3 .ensures))
+    (live .put-line4 .ensures)
 
 same-length : tie.Need-same-length
 same-length c = kept (returns c)

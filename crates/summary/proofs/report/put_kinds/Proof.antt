@@ -12,8 +12,10 @@ returns c =
     let headers = last .before .before .before .before .before .before in
     let damaged = headers .before .before .before .before .before .before in
     let foreign = damaged .before .before .before .before .before .before in
-    also (foreign .before .before .before .before .before .before .put-line .ensures)
-    (also (foreign .put-line2 .ensures) (also (damaged .put-line3 .ensures) (also (headers .put-line4 .ensures) (last .put-line5 .ensures))))
+    let blank = foreign .before .before .before .before .before .before in
+    also
+    (also (also (also (blank .put-line .ensures) (foreign .put-line2 .ensures)) (damaged .put-line3 .ensures)) (headers .put-line4 .ensures))
+    (last .put-line5 .ensures)
 
 same-length : tie.Need-same-length
 same-length c = kept (returns c)

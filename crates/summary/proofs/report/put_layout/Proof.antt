@@ -10,7 +10,8 @@ unfolding layoutLine
 returns c =
     let tag = c .before .before in
     let spare = tag .before .before .before .before .before .before in
-    also (spare .before .before .before .before .before .before .put-field .ensures) (also (spare .put-field2 .ensures) (tag .put-line .ensures))
+    let first = spare .before .before .before .before .before .before in
+    also (also (first .put-field .ensures) (spare .put-field2 .ensures)) (tag .put-line .ensures)
 
 pub put-layout-spec : {M : Type 1} → statement M
 put-layout-spec =

@@ -1,5 +1,4 @@
 -- Byte by byte. The loop's invariant: the first i bytes of the string were put.
-use mathlib.Core.Path.{_≡_, refl}
 use Prim.Native.Nat.{ℕ, _≤_, _-_}
 use native.Mathlib.Omega.{arith}
 use native.Mathlib.Numerals.{add-one}
