@@ -9,6 +9,7 @@ use native.Mathlib.Omega.{arith}
 use lib.Dec.{leb, ltb, eqb}
 use lib.ListN.{getD}
 use borrow.Author.Tests.{leb-true, ltb-true, eqb-true}
+use Rattle.page.specs.Search.{firstFrom}
 use Rattle.page.specs.Layouts.{headerBytes, tagLength, mostBytes, pageLen, layoutOf, layoutAt, dataSizes, spareSizes, tagOffsets, hasSizes, numberOfSizes, numberOf, roomy}
 use Rattle.page.specs.declared.layout.Layout.{Layout}
 use Rattle.page.proofs.Searching.{clash, first-passes}
@@ -54,6 +55,11 @@ all-at test (suc n) e k h =
 pub row-roomy : (n : ℕ) → n < 13 → roomy (layoutAt n) ≡ true
 unfolding allBelow roomy layoutAt dataSizes spareSizes tagOffsets
 row-roomy n h = all-at (λ k. roomy (layoutAt k)) 13 refl n h
+
+-- and is in the table
+pub row-listed : (n : ℕ) → n < 13 → numberOf (layoutAt n) < 13
+unfolding allBelow numberOfSizes firstFrom hasSizes layoutAt dataSizes spareSizes tagOffsets
+row-listed n h = ltb-true _ _ (all-at (λ k. ltb (numberOf (layoutAt k)) 13) 13 refl n h)
 
 -- the numbers of a column are below a bound, and so fit two bytes, where a computed test says so
 column-below : (most : ℕ) (column : List ℕ) → allBelow (λ k. ltb (getD column k 0) most) 13 ≡ true → (n : ℕ) → n < 13 → getD column n 0 < most
