@@ -1,17 +1,17 @@
 -- The words once the copies that were met are put and their keys sorted: the rows that are gathered from them are those of the newest copies.
 use Prim.Native.Nat.{ℕ, suc, _+_, _≤_, _<_}
 use mathlib.Core.List.{List, [], _∷_, _++_, map}
-use mathlib.Core.Path.{_≡_, refl, sym, ap, ap₂, _∙_}
+use mathlib.Core.Path.{_≡_, sym, ap, ap₂, _∙_}
 use native.Mathlib.Omega.{arith}
-use lib.ListN.{length, take, drop, getD, length-append, length-take, length-drop, List·getD-append, List·getD-map, take-append-drop}
+use lib.ListN.{length, take, drop, getD, length-append, length-drop, List·getD-append, List·getD-map}
 use lib.Seq.{take-at, drop-at, drop-drop, getD-append-add}
 use Rattle.sort.specs.Arranged.{arranged, Every}
-use Rattle.sort.specs.Packed.{wordValues, packed, valueOf}
+use Rattle.sort.specs.Packed.{wordValues, valueOf}
 use Rattle.sort.proofs.Arranging.{arranged-length, every-arranged, every-weaker}
 use Rattle.sort.proofs.Packing.{packed-value}
 use Rattle.file.specs.Copies.{packedCopy, putFrom, roomFor, firsts, inRoom}
 use Rattle.file.specs.declared.copy.Copy.{Copy}
-use Rattle.file.proofs.Putting.{put-length, keysFrom, keys-length, rows-length, keys-first, rows-behind}
+use Rattle.file.proofs.Putting.{keysFrom, keys-length, rows-length, keys-first, rows-behind}
 use Rattle.file.proofs.Newest.{EveryCopy, newestOf, noCopy, newest-gathered, firsts-map}
 
 -- the numbers of keys from i on are below the number of all

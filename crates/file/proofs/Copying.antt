@@ -1,9 +1,9 @@
 -- What the call answers: the copies that lie ahead for the chunks of a file are those of the lookups, and an accepted dump has pages and valid
 -- lengths that fit a row.
-use Prim.Native.Nat.{ℕ, _+_, _*_, _/_, _≤_, _<_}
+use Prim.Native.Nat.{ℕ, _*_, _≤_, _<_}
 use mathlib.Core.Bool.{Bool, true, _&&_}
 use mathlib.Core.List.{List, map}
-use mathlib.Core.Path.{_≡_, refl, sym, ap, _∙_}
+use mathlib.Core.Path.{_≡_, sym, ap, _∙_}
 use native.Mathlib.Nat.{mul-le-mul-left, div-mul-le-self}
 use native.Mathlib.Omega.{arith}
 use lib.Dec.{ltb}
@@ -17,6 +17,7 @@ use Rattle.page.specs.declared.geometry.Opened.the-variants as opened
 use Rattle.page.specs.declared.refusal.Refusal.the-variants.{ShortBuffer}
 use Rattle.page.proofs.Layouts.{roomy-facts, listed-data}
 use Rattle.page.proofs.Lengths.{opened-facts, opened-some, length-most}
+use Rattle.chunk.specs.declared.answer.Looked.{Looked}
 use Rattle.chunk.specs.declared.answer.Sized.the-variants as sized
 use Rattle.chunk.specs.declared.cut.Cut.the-variants.{Nowhere}
 use Rattle.index.specs.Slots.{firstLink}
@@ -57,10 +58,10 @@ module _
     abbrev links : Trace
     links = under (recordAt g dump) n cells o top (firstLink n cells o)
 
-    abbrev ahead : ℕ → Rattle.chunk.specs.declared.answer.Looked.Looked
+    abbrev ahead : ℕ → Looked
     ahead = allAhead (recordAt g dump) P z n cells o (firstLink n cells o)
 
-    abbrev look : ℕ → Rattle.chunk.specs.declared.answer.Looked.Looked
+    abbrev look : ℕ → Looked
     look = chunkFrom g dump cells o
 
     -- how many are met

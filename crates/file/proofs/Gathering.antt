@@ -1,7 +1,6 @@
 -- Gathering in place: of the first n words, which are keys, the first of each chunk has its row taken from behind them. No more rows are taken than
 -- keys are passed, so that no word is written over before it is read.
 use Prim.Native.Nat.{ℕ, zero, suc, _+_, _-_, _≤_, _<_, zero-le}
-use mathlib.Core.Bool.{Bool, true, false}
 use mathlib.Core.List.{List, [], _∷_, _++_, append-assoc, append-nil}
 use mathlib.Core.Path.{_≡_, refl, sym, ap, _∙_}
 use native.Mathlib.Nat.{not-suc-le-zero, le-of-suc-le-suc}

@@ -1,19 +1,17 @@
 -- The walk that meets copies. Its turns put what is met, one record after the other; at the end all copies of the chain are put.
-use Prim.Native.Nat.{ℕ, _+_, _-_, _≤_, _<_, min}
-use mathlib.Core.Bool.{Bool, true, false, not, _||_}
-use mathlib.Core.List.{List, [], _∷_, _++_}
+use Prim.Native.Nat.{ℕ, _+_, _≤_}
+use mathlib.Core.Bool.{Bool, true, false}
+use mathlib.Core.List.{List, [], _++_}
 use mathlib.Core.Path.{_≡_, refl, sym, ap, _∙_}
 use native.Mathlib.Omega.{arith}
-use lib.Dec.{eqb, ltb}
 use lib.ListN.{length, length-append}
-use borrow.Author.Tests.{eqb-false, ltb-false, not-true}
 use Rattle.page.specs.Records.{isHeader}
 use Rattle.page.specs.declared.record.Data.{Data}
 use Rattle.page.specs.declared.record.Record.{Record}
 use Rattle.page.specs.declared.record.Record.the-variants as said
 use Rattle.page.proofs.Searching.{by-test, clash}
 use Rattle.chunk.specs.Records.{chunkOf, baseOf}
-use Rattle.chunk.specs.Cuts.{hides, leaves}
+use Rattle.chunk.specs.Cuts.{leaves}
 use Rattle.chunk.specs.Lookups.{shownOf, validOf}
 use Rattle.chunk.specs.declared.cut.Cut.{Cut}
 use Rattle.chunk.specs.declared.cut.Cut.the-variants.{At, Nowhere}
@@ -21,21 +19,10 @@ use Rattle.index.specs.Chains.{Trace, clean, broken, rec}
 use Rattle.index.specs.Walks.{recordsIn, cutBy}
 use Rattle.index.specs.Ahead.{stillNewest}
 use Rattle.index.proofs.Chain.Turns.{count-on}
-use Rattle.file.specs.Copies.{isMet, metOf, met, putFrom, isBroken}
+use Rattle.file.specs.Shows.{isMet}
+use Rattle.file.specs.Copies.{metOf, met, putFrom, isBroken}
 use Rattle.file.specs.declared.copy.Copy.{Copy}
 use Rattle.file.proofs.Putting.{put-none, put-on, put-length}
-
--- what is met is a chunk of the file that is not hidden
-or-false : (a b : Bool) → a || b ≡ false → (a ≡ false) × (b ≡ false)
-or-false true b e = clash (cc)
-or-false false b e = (refl, e)
-
-pub met-in : (P m : ℕ) (cut : Cut) (c : ℕ) → isMet P m cut c ≡ true → (0 < c) × (c ≤ m) × (hides cut (baseOf P c) ≡ false)
-met-in P m cut c e =
-    let a = or-false (eqb c 0 || ltb m c) (hides cut (baseOf P c)) (not-true _ e) in
-    let b = or-false (eqb c 0) (ltb m c) (a .0) in
-    let z : c ≡ 0 → ⊥ = eqb-false c 0 (b .0) in
-    (omega arith, ltb-false m c (b .1), a .1)
 
 -- no more bytes are valid than a page has
 leaves-most : (cut : Cut) (place bytes : ℕ) → leaves cut place bytes ≤ bytes

@@ -1,8 +1,7 @@
 -- The first copy of each chunk, ascending. A walk meets copies from the newest on, so that the key of a newer copy goes right before the keys of the
 -- older copies of its chunk: what is gathered with it is what was gathered without it, with the newer copy in place of the older one.
-use Prim.Native.Nat.{ℕ, zero, suc, _+_, _≤_, _<_}
-use mathlib.Core.Bool.{Bool, true, false}
-use mathlib.Core.List.{List, [], _∷_, _++_, map}
+use Prim.Native.Nat.{ℕ, suc, _+_, _≤_, _<_}
+use mathlib.Core.List.{List, [], _∷_, map}
 use mathlib.Core.Path.{_≡_, refl, sym, ap, _∙_}
 use native.Mathlib.Omega.{arith}
 use lib.Dec.{eqb, ltb}
@@ -12,7 +11,7 @@ use Rattle.page.specs.Choice.{pick}
 use Rattle.page.proofs.Searching.{by-test}
 use Rattle.sort.specs.Arranged.{ascend, arranged, Every}
 use Rattle.sort.specs.Packed.{wordValues, packed, keyOf, valueOf}
-use Rattle.sort.proofs.Arranging.{ascend-behind, ascend-before, arranged-none, every-arranged}
+use Rattle.sort.proofs.Arranging.{ascend-behind, ascend-before, every-arranged}
 use Rattle.sort.proofs.Packing.{packed-key, packed-value}
 use Rattle.file.specs.Copies.{packedCopy, firsts}
 use Rattle.file.specs.declared.copy.Copy.{Copy}

@@ -1,20 +1,17 @@
 -- The words of copies, one store at a time: what a walk puts, what a gathering keeps of it, and what is cleared. Where n copies are put from the
 -- front on, the first n words are their keys, the next n their rows, and all behind those is as it was.
-use Prim.Native.Nat.{ℕ, zero, suc, _+_, _-_, _≤_, _<_}
+use Prim.Native.Nat.{ℕ, suc, _+_, _-_, _≤_, _<_, zero-le}
 use mathlib.Core.Bool.{Bool, true, false}
 use mathlib.Core.List.{List, [], _∷_, _++_, map, append-assoc, append-nil}
 use mathlib.Core.Path.{_≡_, refl, sym, ap, _∙_}
-use native.Mathlib.Nat.{not-suc-le-zero}
 use native.Mathlib.Numerals.{add-one}
 use native.Mathlib.Omega.{arith}
-use lib.Dec.{eqb}
+use lib.Dec.{ltb}
 use lib.ListN.{length, take, drop, set, getD, replicate, length-set, length-append, length-replicate, length-drop, take-append-drop, drop-of-length-le, replicate-append-replicate}
-use lib.Seq.{sets, sets-eq, take-set-le, take-set-lt, drop-set-add, drop-set-lt, take-suc-set, take-all, length-take-le, drop-cons, drop-drop, getD-drop, getD-take, set-at, append-snoc}
+use lib.Seq.{sets, sets-eq, take-set-le, take-set-lt, drop-set-add, drop-set-lt, length-take-le, drop-cons, drop-drop, set-at, append-snoc}
 use borrow.Author.Tests.{lt-ltb, le-ltb}
-use Rattle.page.proofs.Searching.{by-test}
-use Rattle.sort.specs.Arranged.{Every}
-use Rattle.sort.specs.Packed.{packed, keyOf, valueOf}
-use Rattle.file.specs.Copies.{packedCopy, putCopy, putFrom, roomFor, firstOf, firsts, inRoom}
+use Rattle.sort.specs.Packed.{packed}
+use Rattle.file.specs.Copies.{packedCopy, putCopy, putFrom, roomFor, inRoom}
 use Rattle.file.specs.declared.copy.Copy.{Copy}
 
 -- putting no copy, one, and some after others
@@ -33,7 +30,7 @@ module _ (n : ℕ) where
   put-on w i (x ∷ L) M = let e : i + suc (length L) ≡ suc i + length L = omega arith in rw e (put-on (putCopy n w i x) (suc i) L M)
 
   -- copies put leave the length
-  one-length : (w : List ℕ) (i : ℕ) (x : Copy) (t : Bool) → lib.Dec.ltb i n ≡ t → length (putCopy n w i x) ≡ length w
+  one-length : (w : List ℕ) (i : ℕ) (x : Copy) (t : Bool) → ltb i n ≡ t → length (putCopy n w i x) ≡ length w
   one-length w i x true e = rw e (length-set (set w i _) _ _ ∙ length-set w i _)
   one-length w i x false e = rw e
 
@@ -46,7 +43,7 @@ module _ (n : ℕ) where
 pub put-zero : (w : List ℕ) (i : ℕ) (L : List Copy) → putFrom 0 w i L ≡ w
 unfolding putFrom
 put-zero w i [] = refl
-put-zero w i (x ∷ L) = let e = le-ltb i 0 (Prim.Native.Nat.zero-le) in rw e (put-zero w (suc i) L)
+put-zero w i (x ∷ L) = let e = le-ltb i 0 zero-le in rw e (put-zero w (suc i) L)
 
 -- the keys of copies from number i on
 abbrev pub keysFrom : ℕ → List Copy → List ℕ

@@ -1,17 +1,17 @@
 -- The newest of the copies that a walk meets are those that the lookups of the chunks answer. Both go by the chain from its end: a copy that is met
 -- is found for its own chunk, before any older one, and for no other.
 use Prim.Native.Nat.{ℕ, zero, suc, _+_, _≤_, _<_}
-use mathlib.Core.Bool.{Bool, true, false, not, _&&_, _||_}
-use mathlib.Core.List.{List, [], _∷_, _++_, append-nil}
+use mathlib.Core.Bool.{Bool, true, false, not, _&&_}
+use mathlib.Core.List.{List, [], _∷_, _++_}
 use mathlib.Core.Path.{_≡_, refl, sym, ap, ap₂, _∙_}
 use native.Mathlib.Omega.{arith}
 use lib.Dec.{eqb, ltb}
 use lib.ListN.{length, length-append}
-use borrow.Author.Tests.{eqb-true, eqb-false, eq-eqb, ne-eqb, ltb-true, ltb-false, lt-ltb, le-ltb, not-true}
+use borrow.Author.Tests.{eqb-true, eqb-false, eq-eqb, ltb-true, ltb-false, lt-ltb, le-ltb, not-true}
 use Rattle.page.specs.declared.record.Record.{Record}
 use Rattle.page.specs.declared.record.Record.the-variants as said
 use Rattle.page.proofs.Layouts.{and-left, and-right}
-use Rattle.page.proofs.Searching.{by-test, clash}
+use Rattle.page.proofs.Searching.{by-test}
 use Rattle.chunk.specs.Records.{chunkOf, isCopy, baseOf}
 use Rattle.chunk.specs.Cuts.{hides}
 use Rattle.chunk.specs.Lookups.{shownOf, validOf}
@@ -23,9 +23,10 @@ use Rattle.index.specs.Walks.{isShown, found, cutBy}
 use Rattle.index.specs.Ahead.{unvisited, stillNewest, ahead}
 use Rattle.index.proofs.Walk.Ahead.{ahead-end, ahead-broken, ahead-here, ahead-on}
 use Rattle.index.proofs.Sorted.Order.{never}
-use Rattle.file.specs.Copies.{copyIn, isRefused, copiesTo, anyRefused, isMet, metOf, met, isBroken}
+use Rattle.file.specs.Shows.{isMet}
+use Rattle.file.specs.Copies.{copyIn, isRefused, copiesTo, anyRefused, met, isBroken}
 use Rattle.file.specs.declared.copy.Copy.{Copy}
-use Rattle.file.proofs.Meeting.{met-in}
+use Rattle.file.proofs.IsMet.{met-in, is-met}
 use Rattle.file.proofs.Newest.{EveryCopy, over, over-none, over-behind, over-same, over-before, newestOf}
 
 -- x over two lists, of which it belongs to the first, or to the second
@@ -222,8 +223,7 @@ module _ (says : ℕ → Record) (P m size : ℕ) where
         (λ s.
         let e : chunk ≡ c = copy-chunk c (says q) (and-left (isCopy c (says q)) _ s) in
         let b : hides cut (baseOf P c) ≡ false = not-true _ (and-right (isCopy c (says q)) _ s) in
-        let y : isMet P m cut c ≡ true = rw (ne-eqb c 0 (λ z. absurd (omega arith)), le-ltb m c j, b) refl in
-        never (sym (rw e at h) ∙ y))
+        never (sym (rw e at h) ∙ is-met P m cut c i j b))
         (λ s. s)))
 
   pub met-shown : (t : Trace) (newest : Bool) (cut : Cut) → newestOf (met says P m size newest cut t) ≡ copiesTo (aheadOf newest cut t) m

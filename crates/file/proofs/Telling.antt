@@ -3,7 +3,7 @@
 use Prim.Native.Nat.{ℕ, zero, suc, _≤_, _<_}
 use mathlib.Core.Bool.{Bool, true}
 use mathlib.Core.List.{List, [], _∷_, map}
-use mathlib.Core.Path.{_≡_, refl, sym, ap₂, _∙_}
+use mathlib.Core.Path.{_≡_, refl, ap₂, _∙_}
 use native.Mathlib.Omega.{arith}
 use lib.Dec.{eqb, ltb}
 use lib.ListN.{length}
@@ -28,10 +28,12 @@ use Rattle.index.specs.Ahead.{stillNewest}
 use Rattle.index.proofs.Answer.Lookups.{chunk-from-held}
 use Rattle.index.proofs.Chain.Links.{Known, known}
 use Rattle.file.specs.Table.{chunksIn}
-use Rattle.file.specs.Copies.{chunkValues, pageValues, validValues, Fits, packedCopy, copyOf, copiesTo, anyRefused, isMet, met}
+use Rattle.file.specs.Shows.{isMet}
+use Rattle.file.specs.Copies.{chunkValues, pageValues, validValues, Fits, packedCopy, copyOf, copiesTo, anyRefused, met}
 use Rattle.file.specs.declared.copy.Copy.{Copy}
 use Rattle.file.proofs.Chunks.{chunks-most}
-use Rattle.file.proofs.Meeting.{met-in, valid-most}
+use Rattle.file.proofs.Meeting.{valid-most}
+use Rattle.file.proofs.IsMet.{met-in}
 use Rattle.file.proofs.Newest.{EveryCopy, over, over-none, over-behind, over-same, over-before, newestOf}
 use Rattle.file.proofs.Shown.{copies-same, refused-same, met-shown}
 use Rattle.file.proofs.Copying.{opened-pages, opened-data, copies-looked}
@@ -91,12 +93,14 @@ module _ (says : ℕ → Record) (P m size n : ℕ) (h : m < chunkValues) (i : n
       let c = chunkOf (says q) in
       by-test (isMet P m cut c) _
       (λ b.
-      rw b
-      (record {
-        chunk = omega (arith, met-in P m cut c b .1);
-        page = omega (arith, k .0);
-        valid = omega (arith, valid-most P c (says q) size cut);
-      }, on))
+      rw b (
+        record {
+          chunk = omega (arith, met-in P m cut c b .1);
+          page = omega (arith, k .0);
+          valid = omega (arith, valid-most P c (says q) size cut);
+        },
+        on,
+      ))
       (λ b. rw b on)
 
 -- what was packed comes out again

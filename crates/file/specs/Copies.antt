@@ -1,7 +1,7 @@
 -- The copies that a file shows, ascending by chunk, by what the lookup of each chunk answers. Each is a row of one number. Chunks that are holes
 -- have no row, so that a file has no more rows than its object has records, whatever size it claims.
-use Prim.Native.Nat.{ℕ, zero, suc, _+_, _-_, _*_, _/_, _%_, _≤_, _<_}
-use mathlib.Core.Bool.{Bool, true, false, not, _||_}
+use Prim.Native.Nat.{ℕ, zero, suc, _+_, _-_, _*_, _/_, _%_, _<_}
+use mathlib.Core.Bool.{Bool, true, false, _||_}
 use mathlib.Core.List.{List, [], _∷_, _++_, map}
 use lib.ListN.{length, set, drop, replicate}
 use lib.Dec.{eqb, ltb}
@@ -12,8 +12,7 @@ use Rattle.page.specs.declared.record.Record.{Record}
 use Rattle.page.specs.declared.geometry.Geometry.{Geometry}
 use Rattle.page.specs.declared.refusal.Refusal.the-variants.{ShortBuffer}
 use Rattle.sort.specs.Packed.{packed, keyOf, valueOf}
-use Rattle.chunk.specs.Records.{chunkOf, baseOf}
-use Rattle.chunk.specs.Cuts.{hides}
+use Rattle.chunk.specs.Records.{chunkOf}
 use Rattle.chunk.specs.Answers.{onPages}
 use Rattle.chunk.specs.Lookups.{shownOf, validOf}
 use Rattle.chunk.specs.declared.cut.Cut.{Cut}
@@ -25,6 +24,7 @@ use Rattle.chunk.specs.declared.answer.Sized.the-variants as sized
 use Rattle.index.specs.Chains.{Trace, clean, broken, rec}
 use Rattle.index.specs.Walks.{cutBy, chainOf, sizeFrom, chunkFrom}
 use Rattle.index.specs.Ahead.{stillNewest}
+use Rattle.file.specs.Shows.{isMet}
 use Rattle.file.specs.Table.{chunksIn}
 use Rattle.file.specs.declared.copy.Copy.{Copy}
 use Rattle.file.specs.declared.copies.Copied.{Copied}
@@ -77,15 +77,12 @@ module _ (look : ℕ → Looked) where
   anyRefused (suc c) = isRefused (look (suc c)) || anyRefused c
 
 -- The room that is asked for: a walk down the whole chain meets copies from the newest on, and of each chunk it may meet older ones too.
-module _ (P chunks : ℕ) where
-  -- whether a copy of chunk c is met: the file has the chunk, and the lowest cut of newer headers does not hide it
-  abbrev pub isMet : Cut → (chunk : ℕ) → Bool
-  isMet cut c = not (eqb c 0 || ltb chunks c || hides cut (baseOf P c))
-
-  -- page q, which says k, as a copy, if it is met as one
-  abbrev pub metOf : (size : ℕ) → Cut → (page : ℕ) → Record → List Copy
-  metOf size cut q k =
-      pick (isMet cut (chunkOf k)) (record { chunk = chunkOf k; page = q; valid = validOf P (chunkOf k) k (shownOf P (chunkOf k) size) cut } ∷ []) []
+-- page q, which says k, as a copy, if it is met as one
+abbrev pub metOf : (P chunks size : ℕ) → Cut → (page : ℕ) → Record → List Copy
+metOf P chunks size cut q k =
+    pick (isMet P chunks cut (chunkOf k))
+    (record { chunk = chunkOf k; page = q; valid = validOf P (chunkOf k) k (shownOf P (chunkOf k) size) cut } ∷ [])
+    []
 
 module _ (says : ℕ → Record) (P chunks size : ℕ) where
   -- the copies met: `newest` says whether the newest header is still ahead, `cut` is the lowest cut of the headers passed

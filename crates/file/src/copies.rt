@@ -13,20 +13,18 @@ ghost use Rattle.page.specs.declared.geometry.Opened.the-variants as opened;
 ghost use Rattle.page.specs.declared.record.Record.the-variants as said;
 ghost use Rattle.sort.specs.Packed.{valueOf};
 ghost use Rattle.sort.specs.Arranged.{Every};
-ghost use Rattle.chunk.specs.Lookups.{shownOf, validOf};
 ghost use Rattle.chunk.specs.declared.cut.Cut.the-variants.{Nowhere};
 ghost use Rattle.index.specs.Cells.{cellsFor};
 ghost use Rattle.index.specs.Chains.{top};
 ghost use Rattle.index.specs.Walks.{under};
 ghost use Rattle.file.specs.Table.{allAhead};
-ghost use Rattle.file.specs.Copies.{copiesTo, packedCopy, chunkValues, pageValues, validValues, Fits, putCopy, putFrom, roomFor, isMet, metOf, met, isBroken, firstOf, firsts, inRoom, copiedFrom, rowsFrom};
+ghost use Rattle.file.specs.Copies.{copiesTo, packedCopy, chunkValues, pageValues, validValues, Fits, putCopy, putFrom, roomFor, metOf, met, isBroken, firstOf, firsts, inRoom, copiedFrom, rowsFrom};
 use crate::copy::Copy;
+use crate::shows::is_met;
+use crate::shows::valid_in;
 use crate::table::chunks_in;
 use chunk::answer::Sized;
 use chunk::cut::Cut;
-use chunk::lookup::shown_of;
-use chunk::lookup::valid_of;
-use chunk::record::base_of;
 use index::cells::link_at;
 use index::chains::Role;
 use index::chains::Step;
@@ -71,27 +69,6 @@ fn put(rows: &mut [u64], n: usize, i: u32, x: Copy)
     }
     rows[at] = pack(x.chunk, i);
     rows[n + at] = x.packed();
-}
-
-// Whether the file, of so many chunks, has the chunk of this data, and the lowest cut of newer headers does not hide it.
-fn is_met(chunks: u32, data: u32, cut: Cut, d: Data) -> bool
-    ensures { λ r. ⌜ r ≡ isMet «data» chunks cut (d .chunk .0) ⌝ }
-{
-    if d.chunk.0 == 0 {
-        return false;
-    }
-    if chunks < d.chunk.0 {
-        return false;
-    }
-    !cut.hides(base_of(data, d.chunk))
-}
-
-// How many bytes of page q, of this data, are valid in a file of this size under a cut.
-fn valid_in(data: u32, size: u64, cut: Cut, d: Data) -> u32
-    ensures { λ r. ⌜ r ≡ validOf «data» (d .chunk .0) (said.Data d) (shownOf «data» (d .chunk .0) size) cut ⌝ }
-{
-    let base = base_of(data, d.chunk);
-    valid_of(d.count, shown_of(data, size, base), cut, base)
 }
 
 // Puts page q, of this data, as copy i of n, if it is met as one. Answers how many copies are met with it.

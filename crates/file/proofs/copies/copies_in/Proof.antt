@@ -1,6 +1,6 @@
 -- The size lookup refuses, or gives the size that the chunks are counted by. A first walk counts the copies that are met and puts none; there is room
 -- for them, or not.
-use Prim.Native.Nat.{ℕ, _≤_, _<_}
+use Prim.Native.Nat.{ℕ}
 use mathlib.Core.List.{List}
 use mathlib.Core.Path.{_≡_, refl, sym, ap, _∙_}
 use native.Mathlib.Omega.{arith}

@@ -1,8 +1,7 @@
 -- The loop's invariant is `Gathered`: the rows of the keys passed are taken, and the words not yet read are as they were.
-use Prim.Native.Nat.{_+_, _-_, _≤_, _<_}
-use mathlib.Core.Path.{_≡_, refl, sym, ap, _∙_}
+use Prim.Native.Nat.{_-_}
+use mathlib.Core.Path.{refl, _∙_}
 use native.Mathlib.Omega.{arith}
-use lib.ListN.{length}
 use borrow.Author.Needs.{needs}
 use Rattle.file.proofs.Gathering.{Gathered, gather-none, key-below, gather-more, gather-end}
 use Rattle.file.proofs.copies.gather.Statement.{statement}

@@ -1,5 +1,4 @@
 -- The test is that of the definition.
-use borrow.Author.Needs.{needs}
 use borrow.Author.Tests.{not-true, not-false}
 use Rattle.file.proofs.copies.is_damaged.Statement.{statement}
 use Rattle.file.proofs.copies.is_damaged.Tie as tie

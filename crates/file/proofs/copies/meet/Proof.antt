@@ -1,12 +1,12 @@
 -- A page that is not met puts nothing; one that is met fits a row, since its chunk is one of the file's and no page has more valid bytes than data.
-use Prim.Native.Nat.{_+_, _≤_, _<_}
-use mathlib.Core.Path.{_≡_, refl, sym, _∙_}
+use mathlib.Core.Path.{refl, sym, _∙_}
 use native.Mathlib.Omega.{arith}
 use borrow.Author.Needs.{needs}
 use borrow.Author.Tests.{not-true, not-false}
 use Rattle.page.specs.declared.record.Record.the-variants as said
 use Rattle.file.proofs.Putting.{put-none, put-one}
-use Rattle.file.proofs.Meeting.{met-in, valid-most}
+use Rattle.file.proofs.Meeting.{valid-most}
+use Rattle.file.proofs.IsMet.{met-in}
 use Rattle.file.proofs.copies.meet.Statement.{statement}
 use Rattle.file.proofs.copies.meet.Tie as tie
 

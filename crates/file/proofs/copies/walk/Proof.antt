@@ -1,9 +1,7 @@
 -- The loop's invariant: what is put so far, and what is met ahead, are all copies of the chain; and the copies met and the records still ahead are
 -- no more than the pages. Each turn goes on to an older record, so that the bound falls.
-use Prim.Native.Nat.{ℕ, _+_, _≤_, _<_}
-use mathlib.Core.Path.{_≡_, refl, sym, ap, _∙_}
+use mathlib.Core.Path.{refl, sym, ap, _∙_}
 use native.Mathlib.Omega.{arith}
-use lib.ListN.{length}
 use borrow.Author.Needs.{needs}
 use Rattle.page.specs.Records.{recordAt}
 use Rattle.chunk.specs.Records.{ageOf}

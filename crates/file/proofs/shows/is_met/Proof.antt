@@ -1,8 +1,8 @@
 -- The tests come in the definition's order.
 use borrow.Author.Needs.{needs}
 use borrow.Author.Tests.{eq-eqb, ne-eqb, lt-ltb, le-ltb}
-use Rattle.file.proofs.copies.is_met.Statement.{statement}
-use Rattle.file.proofs.copies.is_met.Tie as tie
+use Rattle.file.proofs.shows.is_met.Statement.{statement}
+use Rattle.file.proofs.shows.is_met.Tie as tie
 
 returns : tie.Need-returns
 returns c = rw (eq-eqb _ _ (c .if1 .taken))
