@@ -26,7 +26,8 @@ use Rattle.index.specs.Walks.{under, sizeFrom, chunkFrom}
 use Rattle.index.proofs.Slot.Search.{first-link}
 use Rattle.index.proofs.Walk.Ahead.{is-sized, chunk-ahead}
 use Rattle.file.specs.Table.{chunksIn, allAhead}
-use Rattle.file.specs.Copies.{pageValues, validValues, packedCopy, copyIn, isRefused, copiesTo, anyRefused, met, roomFor, inRoom, isBroken, copiedBy, rowsBy, metFrom, copiedFrom, rowsFrom}
+use Rattle.index.specs.Recorded.{isBroken}
+use Rattle.file.specs.Copies.{pageValues, validValues, packedCopy, copyIn, isRefused, copiesTo, anyRefused, met, roomFor, inRoom, copiedBy, rowsBy, metFrom, copiedFrom, rowsFrom}
 use Rattle.file.specs.declared.copies.Copied.the-variants as copied
 use Rattle.file.proofs.Chunks.{chunk-before}
 use Rattle.file.proofs.Shown.{copies-same, refused-same, copy-unvisited, refused-unvisited, ahead-refused}

@@ -20,7 +20,8 @@ use Rattle.index.specs.Walks.{recordsIn, cutBy}
 use Rattle.index.specs.Ahead.{stillNewest}
 use Rattle.index.proofs.Chain.Turns.{count-on}
 use Rattle.file.specs.Shows.{isMet}
-use Rattle.file.specs.Copies.{metOf, met, putFrom, isBroken}
+use Rattle.index.specs.Recorded.{isBroken}
+use Rattle.file.specs.Copies.{metOf, met, putFrom}
 use Rattle.file.specs.declared.copy.Copy.{Copy}
 use Rattle.file.proofs.Putting.{put-none, put-on, put-length}
 

@@ -24,7 +24,8 @@ use Rattle.index.specs.Ahead.{unvisited, stillNewest, ahead}
 use Rattle.index.proofs.Walk.Ahead.{ahead-end, ahead-broken, ahead-here, ahead-on}
 use Rattle.index.proofs.Sorted.Order.{never}
 use Rattle.file.specs.Shows.{isMet}
-use Rattle.file.specs.Copies.{copyIn, isRefused, copiesTo, anyRefused, met, isBroken}
+use Rattle.index.specs.Recorded.{isBroken}
+use Rattle.file.specs.Copies.{copyIn, isRefused, copiesTo, anyRefused, met}
 use Rattle.file.specs.declared.copy.Copy.{Copy}
 use Rattle.file.proofs.IsMet.{met-in, is-met}
 use Rattle.file.proofs.Newest.{EveryCopy, over, over-none, over-behind, over-same, over-before, newestOf}

@@ -145,9 +145,3 @@ module _ {A : Type 0} (at : ℕ → A) where
   unfoldable pub firsts : (last : ℕ) (keys : List ℕ) → List A
   firsts last [] = []
   firsts last (k ∷ S) = firstOf last k ++ firsts (keyOf k) S
-
--- whether a chain ends at a damaged link
-unfoldable pub isBroken : Trace → Bool
-isBroken clean = false
-isBroken broken = true
-isBroken (rec q t) = isBroken t
