@@ -215,12 +215,13 @@ fn add_pages(dump: &[u8], g: Geometry, pages: u32, cells: &mut [u32]) {
     }
 }
 
-// The line of what an index holds for a page and for the slot of the same number.
+// The line of the four words of a page in an index: its link, and three of the table of objects.
 fn cell_line(cells: &[u32], p: u32) {
     let i = link_at(PageNumber(p));
     put(b"link=", word_at(cells, i) as u64);
-    put(b" key=", word_at(cells, i + 1) as u64);
-    line(b" first=", word_at(cells, i + 2) as u64);
+    put(b" table=", word_at(cells, i + 1) as u64);
+    put(b"/", word_at(cells, i + 2) as u64);
+    line(b"/", word_at(cells, i + 3) as u64);
 }
 
 // The lines of an index of so many pages.
