@@ -97,9 +97,9 @@ module _
 
         -- what is answered, and left in the words
         module _ (words : List ℕ) where
-          pub copies-short : length words < roomFor copies → copied.Refused ShortBuffer (roomFor copies) ≡ copiedFrom g dump cells o (length words)
+          pub copies-short : (need : ℕ) → need ≡ roomFor copies → length words < need → copied.Refused ShortBuffer need ≡ copiedFrom g dump cells o (length words)
           unfolding copiedFrom copiedBy
-          copies-short h = rw (s, ← counted, lt-ltb (length words) (roomFor copies) h)
+          copies-short need e h = rw (s, ← counted, ← e, lt-ltb (length words) need h)
 
           pub copies-rows :
               roomFor copies ≤ length words → (count : ℕ) (broken damaged : Bool) →

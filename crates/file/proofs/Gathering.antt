@@ -102,9 +102,9 @@ module _ (w₀ : List ℕ) (n : ℕ) where
 
     -- all keys are passed
     pub gather-end :
-        (v : List ℕ) → v ≡ inRoom (take m w) (roomFor n) w → n ≤ i →
+        (v : List ℕ) (to : ℕ) → to ≡ roomFor n → v ≡ inRoom (take m w) to w → n ≤ i →
         (m ≡ length (firsts at 0 (take n w₀))) × (m ≤ n) × (v ≡ inRoom (firsts at 0 (take n w₀)) (roomFor n) w₀)
-    gather-end v e h =
+    gather-end v to r e h =
         let j : i ≡ n = omega (arith, g .inside) in
         let none : drop i (take n w₀) ≡ [] = drop-of-length-le (take n w₀) {i = i} (omega (arith, length-take n w₀)) in
         let all : firsts at 0 (take n w₀) ≡ take m w = g .taken ∙ rw (none, firsts-none at last) (append-nil (take m w)) in
@@ -112,4 +112,4 @@ module _ (w₀ : List ℕ) (n : ℕ) where
         let rest : drop (roomFor n) w ≡ drop (roomFor n) w₀ =
         rw two (sym (drop-drop n n w) ∙ ap (λ (r : List ℕ). drop n r) (rw j at (g .unread)) ∙ drop-drop n n w₀) in
         let long : length (take m w) ≡ m = length-take-le m w (omega (arith, g .order, g .long)) in
-        (sym (ap length all ∙ long), omega (arith, g .order), rw (all, ← rest) e)
+        (sym (ap length all ∙ long), omega (arith, g .order), rw (all, ← rest, ← r) e)

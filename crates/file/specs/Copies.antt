@@ -8,6 +8,7 @@ use lib.Dec.{eqb, ltb}
 use Rattle.page.specs.Choice.{pick}
 use Rattle.page.specs.Records.{recordAt}
 use Rattle.page.specs.Lengths.{openedOf}
+use Rattle.page.specs.Numbers.{mostChunk}
 use Rattle.page.specs.declared.record.Record.{Record}
 use Rattle.page.specs.declared.geometry.Geometry.{Geometry}
 use Rattle.page.specs.declared.refusal.Refusal.the-variants.{ShortBuffer}
@@ -32,7 +33,7 @@ use Rattle.file.specs.declared.copies.Copied.the-variants.{Rows, Refused
 
 -- how many chunks, pages and valid lengths a row tells apart
 abbrev pub chunkValues : ℕ
-chunkValues = 0x100000
+chunkValues = mostChunk + 1
 
 abbrev pub pageValues : ℕ
 pageValues = 0x200000

@@ -3,7 +3,7 @@
 ghost use mathlib.Core.Bool.{true, _&&_};
 ghost use mathlib.Core.List.{map};
 ghost use mathlib.Core.Path.{_≡_};
-ghost use Prim.Native.Nat.{_+_, _≤_, _<_};
+ghost use Prim.Native.Nat.{_+_, _≤_, _<_, _^_};
 ghost use lib.Dec.{ltb};
 ghost use lib.ListN.{length, take, getD};
 ghost use lib.Seq.{sets};
@@ -56,6 +56,14 @@ pub enum Copied {
 struct Walked {
     copies: u32,
     broken: bool,
+}
+
+// How many words so many copies need: a key and a row for each.
+fn room_for(n: usize) -> usize
+    requires { ⌜ n < 2 ^ 63 ⌝ }
+    ensures { λ r. ⌜ r ≡ roomFor n ⌝ }
+{
+    2 * n
 }
 
 // Puts copy i of n: the key that sorts it, and its row; where i is not below n, nothing.
@@ -190,7 +198,7 @@ fn clear(rows: &mut [u64], from: usize, to: usize)
     }
 }
 
-// Of n keys in ascending order and n rows behind them, keeps the row of each chunk's first key, and clears the rest of the 2 n words.
+// Of n keys in ascending order and n rows behind them, keeps the row of each chunk's first key, and clears the rest of their room.
 fn gather(rows: &mut [u64], n: usize) -> usize
     requires { ⌜ roomFor n ≤ length (now rows) ⌝ }
     requires { ⌜ Every (λ k. valueOf k < n) (take n (now rows)) ⌝ }
@@ -207,7 +215,8 @@ fn gather(rows: &mut [u64], n: usize) -> usize
         last = key_of(key);
         i += 1;
     }
-    clear(rows, m, 2 * n);
+    let room = room_for(n);
+    clear(rows, m, room);
     m
 }
 
@@ -269,8 +278,9 @@ fn copies_in(
             let first = first_link(cells, o, pages);
             let w = walk(dump, g, pages, cells, o, first, bytes, chunks, 0, rows);
             let n = w.copies as usize;
-            if rows.len() < 2 * n {
-                return Copied::Refused(Refusal::ShortBuffer, 2 * w.copies);
+            let room = room_for(n);
+            if rows.len() < room {
+                return Copied::Refused(Refusal::ShortBuffer, room as u32);
             }
             let m = fill(dump, g, pages, cells, o, first, bytes, chunks, n, rows);
             Copied::Rows(bytes, m, is_damaged(w.broken, m, chunks))

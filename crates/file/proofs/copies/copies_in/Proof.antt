@@ -1,6 +1,6 @@
 -- The size lookup refuses, or gives the size that the chunks are counted by. A first walk counts the copies that are met and puts none; there is room
 -- for them, or not.
-use Prim.Native.Nat.{ℕ}
+use Prim.Native.Nat.{ℕ, _≤_}
 use mathlib.Core.List.{List}
 use mathlib.Core.Path.{_≡_, refl, sym, ap, _∙_}
 use native.Mathlib.Omega.{arith}
@@ -9,7 +9,7 @@ use borrow.Author.Needs.{needs}
 use Rattle.chunk.specs.declared.answer.Sized.the-variants as sized
 use Rattle.index.specs.Walks.{sizeFrom}
 use Rattle.index.proofs.Walk.Ahead.{is-sized}
-use Rattle.file.specs.Copies.{copiedFrom, copiedBy, rowsFrom, rowsBy}
+use Rattle.file.specs.Copies.{pageValues, copiedFrom, copiedBy, rowsFrom, rowsBy}
 use Rattle.file.proofs.Chunks.{data-some}
 use Rattle.file.proofs.Putting.{put-zero}
 use Rattle.file.proofs.Copying.{opened-pages, opened-data, copies-short, copies-rows, copies-filled}
@@ -67,18 +67,17 @@ returns c =
     let g = sizedAt w in
     let s = start g in (
       copies-short _ _ _ _ _ _ _ (s .pre) (given-size g) _ _ _ (l .first-link .ensures) (n .chunks-in .ensures .0) (w .walk .ensures .0) (s .args .rows .now)
-          (omega (arith, c .before .if1 .taken, ap length (same w))),
+          _ (c .before .room-for .ensures) (omega (arith, c .if1 .taken, ap length (same w))),
       same w,
     )
 
-mul-need : tie.Need-mul-t22
-mul-need c =
-    let w = c .before .before .before .before .before in
-    omega (arith, w .walk .ensures .1 .1 .0, opened-pages _ _ _ (start (sizedAt w) .pre))
+-- they are no more than the pages
+few : (w : tie.After-walk) → w .walk .result .copies ≤ pageValues
+few w = omega (arith, w .walk .ensures .1 .1 .0, opened-pages _ _ _ (start (sizedAt w) .pre))
 
 fill-requires : tie.Need-fill-requires
 fill-requires c κs =
-    let w = c .before .before .before .before .before in
+    let w = c .before .before .before .before .before .before in
     let n = w .before .before .before in
     let g = sizedAt w in
     let s = start g in (
@@ -89,7 +88,7 @@ fill-requires c κs =
           omega (arith, n .chunks-in .ensures .1),
           (
             opened-data _ _ _ (s .pre),
-            (c .before .if1 .left, w .walk .ensures .0),
+            (omega (arith, c .before .if1 .left, c .before .before .room-for .ensures), w .walk .ensures .0),
           ),
         ),
       ),
@@ -103,13 +102,13 @@ returns-3 : tie.Need-returns-3
 returns-3 c =
     let k = c .before .before .before in
     let i = k .before .before in
-    let w = i .before .before .before .before in
+    let w = i .before .before .before .before .before in
     let l = w .before .before in
     let n = l .before in
     let g = sizedAt w in
     let s = start g in (
       copies-rows _ _ _ _ _ _ _ (s .pre) (given-size g) _ _ _ (l .first-link .ensures) (n .chunks-in .ensures .0) (w .walk .ensures .0) (s .args .rows .now)
-          (omega (arith, i .if1 .left, ap length (same w))) _ _ _ (k .fill .ensures .0) (w .walk .ensures .1 .0) (c .is-damaged .ensures),
+          (omega (arith, i .if1 .left, i .before .room-for .ensures, ap length (same w))) _ _ _ (k .fill .ensures .0) (w .walk .ensures .1 .0) (c .is-damaged .ensures),
       copies-filled _ _ _ _ _ _ _ (s .pre) (given-size g) _ _ _ (l .first-link .ensures) (n .chunks-in .ensures .0) (w .walk .ensures .0) (s .args .rows .now)
           _ _ _ _ (same w) (k .fill .ensures .1),
     )
@@ -125,8 +124,8 @@ copies-in-spec =
     (search needs)
     walk-requires
     (search needs)
-    (search needs)
-    mul-need
+    (λ c κs. omega (arith, few (c .before .before .before)))
+    (λ c. omega (arith, c .before .room-for .ensures, few (c .before .before .before .before .before)))
     (search needs)
     returns
     fill-requires

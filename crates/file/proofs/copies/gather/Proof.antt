@@ -32,16 +32,18 @@ loop-again c =
 
 clear-requires : tie.Need-clear-requires Inv-loop μ-loop
 clear-requires c κs =
-    let q = c .before .before .loop in
-    (omega (arith, q .inv .order, q .inv .inside), omega (arith, q .inv .long, c .before .before .before .before .pre .0))
+    let q = c .before .before .before .loop in
+    let r = c .before .room-for .ensures in
+    (omega (arith, q .inv .order, q .inv .inside), omega (arith, q .inv .long, c .before .before .before .before .before .pre .0))
 
 returns : tie.Need-returns Inv-loop μ-loop
 returns c =
     let k = c .before .before in
-    let t = k .before .before in
+    let r = k .before .before in
+    let t = r .before in
     let q = t .before .loop in
     let s = t .before .before .before in
-    let e = gather-end (s .args .rows .now) (s .args .n) (s .pre .0) (q .rows) (q .last) (q .m) (q .i) (q .inv) _ (k .clear .ensures) (t .loop-test .left) in
+    let e = gather-end (s .args .rows .now) (s .args .n) (s .pre .0) (q .rows) (q .last) (q .m) (q .i) (q .inv) _ _ (r .room-for .ensures) (k .clear .ensures) (t .loop-test .left) in
     (e .0, (e .1, e .2))
 
 pub gather-spec : {M : Type 1} → statement M
@@ -58,7 +60,7 @@ gather-spec =
     (search needs)
     (search needs)
     loop-again
-    (λ c. omega (arith, c .before .before .before .before .pre .0))
+    (λ c κs. omega (arith, c .before .before .before .pre .0))
     clear-requires
-    (λ c. c .before .rows2 .given ∙ c .before .before .before .before .before .loop .inv .long)
+    (λ c. c .before .rows2 .given ∙ c .before .before .before .before .before .before .loop .inv .long)
     returns)
