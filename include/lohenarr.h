@@ -220,8 +220,10 @@ size_t lohenarr_cells(uint32_t pages);
  * and a lookup nobody else may write to it; whatever it holds, every call ends.
  * Every call on it is given the same dump and layout.
  *
- * Makes an index empty, whatever its words held: the refusal's number, or 0. */
-uint32_t lohenarr_start(const uint8_t *dump, size_t len, lohenarr_geometry geometry, uint32_t *cells, size_t cells_len);
+ * Makes an index empty, whatever its words held: the refusal's number, or 0.
+ * The seed is any word. No answer depends on it; with one that nobody knew when
+ * the dump was written, no dump can have been made to be slow. */
+uint32_t lohenarr_start(const uint8_t *dump, size_t len, lohenarr_geometry geometry, uint32_t *cells, size_t cells_len, uint32_t seed);
 
 /* Adds a page to an index: the refusal's number, or 0. */
 uint32_t lohenarr_add(const uint8_t *dump, size_t len, lohenarr_geometry geometry, uint32_t *cells, size_t cells_len, uint32_t page);

@@ -253,7 +253,7 @@ extern "C" {
     fn lohenarr_dump_live(dump: *const u8, len: usize, geometry: Geometry) -> TallyAnswer;
     fn lohenarr_dump_objects(dump: *const u8, len: usize, geometry: Geometry) -> TallyAnswer;
     fn lohenarr_cells(pages: u32) -> usize;
-    fn lohenarr_start(dump: *const u8, len: usize, geometry: Geometry, cells: *mut u32, cells_len: usize) -> u32;
+    fn lohenarr_start(dump: *const u8, len: usize, geometry: Geometry, cells: *mut u32, cells_len: usize, seed: u32) -> u32;
     fn lohenarr_add(dump: *const u8, len: usize, geometry: Geometry, cells: *mut u32, cells_len: usize, page: u32) -> u32;
     fn lohenarr_add_run(dump: *const u8, len: usize, geometry: Geometry, cells: *mut u32, cells_len: usize, from: u32, to: u32) -> RunAnswer;
     fn lohenarr_size(dump: *const u8, len: usize, geometry: Geometry, cells: *const u32, cells_len: usize, object: u32) -> SizeAnswer;
@@ -371,9 +371,9 @@ pub fn cells(pages: u32) -> usize {
 }
 
 /// Makes an index empty: the number of the refusal, or 0.
-pub fn start(dump: &[u8], on: Geometry, cells: &mut [u32]) -> u32 {
+pub fn start(dump: &[u8], on: Geometry, cells: &mut [u32], seed: u32) -> u32 {
     let (at, words) = (cells.as_mut_ptr(), cells.len());
-    unsafe { lohenarr_start(dump.as_ptr(), dump.len(), on, at, words) }
+    unsafe { lohenarr_start(dump.as_ptr(), dump.len(), on, at, words, seed) }
 }
 
 /// Adds a page to an index: the number of the refusal, or 0.

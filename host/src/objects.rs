@@ -25,7 +25,7 @@ impl Started {
     pub fn of(dump: &[u8], on: Geometry, runs: Runs) -> Result<Started, u32> {
         let pages = ffi::pages(dump, on).given()?.pages;
         let mut cells = vec![0; ffi::cells(pages)];
-        done(ffi::start(dump, on, &mut cells))?;
+        done(ffi::start(dump, on, &mut cells, 0))?;
         Ok(Started { cells, runs })
     }
 }

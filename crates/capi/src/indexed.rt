@@ -52,13 +52,18 @@ pub extern "C" fn lohenarr_cells(pages: u32) -> usize
     cells_for(pages)
 }
 
-// Makes the index empty, whatever its words held.
+// Makes the index empty, whatever its words held. The seed is any word; no answer depends on it.
 #[no_mangle]
-pub extern "C" fn lohenarr_start(dump: &[u8], geometry: Geometry, cells: &mut [u32]) -> u32
-    ensures { λ r. ⌜ r ≡ addedAnswer (startOf (geometryAt geometry) (now (dump .entry)) (now (cells .entry)) .answer) ⌝ }
-    ensures { λ _. ⌜ now (cells .exit) ≡ startOf (geometryAt geometry) (now (dump .entry)) (now (cells .entry)) .cells ⌝ }
+pub extern "C" fn lohenarr_start(
+    dump: &[u8],
+    geometry: Geometry,
+    cells: &mut [u32],
+    seed: u32,
+) -> u32
+    ensures { λ r. ⌜ r ≡ addedAnswer (startOf (geometryAt geometry) (now (dump .entry)) (now (cells .entry)) seed .answer) ⌝ }
+    ensures { λ _. ⌜ now (cells .exit) ≡ startOf (geometryAt geometry) (now (dump .entry)) (now (cells .entry)) seed .cells ⌝ }
 {
-    added_answer(start(dump, geometry_at(geometry), cells))
+    added_answer(start(dump, geometry_at(geometry), cells, seed))
 }
 
 // Adds a page to the index.

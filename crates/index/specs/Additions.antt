@@ -13,8 +13,8 @@ use Rattle.page.specs.declared.geometry.Opened.the-variants as opened
 use Rattle.page.specs.declared.refusal.Refusal.{Refusal}
 use Rattle.page.specs.declared.refusal.Refusal.the-variants.{ShortIndex, BadPage, AlreadyAdded}
 use Rattle.chunk.specs.Records.{ageOf}
-use Rattle.index.specs.Cells.{cellsFor, linkAt, firstAt, keys, isMarked, last, linked, claimed}
-use Rattle.index.specs.Slots.{slot}
+use Rattle.index.specs.Cells.{cellsFor, linkAt, firstAt, isMarked, last, linked, claimed, seedAt}
+use Rattle.index.specs.Slots.{slotOf}
 use Rattle.index.specs.Chains.{objects, chain}
 use Rattle.index.specs.Places.{placeOf}
 use Rattle.index.specs.declared.additions.Added.{Added}
@@ -34,17 +34,17 @@ outcome r c = record { answer = r; cells = c }
 abbrev pub refused : Refusal → List ℕ → Outcome
 refused r c = outcome (Refused r) c
 
--- the words of n pages made empty, whatever they held
-abbrev pub emptied : (pages : ℕ) (cells : List ℕ) → List ℕ
-emptied n c = replicate (cellsFor n) 0 ++ drop (cellsFor n) c
+-- the words of n pages made empty, whatever they held, with a seed
+abbrev pub emptied : (pages seed : ℕ) (cells : List ℕ) → List ℕ
+emptied n w c = set (replicate (cellsFor n) 0 ++ drop (cellsFor n) c) seedAt w
 
 -- starting an index of a dump
-unfoldable pub startIn : Opened → List ℕ → Outcome
-startIn (opened.Refused r) c = refused r c
-startIn (opened.Pages n) c = pick (ltb (length c) (cellsFor n)) (refused ShortIndex c) (outcome Done (emptied n c))
+unfoldable pub startIn : Opened → (seed : ℕ) (cells : List ℕ) → Outcome
+startIn (opened.Refused r) w c = refused r c
+startIn (opened.Pages n) w c = pick (ltb (length c) (cellsFor n)) (refused ShortIndex c) (outcome Done (emptied n w c))
 
-unfoldable pub startOf : Geometry → (dump cells : List ℕ) → Outcome
-startOf g dump c = startIn (openedOf g (length dump)) c
+unfoldable pub startOf : Geometry → (dump cells : List ℕ) (seed : ℕ) → Outcome
+startOf g dump c w = startIn (openedOf g (length dump)) w c
 
 -- a page that is no record is marked
 unfoldable pub addOther : (cells : List ℕ) (page : ℕ) → Outcome
@@ -58,7 +58,7 @@ addAt c p o s (place.At at) = pick (isMarked c p) (refused AlreadyAdded c) (outc
 module _ (n : ℕ) (obj age : ℕ → ℕ) where
   unfoldable pub addRecord : (cells : List ℕ) (page : ℕ) → Outcome
   addRecord c p =
-      let s = slot n (keys c) (obj p) in
+      let s = slotOf n c (obj p) in
       addAt c p (obj p) s (placeOf age p (chain n obj age c (obj p)) (firstAt s))
 
   -- adding page p of n

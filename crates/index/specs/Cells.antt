@@ -1,15 +1,15 @@
 -- The words of a lent index, and what each is for (document 01, "Index"). This is the one file that knows where a word stands.
 --
--- Words 0 to 15 are for the whole index. Page p, and slot p of the table of objects, have the four words from 16 + 4 p on:
---   +0  the link of page p: 0 where the page has not been added; else where the next older record of its object is
---   +1  the key of slot p: 0 where the slot is free, else an object's id
---   +2  the first link of slot p: where the newest record of that object is
---   +3  not used
+-- Words 0 to 15 are for the whole index; word 0 is the seed that the start was given, and the others are not used. Page p has the four words
+-- from 16 + 4 p on:
+--   +0          the link of page p: 0 where the page has not been added; else where the next older record of its object is
+--   +1, +2, +3  the table of objects goes on from page to page in these, two words to a slot:
+--               the key of the slot: 0 where it is free, else an object's id; then its first link: where the newest record of that object is
 -- A link is a word that leads to a page: 0 and 1 lead nowhere, q + 2 to page q.
-use Prim.Native.Nat.{ℕ, _+_, _*_}
+use Prim.Native.Nat.{ℕ, _+_, _*_, _/_, _<_, _^_}
 use mathlib.Core.Bool.{Bool, not}
 use mathlib.Core.List.{List}
-use lib.ListN.{getD, set}
+use lib.ListN.{length, getD, set}
 use lib.Dec.{eqb, ltb}
 use Rattle.page.specs.Choice.{pick}
 
@@ -29,16 +29,40 @@ cellsFor n = shared + perPage * n
 abbrev pub linkAt : ℕ → ℕ
 linkAt p = shared + perPage * p
 
+-- how many slots an index of n pages has: half as many again as there can be objects, so that a search soon meets a free one
+abbrev pub slotsFor : ℕ → ℕ
+slotsFor n = n + n / 2
+
+-- where word u of the table of objects stands: three to a page, behind its link
+unfoldable pub tableAt : ℕ → ℕ
+tableAt u = shared + 1 + u + u / 3
+
 -- where the key and the first link of slot s stand
 abbrev pub keyAt : ℕ → ℕ
-keyAt s = shared + perPage * s + 1
+keyAt s = tableAt (2 * s)
 
 abbrev pub firstAt : ℕ → ℕ
-firstAt s = shared + perPage * s + 2
+firstAt s = tableAt (2 * s + 1)
+
+-- slot s stands in the cells
+pub record InTable (c : List ℕ) (s : ℕ) : Type 0 where
+  pub few : s < 2 ^ 33
+  pub room : firstAt s < length c
+
+-- and so do all slots before slot m
+abbrev pub AllInTable : List ℕ → ℕ → Type 0
+AllInTable c m = (s : ℕ) → s < m → InTable c s
 
 -- the word at a place
 abbrev pub word : (cells : List ℕ) (i : ℕ) → ℕ
 word c i = getD c i 0
+
+-- where the seed stands, and the seed
+abbrev pub seedAt : ℕ
+seedAt = 0
+
+abbrev pub seedOf : (cells : List ℕ) → ℕ
+seedOf c = word c seedAt
 
 -- the keys of the slots
 abbrev pub keys : (cells : List ℕ) (slot : ℕ) → ℕ

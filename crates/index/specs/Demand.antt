@@ -1,6 +1,6 @@
 -- DEMAND 3, whole, about any list of requests from an accepted start.
 --
--- Start an index for one unchanged dump and layout, whatever the lent words held. Then, for every list of additions, lookups by object and
+-- Start an index for one unchanged dump and layout with any seed, whatever the lent words held. Then, for every list of additions, lookups by object and
 -- listings on it, in any order and refused calls included, each with its own K and its own length of slice, the fields below hold after the list.
 use Prim.Native.Nat.{ℕ, _<_, _≤_}
 use mathlib.Core.Bool.{Bool, true}
@@ -34,9 +34,9 @@ Falling age b clean = Unit {0}
 Falling age b broken = ⊥
 Falling age b (rec q rest) = (age q < b) × Falling age (age q) rest
 
--- the words after an accepted start, lent the first w of the memory c
-abbrev pub started : Geometry → (dump : List ℕ) (words : ℕ) (memory : List ℕ) → List ℕ
-started g dump w c = startOf g dump (take w c) .cells ++ drop w c
+-- the words after an accepted start with a seed, lent the first w of the memory c
+abbrev pub started : Geometry → (dump : List ℕ) (words seed : ℕ) (memory : List ℕ) → List ℕ
+started g dump w seed c = startOf g dump (take w c) seed .cells ++ drop w c
 
 module _ (g : Geometry) (dump c : List ℕ) (rs : List Request) where
   -- the pages that the list has added, and each object's chain after it, as the stored links give it from the stored first record
@@ -72,4 +72,8 @@ module _ (g : Geometry) (dump c : List ℕ) (rs : List Request) where
 
 -- the demand
 abbrev pub Demand : Type 0
-Demand = (g : Geometry) (dump : List ℕ) (w : ℕ) (c : List ℕ) → startOf g dump (take w c) .answer ≡ Done → (rs : List Request) → Demand3 g dump (started g dump w c) rs
+Demand =
+    (g : Geometry) (dump : List ℕ) (w seed : ℕ) (c : List ℕ) →
+    startOf g dump (take w c) seed .answer ≡ Done →
+    (rs : List Request) →
+    Demand3 g dump (started g dump w seed c) rs

@@ -8,8 +8,8 @@ use lib.ListN.{length}
 use lib.Dec.{eqb, leb}
 use Rattle.page.specs.Choice.{pick}
 use Rattle.page.specs.Search.{count}
-use Rattle.index.specs.Cells.{cellsFor, keys, isMarked}
-use Rattle.index.specs.Slots.{slot, used}
+use Rattle.index.specs.Cells.{cellsFor, slotsFor, keys, isMarked}
+use Rattle.index.specs.Slots.{slotOf, used}
 use Rattle.index.specs.Chains.{Trace, clean, rec, chain}
 
 -- the pages not yet added read as blank: they are no records
@@ -48,6 +48,6 @@ pub record Held (n : ℕ) (obj age : ℕ → ℕ) (added : ℕ → Bool) (c : Li
   -- the chain of an object is its added records, the newest first
   pub chains : (o : ℕ) → 0 < o → chain n obj age c o ≡ fromList (recs (seen obj added) age o n)
   -- a used slot is the slot of its object
-  pub homes : (s : ℕ) → s < n → (keys c s ≡ 0 → ⊥) → slot n (keys c) (keys c s) ≡ s
+  pub homes : (s : ℕ) → s < slotsFor n → (keys c s ≡ 0 → ⊥) → slotOf n c (keys c s) ≡ s
   -- no more slots are used than pages have been added
-  pub spare : count (used (keys c)) n ≤ count added n
+  pub spare : count (used (keys c)) (slotsFor n) ≤ count added n

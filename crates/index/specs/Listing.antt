@@ -21,8 +21,8 @@ use Rattle.chunk.specs.declared.answer.Listed.{Listed}
 use Rattle.chunk.specs.declared.answer.Listed.the-variants as listed
 use Rattle.chunk.specs.declared.answer.Tallied.{Tallied}
 use Rattle.chunk.specs.declared.answer.Tallied.the-variants as tallied
-use Rattle.index.specs.Cells.{cellsFor, keys}
-use Rattle.index.specs.Slots.{slot, used}
+use Rattle.index.specs.Cells.{cellsFor, slotsFor, keys}
+use Rattle.index.specs.Slots.{slotOf, used}
 use Rattle.index.specs.Chains.{Trace, clean, broken, rec}
 use Rattle.index.specs.Walks.{chainOf}
 use Rattle.index.specs.declared.list.Ask.{Ask}
@@ -60,9 +60,9 @@ stands ask says met clean = headlessStanding ask met
 stands ask says met broken = Damaged
 stands ask says met (rec q t) = pick (isHeader (says q)) (headedStanding ask (says q)) (stands ask says true t)
 
--- whether slot s of n is used, and is where its object is looked for
+-- whether slot s is used, and is where its object is looked for
 abbrev pub isOwn : (cells : List ℕ) (pages slot : ℕ) → Bool
-isOwn cells n s = used (keys cells) s && eqb (slot n (keys cells) (keys cells s)) s
+isOwn cells n s = used (keys cells) s && eqb (slotOf n cells (keys cells s)) s
 
 -- the objects asked for, on the cells of n pages
 module _ (ask : Ask) (says : ℕ → Record) (P : ℕ) (cells : List ℕ) (n : ℕ) where
@@ -82,11 +82,11 @@ module _ (ask : Ask) (says : ℕ → Record) (P : ℕ) (cells : List ℕ) (n : �
 
   -- their ids, ascending
   unfoldable pub slotIds : List ℕ
-  slotIds = idsOf askedSlot (keys cells) n
+  slotIds = idsOf askedSlot (keys cells) (slotsFor n)
 
   -- how many they are, if no damaged link is met
   unfoldable pub tallyIn : Tallied
-  tallyIn = pick (ltb 0 (count damagedSlot n)) (tallied.Refused IndexDamaged) (tallied.Count (count askedSlot n))
+  tallyIn = pick (ltb 0 (count damagedSlot (slotsFor n))) (tallied.Refused IndexDamaged) (tallied.Count (count askedSlot (slotsFor n)))
 
 -- the calls on the cells of n pages
 module _ (says : ℕ → Record) (P : ℕ) (cells : List ℕ) (n : ℕ) where
@@ -94,7 +94,7 @@ module _ (says : ℕ → Record) (P : ℕ) (cells : List ℕ) (n : ℕ) where
   unfoldable pub listIn : ℕ → Listed
   listIn room =
       pick (ltb (length cells) (cellsFor n)) (listed.Refused ShortIndex 0)
-      (pick (ltb 0 (count (damagedSlot Live says P cells n) n)) (listed.Refused IndexDamaged 0)
+      (pick (ltb 0 (count (damagedSlot Live says P cells n) (slotsFor n))) (listed.Refused IndexDamaged 0)
       (listedBy room (slotIds Live says P cells n)))
 
   -- counting all objects

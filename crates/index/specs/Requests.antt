@@ -34,7 +34,7 @@ use Rattle.index.specs.declared.additions.Added.the-variants.{Done, Refu
 
 -- a request: its K, how many words it is lent, and what it asks
 pub data Request : Type 0 where
-  start : (k words : ℕ) → Request
+  start : (k words seed : ℕ) → Request
   add : (k words page : ℕ) → Request
   size : (k words object : ℕ) → Request
   chunk : (k words object chunk : ℕ) → Request
@@ -87,7 +87,7 @@ module _ (g : Geometry) (dump : List ℕ) where
   -- OUR CALLS, by the definitions that their contracts equal, on a memory of words of which each is lent the first so many
 
   unfoldable pub answerOn : (memory : List ℕ) → Request → Answer
-  answerOn c (start k w) = addition (startOf (inBlocks g k) dump (take w c) .answer)
+  answerOn c (start k w seed) = addition (startOf (inBlocks g k) dump (take w c) seed .answer)
   answerOn c (add k w p) = addition (addOf (inBlocks g k) dump (take w c) p .answer)
   answerOn c (size k w o) = aSize (sizeFrom (inBlocks g k) dump (take w c) o)
   answerOn c (chunk k w o n) = aChunk (chunkFrom (inBlocks g k) dump (take w c) o n)
@@ -96,7 +96,7 @@ module _ (g : Geometry) (dump : List ℕ) where
   answerOn c (list k w buffer) = listAnswer buffer (idsFrom (inBlocks g k) dump (take w c)) (listFrom (inBlocks g k) dump (take w c) (length buffer))
 
   unfoldable pub wordsAfter : (memory : List ℕ) → Request → List ℕ
-  wordsAfter c (start k w) = startOf (inBlocks g k) dump (take w c) .cells ++ drop w c
+  wordsAfter c (start k w seed) = startOf (inBlocks g k) dump (take w c) seed .cells ++ drop w c
   wordsAfter c (add k w p) = addOf (inBlocks g k) dump (take w c) p .cells ++ drop w c
   wordsAfter c (size k w o) = c
   wordsAfter c (chunk k w o n) = c
@@ -140,7 +140,7 @@ module _ (g : Geometry) (dump : List ℕ) where
     liveSeen done n = liveIds (seenSays (recordAt g dump) done) n
 
     unfoldable pub answerBy : (done : ℕ → Bool) → Request → Answer
-    answerBy done (start k w) = addition (unlessRefused Refused (λ n. Done) k w)
+    answerBy done (start k w seed) = addition (unlessRefused Refused (λ n. Done) k w)
     answerBy done (add k w p) = addition (unlessRefused Refused (addedBy done p) k w)
     answerBy done (size k w o) = aSize (unlessRefused (λ r. sized.Refused r 0) (sizeSeen done o) k w)
     answerBy done (chunk k w o c) = aChunk (lookedBy done k w o c)
@@ -151,7 +151,7 @@ module _ (g : Geometry) (dump : List ℕ) where
 
     -- the pages added: an accepted start forgets all; an addition to which no refusal ordered before IndexDamaged applies adds its page
     unfoldable pub addedAfter : (done : ℕ → Bool) → Request → ℕ → Bool
-    addedAfter done (start k w) = unlessRefused (λ r. done) (λ n. noneAdded) k w
+    addedAfter done (start k w seed) = unlessRefused (λ r. done) (λ n. noneAdded) k w
     addedAfter done (add k w p) = unlessRefused (λ r. done) (λ n. pick (leb n p) done (with p done)) k w
     addedAfter done (size k w o) = done
     addedAfter done (chunk k w o c) = done

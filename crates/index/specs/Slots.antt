@@ -1,11 +1,12 @@
--- The table of objects: n slots, searched by open addressing. An object's slot has its id as key and the link to its newest record.
-use Prim.Native.Nat.{ℕ, zero, suc, _+_, _%_}
+-- The table of objects, searched by open addressing. An object's slot has its id as key and the link to its newest record.
+use Prim.Native.Nat.{ℕ, zero, suc, _+_, _*_, _/_, _%_}
 use mathlib.Core.Bool.{Bool, not, _||_}
 use mathlib.Core.List.{List}
 use lib.ListN.{length}
 use lib.Dec.{eqb, ltb}
 use Rattle.page.specs.Choice.{pick}
-use Rattle.index.specs.Cells.{cellsFor, word, keys, firstAt}
+use Rattle.sort.specs.Packed.{wordValues}
+use Rattle.index.specs.Cells.{cellsFor, slotsFor, word, keys, firstAt, seedOf}
 use Rattle.index.specs.declared.slots.Found.{Found}
 use Rattle.index.specs.declared.slots.Found.the-variants.{Slot, Nothing}
 
@@ -23,9 +24,22 @@ abbrev pub foundOr : Found → ℕ → ℕ
 foundOr Nothing s = s
 foundOr (Slot j) s = j
 
--- the slot of object o among n: from its home down, then from the last one down, the first that serves; its home where none does
-unfoldable pub slot : (pages : ℕ) (key : ℕ → ℕ) (object : ℕ) → ℕ
-slot n key o = foundOr (down key o (o % n + 1)) (foundOr (down key o n) (o % n))
+-- an id mixed with a seed, so that who does not know the seed cannot choose ids that meet: the middle of their product, squared, whose middle is
+-- added to the id; with the seed 0 it is the id
+unfoldable pub mixed : (seed object : ℕ) → ℕ
+mixed w o = let t = o * w / 16384 % wordValues in o + t * t / 65536 % wordValues
+
+-- the home of object o among m slots
+abbrev pub homeOf : (slots seed object : ℕ) → ℕ
+homeOf m w o = mixed w o % m
+
+-- the slot of object o among m: from its home down, then from the last one down, the first that serves; its home where none does
+unfoldable pub slot : (slots home : ℕ) (key : ℕ → ℕ) (object : ℕ) → ℕ
+slot m h key o = foundOr (down key o (h + 1)) (foundOr (down key o m) h)
+
+-- the slot of object o on the cells of n pages
+unfoldable pub slotOf : (pages : ℕ) (cells : List ℕ) (object : ℕ) → ℕ
+slotOf n c o = slot (slotsFor n) (homeOf (slotsFor n) (seedOf c) o) (keys c) o
 
 -- the link to the first record of object o if slot s is the object's, else one that leads nowhere
 unfoldable pub firstIn : (cells : List ℕ) (slot object : ℕ) → ℕ
@@ -33,7 +47,7 @@ firstIn c s o = pick (eqb (keys c s) o) (word c (firstAt s)) 0
 
 -- the link to the first record of object o
 unfoldable pub first : (pages : ℕ) (cells : List ℕ) (object : ℕ) → ℕ
-first n c o = firstIn c (slot n (keys c) o) o
+first n c o = firstIn c (slotOf n c o) o
 
 -- the same, on any words; one that leads nowhere where they are too few for n pages
 unfoldable pub firstLink : (pages : ℕ) (cells : List ℕ) (object : ℕ) → ℕ

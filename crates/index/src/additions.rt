@@ -1,11 +1,11 @@
 // Starting an index, and adding pages to it.
 ghost use mathlib.Core.Path.{_≡_};
-ghost use Prim.Native.Nat.{_+_, _≤_, _<_, _^_};
+ghost use Prim.Native.Nat.{_≤_, _<_, _^_};
 ghost use lib.ListN.{length};
 ghost use Rattle.page.specs.Records.{recordAt};
 ghost use Rattle.page.specs.declared.geometry.Opened.the-variants as opened;
 ghost use Rattle.chunk.specs.Records.{ageOf};
-ghost use Rattle.index.specs.Cells.{cellsFor, linkAt};
+ghost use Rattle.index.specs.Cells.{InTable, linkAt};
 ghost use Rattle.index.specs.Chains.{objects};
 ghost use Rattle.index.specs.Places.{Recorded};
 ghost use Rattle.index.specs.Additions.{outcome, startIn, startOf, addOther, addAt, addRecord, addTo, addOf};
@@ -13,6 +13,7 @@ use crate::cells::LAST;
 use crate::cells::cells_for;
 use crate::cells::clear;
 use crate::cells::link_at;
+use crate::cells::put_seed;
 use crate::places::Place;
 use crate::places::is_marked;
 use crate::places::place_of;
@@ -34,34 +35,36 @@ pub enum Added {
     Refused(Refusal),
 }
 
-// Starts an index of so many pages.
-fn start_pages(cells: &mut [u32], pages: u32) -> Added
-    ensures { λ r. ⌜ outcome r (now (cells .exit)) ≡ startIn (opened.Pages pages) (now (cells .entry)) ⌝ }
+// Starts an index of so many pages with a seed.
+fn start_pages(cells: &mut [u32], pages: u32, seed: u32) -> Added
+    ensures { λ r. ⌜ outcome r (now (cells .exit)) ≡ startIn (opened.Pages pages) seed (now (cells .entry)) ⌝ }
 {
     let end = cells_for(pages);
     if cells.len() < end {
         return Added::Refused(Refusal::ShortIndex);
     }
     clear(cells, end);
+    put_seed(cells, seed);
     Added::Done
 }
 
-// Makes the index of a dump empty, whatever its words held.
-pub fn start(dump: &[u8], g: Geometry, cells: &mut [u32]) -> Added
-    ensures { λ r. ⌜ outcome r (now (cells .exit)) ≡ startOf g (now (dump .entry)) (now (cells .entry)) ⌝ }
+// Makes the index of a dump empty, whatever its words held. The seed is any word: no answer depends on it, and with one that is not known
+// beforehand nobody can prepare a dump on which searches are slow.
+pub fn start(dump: &[u8], g: Geometry, cells: &mut [u32], seed: u32) -> Added
+    ensures { λ r. ⌜ outcome r (now (cells .exit)) ≡ startOf g (now (dump .entry)) (now (cells .entry)) seed ⌝ }
 {
     let o = g.opened(dump.len());
     match o {
         Opened::Refused(r) => Added::Refused(r),
-        Opened::Pages(pages) => start_pages(cells, pages),
+        Opened::Pages(pages) => start_pages(cells, pages, seed),
     }
 }
 
 // Puts page p of object o in at a place, where s is the object's slot or is to become it.
-fn add_at(cells: &mut [u32], o: ObjectId, p: PageNumber, s: u32, at: usize) -> Added
+fn add_at(cells: &mut [u32], o: ObjectId, p: PageNumber, s: usize, at: usize) -> Added
     requires { ⌜ p .0 < 2 ^ 31 ⌝ }
     requires { ⌜ linkAt (p .0) < length (now cells) ⌝ }
-    requires { ⌜ cellsFor (s + 1) ≤ length (now cells) ⌝ }
+    requires { ⌜ InTable (now cells) s ⌝ }
     requires { ⌜ at < length (now cells) ⌝ }
     ensures { λ r. ⌜ outcome r (now (cells .exit)) ≡ addAt (now (cells .entry)) (p .0) (o .0) s (Place.At at) ⌝ }
 {

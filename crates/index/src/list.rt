@@ -1,19 +1,20 @@
 // Listing the live objects and counting all objects by the index, on any cells: slot by slot, down each object's chain to its newest header.
 ghost use mathlib.Core.Bool.{false};
 ghost use mathlib.Core.Path.{_≡_};
-ghost use Prim.Native.Nat.{_+_, _≤_, _<_};
+ghost use Prim.Native.Nat.{_≤_, _<_, _^_};
 ghost use lib.ListN.{length};
 ghost use Rattle.page.specs.Search.{count};
 ghost use Rattle.page.specs.Records.{recordAt};
 ghost use Rattle.chunk.specs.Records.{isGone};
 ghost use Rattle.chunk.specs.Lists.{inFront, wordsBy};
-ghost use Rattle.index.specs.Cells.{cellsFor, keys};
+ghost use Rattle.index.specs.Cells.{cellsFor, slotsFor, InTable, keys};
 ghost use Rattle.index.specs.Chains.{top};
 ghost use Rattle.index.specs.Walks.{under};
 ghost use Rattle.index.specs.Listing.{isAny, headedStanding, headlessStanding, stands, standingAt, askedSlot, slotIds, tallyIn, listIn, objectsIn, idsFrom, listFrom, objectsFrom};
 use crate::cells::cells_for;
 use crate::cells::key_at;
 use crate::cells::link_of;
+use crate::cells::slots_for;
 use crate::chains::Role;
 use crate::chains::Step;
 use crate::chains::TOP;
@@ -130,8 +131,8 @@ fn standing_from(
 }
 
 // The key of slot s.
-fn key_of(cells: &[u32], s: u32) -> ObjectId
-    requires { ⌜ cellsFor (s + 1) ≤ length (now cells) ⌝ }
+fn key_of(cells: &[u32], s: usize) -> ObjectId
+    requires { ⌜ InTable (now cells) s ⌝ }
     ensures { λ r. ⌜ r .0 ≡ keys (now (cells .entry)) s ⌝ }
 {
     let i = key_at(s);
@@ -145,11 +146,12 @@ fn standing_at(
     ask: Ask,
     pages: u32,
     cells: &[u32],
-    s: u32,
+    s: usize,
     o: ObjectId,
 ) -> Standing
-    requires { ⌜ s < pages ⌝ }
+    requires { ⌜ 0 < pages ⌝ }
     requires { ⌜ cellsFor pages ≤ length (now cells) ⌝ }
+    requires { ⌜ InTable (now cells) s ⌝ }
     requires { ⌜ o .0 ≡ keys (now cells) s ⌝ }
     requires { ⌜ 0 < o .0 ⌝ }
     ensures { λ r. ⌜ r ≡ standingAt ask (recordAt g (now (dump .entry))) (g .layout .«data») (now (cells .entry)) pages s ⌝ }
@@ -163,12 +165,14 @@ fn standing_at(
 
 // How many slots have objects that are asked for, if no damaged link is met.
 fn tally_in(dump: &[u8], g: Geometry, ask: Ask, pages: u32, cells: &[u32]) -> Tallied
+    requires { ⌜ pages ≤ 2 ^ 31 ⌝ }
     requires { ⌜ cellsFor pages ≤ length (now cells) ⌝ }
     ensures { λ r. ⌜ r ≡ tallyIn ask (recordAt g (now (dump .entry))) (g .layout .«data») (now (cells .entry)) pages ⌝ }
 {
+    let slots = slots_for(pages);
     let mut count: u32 = 0;
-    let mut s: u32 = 0;
-    while s < pages {
+    let mut s: usize = 0;
+    while s < slots {
         let at = s;
         let o = key_of(cells, at);
         s += 1;
@@ -194,12 +198,13 @@ fn tally_in(dump: &[u8], g: Geometry, ask: Ask, pages: u32, cells: &[u32]) -> Ta
 // Writes the ids of the live slots, ascending, to words that have room for them.
 fn write_ids(dump: &[u8], g: Geometry, pages: u32, cells: &[u32], words: &mut [u32])
     requires { ⌜ cellsFor pages ≤ length (now cells) ⌝ }
-    requires { ⌜ count (askedSlot Ask.Live (recordAt g (now dump)) (g .layout .«data») (now cells) pages) pages ≤ length (now words) ⌝ }
+    requires { ⌜ count (askedSlot Ask.Live (recordAt g (now dump)) (g .layout .«data») (now cells) pages) (slotsFor pages) ≤ length (now words) ⌝ }
     ensures { λ _. ⌜ now (words .exit) ≡ inFront (slotIds Ask.Live (recordAt g (now (dump .entry))) (g .layout .«data») (now (cells .entry)) pages) (now (words .entry)) ⌝ }
 {
+    let slots = slots_for(pages);
     let mut count: usize = 0;
-    let mut s: u32 = 0;
-    while s < pages {
+    let mut s: usize = 0;
+    while s < slots {
         let at = s;
         let o = key_of(cells, at);
         s += 1;
@@ -218,6 +223,7 @@ fn write_ids(dump: &[u8], g: Geometry, pages: u32, cells: &[u32], words: &mut [u
 
 // Lists the live objects of a dump of so many pages.
 fn list_in(dump: &[u8], g: Geometry, pages: u32, cells: &[u32], words: &mut [u32]) -> Listed
+    requires { ⌜ pages ≤ 2 ^ 31 ⌝ }
     ensures { λ r. ⌜ r ≡ listIn (recordAt g (now (dump .entry))) (g .layout .«data») (now (cells .entry)) pages (length (now (words .entry))) ⌝ }
     ensures { λ r. ⌜ now (words .exit) ≡ wordsBy (slotIds Ask.Live (recordAt g (now (dump .entry))) (g .layout .«data») (now (cells .entry)) pages) (now (words .entry)) r ⌝ }
 {
@@ -252,6 +258,7 @@ pub fn list(dump: &[u8], g: Geometry, cells: &[u32], words: &mut [u32]) -> Liste
 
 // Counts the objects of a dump of so many pages.
 fn objects_in(dump: &[u8], g: Geometry, pages: u32, cells: &[u32]) -> Tallied
+    requires { ⌜ pages ≤ 2 ^ 31 ⌝ }
     ensures { λ r. ⌜ r ≡ objectsIn (recordAt g (now (dump .entry))) (g .layout .«data») (now (cells .entry)) pages ⌝ }
 {
     if cells.len() < cells_for(pages) {

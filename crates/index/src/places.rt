@@ -3,7 +3,7 @@ ghost use mathlib.Core.Path.{_≡_};
 ghost use Prim.Native.Nat.{_<_, _^_};
 ghost use lib.ListN.{length};
 ghost use Rattle.page.specs.Records.{recordAt};
-ghost use Rattle.index.specs.Cells.{word, linkAt, firstAt, isMarked, linked};
+ghost use Rattle.index.specs.Cells.{InTable, word, linkAt, firstAt, isMarked, linked};
 ghost use Rattle.index.specs.Slots.{firstIn};
 ghost use Rattle.index.specs.Places.{Recorded, Within, placeFrom};
 use crate::cells::LINKS;
@@ -76,10 +76,10 @@ pub(crate) fn place_of(
     o: ObjectId,
     p: PageNumber,
     age: u64,
-    s: u32,
+    s: usize,
 ) -> Place
     requires { ⌜ Recorded (recordAt g (now dump)) pages (now cells) (o .0) (p .0) age ⌝ }
-    requires { ⌜ s < pages ⌝ }
+    requires { ⌜ InTable (now cells) s ⌝ }
     ensures { λ r. ⌜ r ≡ placeFrom (recordAt g (now (dump .entry))) pages (now (cells .entry)) (o .0) (p .0) (firstIn (now (cells .entry)) s (o .0)) (firstAt s) ⌝ }
     ensures { λ r. ⌜ Within (length (now (cells .entry))) r ⌝ }
 {

@@ -196,7 +196,7 @@ fn dump_lines(dump: &[u8], g: Geometry, cells: &mut [u32]) {
     let Opened::Pages(pages) = opened else {
         return;
     };
-    added_line(start(dump, g, cells));
+    added_line(start(dump, g, cells, 0));
     add_pages(dump, g, pages, cells);
     cell_lines(cells, pages);
     live_lines(dump, g, cells);

@@ -128,7 +128,7 @@ impl<'d> Runner<'d> {
 
     fn start(&mut self, on: Geometry, words: usize) -> String {
         let cells = &mut self.index[..words];
-        let refusal = ffi::start(self.dump, on, cells);
+        let refusal = ffi::start(self.dump, on, cells, 0);
         if refusal == 0 {
             self.started = Some((on, words));
         }

@@ -30,7 +30,7 @@ int main(void) {
     lohenarr_list_answer live = lohenarr_dump_list(dump, len, geometry, ids, 2);
     printf("live %u: %u, %u %u\n", live.refusal, live.count, ids[0], ids[1]);
     printf("cells %zu\n", lohenarr_cells(8));
-    printf("start %u\n", lohenarr_start(dump, len, geometry, cells, 48));
+    printf("start %u\n", lohenarr_start(dump, len, geometry, cells, 48, 0));
     printf("add %u\n", lohenarr_add(dump, len, geometry, cells, 48, 6));
     lohenarr_run_answer run = lohenarr_add_run(dump, len, geometry, cells, 48, 0, 5);
     printf("run %u: %u\n", run.refusal, run.page);

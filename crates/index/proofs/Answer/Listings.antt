@@ -37,8 +37,8 @@ use Rattle.chunk.proofs.Records.{of-object}
 use Rattle.chunk.proofs.Cases.{listed-count}
 use Rattle.chunk.proofs.Meaning.{newest-found}
 use Rattle.chunk.proofs.Living.{Bears, Live, ids-in, ids-of, ids-length, ids-ascend, count-below, live-ids-ascend, live-in, live-of, objectIds, objects-ascend, objects-length, objects-in, objects-of}
-use Rattle.index.specs.Cells.{cellsFor, keys}
-use Rattle.index.specs.Slots.{slot}
+use Rattle.index.specs.Cells.{cellsFor, slotsFor, keys}
+use Rattle.index.specs.Slots.{slotOf}
 use Rattle.index.specs.Chains.{objects, top, clean, trace, chain}
 use Rattle.index.specs.Held.{seen, recs, fromList, Held}
 use Rattle.index.specs.Walks.{seenSays}
@@ -81,13 +81,13 @@ else-asked standing.Other h = refl
 
 -- a slot that is where its object is looked for
 module _ (c : List ℕ) (n s : ℕ) where
-  own-key : isOwn c n s ≡ true → (0 < keys c s) × (slot n (keys c) (keys c s) ≡ s)
+  own-key : isOwn c n s ≡ true → (0 < keys c s) × (slotOf n c (keys c s) ≡ s)
   own-key e =
       by-test (eqb (keys c s) 0) _
       (λ t. never (rw t at e))
       (λ t. let k : keys c s ≡ 0 → ⊥ = eqb-false _ _ t in (omega arith, eqb-true _ _ (rw t at e)))
 
-  key-own : 0 < keys c s → slot n (keys c) (keys c s) ≡ s → isOwn c n s ≡ true
+  key-own : 0 < keys c s → slotOf n c (keys c s) ≡ s → isOwn c n s ≡ true
   key-own h e = rw (ne-eqb (keys c s) 0 (λ z. absurd (omega arith))) (eq-eqb _ _ e)
 
 module _ (a : Ask) (says : ℕ → Record) (P : ℕ) (c : List ℕ) (n : ℕ) where
@@ -105,13 +105,13 @@ module _ (a : Ask) (says : ℕ → Record) (P : ℕ) (c : List ℕ) (n : ℕ) wh
   at-free s e = rw (eq-eqb (keys c s) 0 e)
 
   -- the tally: a damaged slot refuses it, and else it counts the slots asked for
-  pub tally-damaged : (s : ℕ) → s < n → standingAt a says P c n s ≡ standing.Damaged → tallyIn a says P c n ≡ tallied.Refused IndexDamaged
+  pub tally-damaged : (s : ℕ) → s < slotsFor n → standingAt a says P c n s ≡ standing.Damaged → tallyIn a says P c n ≡ tallied.Refused IndexDamaged
   unfolding tallyIn
   tally-damaged s h e =
-      let k = count-below (damagedSlot a says P c n) s n h (rw e) in
-      rw (lt-ltb 0 (count (damagedSlot a says P c n) n) (omega arith))
+      let k = count-below (damagedSlot a says P c n) s (slotsFor n) h (rw e) in
+      rw (lt-ltb 0 (count (damagedSlot a says P c n) (slotsFor n)) (omega arith))
 
-  pub tally-whole : count (damagedSlot a says P c n) n ≡ 0 → tallyIn a says P c n ≡ tallied.Count (count (askedSlot a says P c n) n)
+  pub tally-whole : count (damagedSlot a says P c n) (slotsFor n) ≡ 0 → tallyIn a says P c n ≡ tallied.Count (count (askedSlot a says P c n) (slotsFor n))
   unfolding tallyIn
   tally-whole e = rw e
 
@@ -125,19 +125,19 @@ module _ (a : Ask) (says : ℕ → Record) (P : ℕ) (c : List ℕ) (n : ℕ) wh
   -- one object is looked for in one slot
   pub slots-apart : (s s′ : ℕ) → askedSlot a says P c n s ≡ true → askedSlot a says P c n s′ ≡ true → keys c s ≡ keys c s′ → s ≡ s′
   slots-apart s s′ t u e =
-      sym (own-key c n s (asked-slot s t .0) .1) ∙ ap (slot n (keys c)) e ∙ own-key c n s′ (asked-slot s′ u .0) .1
+      sym (own-key c n s (asked-slot s t .0) .1) ∙ ap (slotOf n c) e ∙ own-key c n s′ (asked-slot s′ u .0) .1
 
   -- object o is the key of the slot where it is looked for, and is asked for
   abbrev Found : ℕ → Type 0
-  Found o = (0 < o) × (keys c (slot n (keys c) o) ≡ o) × (isAsked (standingOf a says P c n o) ≡ true)
+  Found o = (0 < o) × (keys c (slotOf n c o) ≡ o) × (isAsked (standingOf a says P c n o) ≡ true)
 
-  slot-found : (o : ℕ) → 0 < n → Found o → Bears (askedSlot a says P c n) (keys c) n o
+  slot-found : (o : ℕ) → 0 < n → Found o → Bears (askedSlot a says P c n) (keys c) (slotsFor n) o
   slot-found o pages f =
-      let s = slot n (keys c) o in
-      let at : slot n (keys c) (keys c s) ≡ s = ap (slot n (keys c)) (f .1) in
+      let s = slotOf n c o in
+      let at : slotOf n c (keys c s) ≡ s = ap (slotOf n c) (f .1) in
       record {
         page = s;
-        inside = slot-lt (keys c) o n pages;
+        inside = slot-lt n c o pages;
         passes = rw (at-own s (key-own c n s (rw (f .1) (f .0)) at), f .1) (f .2);
         bears = f .1;
       }
@@ -151,14 +151,14 @@ module _ (a : Ask) (says : ℕ → Record) (P : ℕ) (c : List ℕ) (n : ℕ) wh
   unfolding slotIds
   slots-same ids pages up there found =
       same-members 0 _ _
-      (ids-ascend (askedSlot a says P c n) (keys c) slots-apart n)
+      (ids-ascend (askedSlot a says P c n) (keys c) slots-apart (slotsFor n))
       up
       (λ o i.
-      let w = ids-of (askedSlot a says P c n) (keys c) o n i in
+      let w = ids-of (askedSlot a says P c n) (keys c) o (slotsFor n) i in
       let r = asked-slot (w .page) (w .passes) in
       let pos : 0 < o = rw (w .bears) at (own-key c n (w .page) (r .0) .0) in
       there o pos (rw (w .bears) at (r .1)))
-      (λ o i. ids-in (askedSlot a says P c n) (keys c) o n (slot-found o pages (found o i)))
+      (λ o i. ids-in (askedSlot a says P c n) (keys c) o (slotsFor n) (slot-found o pages (found o i)))
 
 module _ (says : ℕ → Record) (P : ℕ) (c : List ℕ) (n : ℕ) where
   pub list-short : (room : ℕ) → length c < cellsFor n → listIn says P c n room ≡ listed.Refused ShortIndex 0
@@ -172,7 +172,7 @@ module _ (says : ℕ → Record) (P : ℕ) (c : List ℕ) (n : ℕ) where
   -- what a tally of m tells of a listing into so many words
   abbrev pub Counted : ℕ → ℕ → Type 0
   Counted room m =
-      (m ≡ count (askedSlot ask.Live says P c n) n)
+      (m ≡ count (askedSlot ask.Live says P c n) (slotsFor n))
       × (listIn says P c n room ≡ pick (ltb room m) (listed.Refused ShortBuffer m) (listed.Ids m))
 
   -- where there are enough words, the calls go by the tally
@@ -185,17 +185,17 @@ module _ (says : ℕ → Record) (P : ℕ) (c : List ℕ) (n : ℕ) where
     unfolding tallyIn listIn
     list-refused room r e =
         rw (le-ltb (length c) (cellsFor n) enough)
-        (pick-cases (ltb 0 (count (damagedSlot ask.Live says P c n) n)) _ _ _ _ e
+        (pick-cases (ltb 0 (count (damagedSlot ask.Live says P c n) (slotsFor n))) _ _ _ _ e
         (λ t q. let same : IndexDamaged ≡ r = cc in rw (t, same))
         (λ t q. clash (cc)))
 
     pub list-counted : (room m : ℕ) → tallyIn ask.Live says P c n ≡ tallied.Count m → Counted room m
     unfolding tallyIn listIn slotIds
     list-counted room m e =
-        rw (le-ltb (length c) (cellsFor n) enough, listed-count room _ _ (ids-length (askedSlot ask.Live says P c n) (keys c) n))
-        (pick-cases (ltb 0 (count (damagedSlot ask.Live says P c n) n)) _ _ _ _ e
+        rw (le-ltb (length c) (cellsFor n) enough, listed-count room _ _ (ids-length (askedSlot ask.Live says P c n) (keys c) (slotsFor n)))
+        (pick-cases (ltb 0 (count (damagedSlot ask.Live says P c n) (slotsFor n))) _ _ _ _ e
         (λ t q. clash (cc))
-        (λ t q. let same : m ≡ count (askedSlot ask.Live says P c n) n = cc in (same, rw (t, same))))
+        (λ t q. let same : m ≡ count (askedSlot ask.Live says P c n) (slotsFor n) = cc in (same, rw (t, same))))
 
 -- ---- on the chain of a list of records
 
@@ -288,10 +288,10 @@ module _
     record-added o p pos i = let r = held-of n (objects says) (ageOf says) added c g o pos p i in (r .0, rw (r .2) (r .1))
 
     -- an object with an added record is the key of the slot where it is looked for
-    key-found : (o x : ℕ) → 0 < o → In x (R o) → keys c (slot n (keys c) o) ≡ o
+    key-found : (o x : ℕ) → 0 < o → In x (R o) → keys c (slotOf n c o) ≡ o
     unfolding chain
     key-found o x pos i =
-        by-test (eqb (keys c (slot n (keys c) o)) o) _
+        by-test (eqb (keys c (slotOf n c o)) o) _
         (λ t. eqb-true _ _ t)
         (λ t.
         absurd
@@ -328,7 +328,7 @@ module _
     pub list-held : (room : ℕ) → listIn says P c n room ≡ listedBy room (liveIds S n)
     unfolding listIn
     list-held room =
-        rw (le-ltb (length c) (cellsFor n) (g .room), count-nothing (damagedSlot ask.Live says P c n) n (λ s h. none-damaged ask.Live s), ids-same)
+        rw (le-ltb (length c) (cellsFor n) (g .room), count-nothing (damagedSlot ask.Live says P c n) (slotsFor n) (λ s h. none-damaged ask.Live s), ids-same)
 
     -- an object with an added record is one of the dump so read, and is found in its slot
     any-in : (o : ℕ) → 0 < o → isAsked (standingOf ask.Any says P c n o) ≡ true → In o (objectIds S n)
@@ -357,5 +357,5 @@ module _
     unfolding slotIds
     objects-held =
         objects-tally says P c n (g .room)
-        ∙ tally-whole ask.Any says P c n (count-nothing (damagedSlot ask.Any says P c n) n (λ s h. none-damaged ask.Any s))
-        ∙ ap tallied.Count (sym (ids-length (askedSlot ask.Any says P c n) (keys c) n) ∙ ap length objects-same ∙ objects-length S n)
+        ∙ tally-whole ask.Any says P c n (count-nothing (damagedSlot ask.Any says P c n) (slotsFor n) (λ s h. none-damaged ask.Any s))
+        ∙ ap tallied.Count (sym (ids-length (askedSlot ask.Any says P c n) (keys c) (slotsFor n)) ∙ ap length objects-same ∙ objects-length S n)

@@ -39,9 +39,11 @@ module _ (g : Geometry) (dump cells : List ℕ) where
   w = length cells
 
   pub start-call :
-      (answerOn g dump cells (start k w) ≡ addition (startOf g dump cells .answer)) × (wordsAfter g dump cells (start k w) ≡ startOf g dump cells .cells)
+      (seed : ℕ) →
+      (answerOn g dump cells (start k w seed) ≡ addition (startOf g dump cells seed .answer))
+      × (wordsAfter g dump cells (start k w seed) ≡ startOf g dump cells seed .cells)
   unfolding answerOn wordsAfter
-  start-call = rw lent (refl, left (startOf g dump cells .cells))
+  start-call seed = rw lent (refl, left (startOf g dump cells seed .cells))
 
   pub add-call :
       (p : ℕ) →
@@ -77,9 +79,9 @@ module _ (g : Geometry) (dump cells : List ℕ) where
   unfolding answerOn wordsAfter
   list-call buffer = rw lent (refl, refl)
 
--- W in 48 words, whatever they hold
-pub shelf-start : (c : List ℕ) → length c ≡ 48 → startOf shelfGeometry shelf c .answer ≡ Done
+-- W in 48 words, whatever they hold, with any seed
+pub shelf-start : (c : List ℕ) (seed : ℕ) → length c ≡ 48 → startOf shelfGeometry shelf c seed .answer ≡ Done
 unfolding startOf startIn
-shelf-start c e =
+shelf-start c seed e =
     let opened : openedOf shelfGeometry (length shelf) ≡ Pages 8 = rw (pages.marked .shelf-length) (pages.marked .shelf-opened) in
     rw (opened, e)

@@ -123,9 +123,9 @@ module _ (g : Geometry) (dump : List ℕ) (n : ℕ) (accepted : openedOf g (leng
     answer-to true = refl
     answer-to false = refl
 
-    step-start : (k w : ℕ) → Step m c done (start k w)
+    step-start : (k w seed : ℕ) → Step m c done (start k w seed)
     unfolding answerOn wordsAfter answerBy addedAfter startOf startIn
-    step-start k w =
+    step-start k w seed =
         by-block k _
         (λ r e. rw e (refl, unchanged w))
         (λ e.
@@ -136,9 +136,9 @@ module _ (g : Geometry) (dump : List ℕ) (n : ℕ) (accepted : openedOf g (leng
         let h : cellsFor n ≤ length (take w c) = rw (slice-length w) (ltb-false _ _ t) in
         rw t (
           refl,
-          back w (emptied n (take w c)) noneAdded
-              (simp (length-append, length-replicate, length-drop) (omega arith))
-              (start-holds n obj age some (take w c) h),
+          back w (emptied n seed (take w c)) noneAdded
+              (simp (length-set, length-append, length-replicate, length-drop) (omega arith))
+              (start-holds n obj age some (take w c) seed h),
         ))))
 
     step-add : (k w p : ℕ) → Step m c done (add k w p)
@@ -204,7 +204,7 @@ module _ (g : Geometry) (dump : List ℕ) (n : ℕ) (accepted : openedOf g (leng
     -- one request
     pub step : (r : Request) → Step m c done r
     unfolding answerOn wordsAfter answerBy addedAfter
-    step (start k w) = step-start k w
+    step (start k w seed) = step-start k w seed
     step (add k w p) = step-add k w p
     step (size k w o) = (ap aSize (size-same k w o), (held, size-m))
     step (chunk k w o q) = (ap aChunk (chunk-same k w o q), (held, size-m))
@@ -220,9 +220,9 @@ module _ (g : Geometry) (dump : List ℕ) (n : ℕ) (accepted : openedOf g (leng
       back-past : (w : ℕ) (d : List ℕ) → length d ≡ length (take w c) → word d i ≡ word (take w c) i → word (d ++ drop w c) i ≡ word c i
       back-past w d e h = word-swap d (take w c) (drop w c) i e h ∙ unchanged-past w
 
-      past-start : (k w : ℕ) → word (wordsAfter g dump c (start k w)) i ≡ word c i
+      past-start : (k w seed : ℕ) → word (wordsAfter g dump c (start k w seed)) i ≡ word c i
       unfolding wordsAfter startOf startIn
-      past-start k w =
+      past-start k w seed =
           by-block k _
           (λ r e. rw e (unchanged-past w))
           (λ e.
@@ -232,9 +232,9 @@ module _ (g : Geometry) (dump : List ℕ) (n : ℕ) (accepted : openedOf g (leng
           (λ t.
           let h : cellsFor n ≤ length (take w c) = ltb-false _ _ t in
           rw t
-          (back-past w (emptied n (take w c))
-          (simp (length-append, length-replicate, length-drop) (omega arith))
-          (start-past n obj age some (take w c) h i past)))))
+          (back-past w (emptied n seed (take w c))
+          (simp (length-set, length-append, length-replicate, length-drop) (omega arith))
+          (start-past n obj age some (take w c) seed h i past)))))
 
       past-add : (k w p : ℕ) → word (wordsAfter g dump c (add k w p)) i ≡ word c i
       unfolding wordsAfter addOf addIn
@@ -255,7 +255,7 @@ module _ (g : Geometry) (dump : List ℕ) (n : ℕ) (accepted : openedOf g (leng
 
       pub step-past : (r : Request) → word (wordsAfter g dump c r) i ≡ word c i
       unfolding wordsAfter
-      step-past (start k w) = past-start k w
+      step-past (start k w seed) = past-start k w seed
       step-past (add k w p) = past-add k w p
       step-past (size k w o) = refl
       step-past (chunk k w o q) = refl

@@ -75,7 +75,7 @@ module _ (g : Geometry) (dump : List ℕ) (room : ℕ) where
     -- one answer
     pub answer-undamaged : (r : Request) → Refuses IndexDamaged (answerBy g dump room done r) → ⊥
     unfolding answerBy
-    answer-undamaged (start k w) = unless (λ (a : Added). Refuses IndexDamaged (addition a) → ⊥) _ _ k w (λ r never. never) (λ n i. i)
+    answer-undamaged (start k w seed) = unless (λ (a : Added). Refuses IndexDamaged (addition a) → ⊥) _ _ k w (λ r never. never) (λ n i. i)
     answer-undamaged (add k w p) =
         unless (λ (a : Added). Refuses IndexDamaged (addition a) → ⊥) _ _ k w (λ r never. never) (λ n. added-undamaged p n)
     answer-undamaged (size k w o) =

@@ -88,10 +88,10 @@ module _ (g : Geometry) (dump c : List ℕ) (rs : List Request) where
       apart = λ o o′ p h h′ i j. held-apart n obj age _ _ held o h o′ p (on o p h i) (on o′ p h′ j);
     }
 
-module _ (g : Geometry) (dump : List ℕ) (w : ℕ) (c : List ℕ) where
+module _ (g : Geometry) (dump : List ℕ) (w seed : ℕ) (c : List ℕ) where
   -- an accepted start was of an accepted dump, and lent enough words
   accepted-start :
-      (A : Type 0) → startOf g dump (take w c) .answer ≡ Done →
+      (A : Type 0) → startOf g dump (take w c) seed .answer ≡ Done →
       (openedOf g (length dump) ≡ opened.Pages (pageCount g (length dump)) → cellsFor (pageCount g (length dump)) ≤ length (take w c) → A) → A
   unfolding startOf startIn
   accepted-start A = go (openedOf g (length dump)) refl
@@ -103,7 +103,7 @@ module _ (g : Geometry) (dump : List ℕ) (w : ℕ) (c : List ℕ) where
           → (openedOf g (length dump) ≡ opened.Pages (pageCount g (length dump)) → cellsFor (pageCount g (length dump)) ≤ length (take w c) → A) → A
       enough m e s h f = f (e ∙ ap opened.Pages s) (rw s at h)
 
-      go : (v : Opened) → openedOf g (length dump) ≡ v → startIn v (take w c) .answer ≡ Done
+      go : (v : Opened) → openedOf g (length dump) ≡ v → startIn v seed (take w c) .answer ≡ Done
           → (openedOf g (length dump) ≡ opened.Pages (pageCount g (length dump)) → cellsFor (pageCount g (length dump)) ≤ length (take w c) → A) → A
       go (opened.Refused r) e d f = never r d
       go (opened.Pages m) e d f =
@@ -124,12 +124,12 @@ module _ (g : Geometry) (dump : List ℕ) (n : ℕ) (e : openedOf g (length dump
 
 -- demand 3
 pub demand-3 : Demand
-demand-3 g dump w c d rs =
-    accepted-start g dump w c _ d
+demand-3 g dump w seed c d rs =
+    accepted-start g dump w seed c _ d
     (λ e h.
     let n = pageCount g (length dump) in
-    let s = start-kept g dump n e (take w c) h .1 in
-    let q = startOf g dump (take w c) .cells in
+    let s = start-kept g dump n e (take w c) seed h .1 in
+    let q = startOf g dump (take w c) seed .cells in
     let some : 0 < n = opened-some g (length dump) n e in
     let base : Held n (objects (recordAt g dump)) (ageOf (recordAt g dump)) noneAdded (q ++ drop w c) =
     held-lent n _ _ some q (q ++ drop w c) (λ i j. List·getD-append q (drop w c) 0 i (omega (arith, s .room))) noneAdded

@@ -2,15 +2,15 @@
 -- never IndexDamaged; and the cells it leaves hold that page too. A record that was added is in its object's chain, so that it is met there;
 -- one that was not has a place in it, for the chain has no damaged link. A slot is free for a new object, since no more slots are used
 -- than pages were added, and this page was not.
-use Prim.Native.Nat.{ℕ, suc, _+_, _-_, _≤_, _<_}
+use Prim.Native.Nat.{ℕ, suc, _+_, _-_, _*_, _≤_, _<_}
 use mathlib.Core.Bool.{Bool, true, false, not, _||_}
-use mathlib.Core.List.{List}
+use mathlib.Core.List.{List, _++_}
 use mathlib.Core.Logic.{⊎-elim}
 use mathlib.Core.Path.{_≡_, refl, sym, ap, _∙_, fun-ext}
 use native.Mathlib.Nat.{le-refl}
 use native.Mathlib.Decide.{ℕ-discrete}
 use native.Mathlib.Omega.{arith}
-use lib.ListN.{length, set, drop, replicate, getD-replicate, List·getD-append, length-replicate, length-append, length-drop}
+use lib.ListN.{length, set, drop, replicate, getD-replicate, List·getD-append, length-set, length-replicate, length-append, length-drop}
 use lib.Seq.{getD-drop, getD-set-other}
 use lib.Dec.{eqb}
 use borrow.Author.Tests.{eqb-true, ne-eqb}
@@ -18,8 +18,8 @@ use Rattle.page.specs.Search.{count}
 use Rattle.page.specs.declared.refusal.Refusal.the-variants.{AlreadyAdded}
 use Rattle.page.proofs.Searching.{clash, by-test}
 use Rattle.sort.proofs.Ascending.{In}
-use Rattle.index.specs.Cells.{cellsFor, word, linkAt, linkTo, marked, keyAt, firstAt, keys, isMarked, last, linked, claimed}
-use Rattle.index.specs.Slots.{slot, firstIn, first, used}
+use Rattle.index.specs.Cells.{cellsFor, slotsFor, word, linkAt, linkTo, marked, keyAt, firstAt, seedAt, keys, isMarked, last, linked, claimed}
+use Rattle.index.specs.Slots.{slotOf, firstIn, first, used}
 use Rattle.index.specs.Chains.{Trace, chain, trace, top}
 use Rattle.index.specs.Places.{placeOf}
 use Rattle.index.specs.Additions.{Outcome, outcome, refused, emptied, addTo}
@@ -30,7 +30,8 @@ use Rattle.index.specs.declared.places.Place.the-variants as place
 use Rattle.index.proofs.Chain.Links.{trace-end}
 use Rattle.index.proofs.Sorted.Records.{recs-in, recs-of, recs-none}
 use Rattle.index.proofs.Chain.Insertion.{spot, spot-form, place-spot, place-met, trace-falls}
-use Rattle.index.proofs.Slot.Counts.{count-miss, count-same, count-more}
+use Rattle.index.proofs.Slot.Counts.{count-miss, count-nothing, count-same, count-more}
+use Rattle.index.proofs.Slot.Words.{table-behind, key-inside, first-inside, slots-most}
 use Rattle.index.proofs.Slot.Search.{slot-lt, slot-serves, first-none}
 use Rattle.index.proofs.Held.Stores.{Sound, Owned, with-itself, with-other, out, link-key, link-sound, claim-own, claim-free, mark-key, mark-sound}
 use Rattle.index.proofs.Held.Slices.{word-past}
@@ -62,7 +63,7 @@ module _
     L = recs (seen obj added) age o n
 
     abbrev s : ℕ
-    s = slot n (keys c) o
+    s = slotOf n c o
 
     sound : Sound n obj age added c
     sound = record { room = g .room; marks = g .marks; chains = g .chains; homes = g .homes }
@@ -107,11 +108,11 @@ module _
       more = count-more added (with p added) p fresh (with-itself added p) (λ i ne. with-other added p i ne) n pn
 
       -- sound cells hold the pages if at most one slot more is used
-      held : (c′ : List ℕ) → Sound n obj age (with p added) c′ → count (used (keys c′)) n ≤ suc (count (used (keys c)) n) → Held n obj age (with p added) c′
+      held : (c′ : List ℕ) → Sound n obj age (with p added) c′ → count (used (keys c′)) (slotsFor n) ≤ suc (count (used (keys c)) (slotsFor n)) → Held n obj age (with p added) c′
       held c′ h k = record { room = h .room; marks = h .marks; chains = h .chains; homes = h .homes; spare = omega (arith, more, g .spare) }
 
-      keys-used : (c₁ c₂ : List ℕ) → ((j : ℕ) → keys c₂ j ≡ keys c₁ j) → count (used (keys c₂)) n ≡ count (used (keys c₁)) n
-      keys-used c₁ c₂ h = count-same (used (keys c₁)) (used (keys c₂)) n (λ i _. ap (λ (v : ℕ). not (eqb v 0)) (h i))
+      keys-used : (c₁ c₂ : List ℕ) → ((j : ℕ) → keys c₂ j ≡ keys c₁ j) → count (used (keys c₂)) (slotsFor n) ≡ count (used (keys c₁)) (slotsFor n)
+      keys-used c₁ c₂ h = count-same (used (keys c₁)) (used (keys c₂)) (slotsFor n) (λ i _. ap (λ (v : ℕ). not (eqb v 0)) (h i))
 
       -- the page is no record
       module _ (z : o ≡ 0) where
@@ -126,12 +127,12 @@ module _
       -- the page is a record
       module _ (pos : 0 < o) where
         -- its object's slot is its own or free
-        owned : Dec (keys c s ≡ o) → Owned n obj age added o s (count (used (keys c)) n) (claimed c s o)
-        owned (yes k) = claim-own n obj age added c sound o s pos (slot-lt (keys c) o n (omega arith)) refl k
+        owned : Dec (keys c s ≡ o) → Owned n obj age added o s (count (used (keys c)) (slotsFor n)) (claimed c s o)
+        owned (yes k) = claim-own n obj age added c sound o s pos (omega arith) (slot-lt n c o (omega arith)) refl k
         owned (no k) =
-            let few : count (used (keys c)) n < n = omega (arith, g .spare, count-miss added p n pn fresh) in
-            let free : keys c s ≡ 0 = eqb-true (keys c s) 0 (or-left _ _ (slot-serves (keys c) o n few) (ne-eqb (keys c s) o k)) in
-            claim-free n obj age added c sound o s pos (slot-lt (keys c) o n (omega arith)) refl free
+            let few : count (used (keys c)) (slotsFor n) < slotsFor n = omega (arith, g .spare, count-miss added p n pn fresh, slots-most n) in
+            let free : keys c s ≡ 0 = eqb-true (keys c s) 0 (or-left _ _ (slot-serves n c o few) (ne-eqb (keys c s) o k)) in
+            claim-free n obj age added c sound o s pos (omega arith) (slot-lt n c o (omega arith)) refl free
 
         abbrev c₁ : List ℕ
         c₁ = claimed c s o
@@ -173,13 +174,13 @@ module _
       claimed-past : word (claimed c s o) i ≡ word c i
       unfolding claimed
       claimed-past =
-          let sn : s < n = slot-lt (keys c) o n (omega arith) in
+          let sn : s < slotsFor n = slot-lt n c o (omega arith) in
           by-test (eqb (keys c s) o) _
           (λ t. rw t)
           (λ t.
           rw t
-          (getD-set-other (set c (keyAt s) o) (firstAt s) i 0 0 (λ e. absurd (omega arith))
-          ∙ getD-set-other c (keyAt s) i o 0 (λ e. absurd (omega arith))))
+          (getD-set-other (set c (keyAt s) o) (firstAt s) i 0 0 (λ e. absurd (omega (arith, first-inside n s sn)))
+          ∙ getD-set-other c (keyAt s) i o 0 (λ e. absurd (omega (arith, key-inside n s sn)))))
 
       linked-past : (at : ℕ) → at < cellsFor n → word (linked (claimed c s o) p at) i ≡ word c i
       unfolding linked
@@ -190,9 +191,9 @@ module _
 
       spot-inside : spot age p L (firstAt s) < cellsFor n
       spot-inside =
-          let sn : s < n = slot-lt (keys c) o n (omega arith) in
+          let sn : s < slotsFor n = slot-lt n c o (omega arith) in
           ⊎-elim
-          (λ (e : spot age p L (firstAt s) ≡ firstAt s). omega arith)
+          (λ (e : spot age p L (firstAt s) ≡ firstAt s). omega (arith, first-inside n s sn))
           (λ (w : (x : ℕ) × In x L × (spot age p L (firstAt s) ≡ linkAt x)). omega (arith, recs-of (seen obj added) age o n (w .0) (w .1) .0, w .2))
           (spot-form age p L (firstAt s))
 
@@ -204,29 +205,45 @@ module _
           go false e (yes z) = rw (mark-answer e z) (getD-set-other c (linkAt p) i last 0 (λ q. absurd (omega arith)))
           go false e (no z) = let pos : 0 < o = omega arith in rw (link-answer e pos) (linked-past (spot age p L (firstAt s)) spot-inside)
 
--- a start makes the index hold no page
-module _ (n : ℕ) (obj age : ℕ → ℕ) (pos : 0 < n) (c : List ℕ) (room : cellsFor n ≤ length c) where
-  zero-at : (i : ℕ) → i < cellsFor n → word (emptied n c) i ≡ 0
-  zero-at i h =
-      List·getD-append (replicate (cellsFor n) 0) (drop (cellsFor n) c) 0 i (rw length-replicate h) ∙ getD-replicate (cellsFor n) i 0 0 h
+-- a start makes the index hold no page, whatever its seed
+module _ (n : ℕ) (obj age : ℕ → ℕ) (pos : 0 < n) (c : List ℕ) (seed : ℕ) (room : cellsFor n ≤ length c) where
+  -- the words without a seed
+  abbrev zeros : List ℕ
+  zeros = replicate (cellsFor n) 0 ++ drop (cellsFor n) c
+
+  abbrev E : List ℕ
+  E = emptied n seed c
+
+  zero-at : (i : ℕ) → seedAt < i → i < cellsFor n → word E i ≡ 0
+  zero-at i l h =
+      getD-set-other zeros seedAt i seed 0 (λ e. absurd (omega arith))
+      ∙ List·getD-append (replicate (cellsFor n) 0) (drop (cellsFor n) c) 0 i (rw length-replicate h)
+      ∙ getD-replicate (cellsFor n) i 0 0 h
+
+  free-key : (s : ℕ) → s < slotsFor n → keys E s ≡ 0
+  free-key s h = zero-at (keyAt s) (omega (arith, table-behind (2 * s))) (key-inside n s h)
 
   -- and stores to no word past it
-  pub start-past : (i : ℕ) → cellsFor n ≤ i → word (emptied n c) i ≡ word c i
+  pub start-past : (i : ℕ) → cellsFor n ≤ i → word E i ≡ word c i
   start-past i h =
       let e : cellsFor n + (i - cellsFor n) ≡ i = omega arith in
-      word-past (replicate (cellsFor n) 0) (drop (cellsFor n) c) i (rw length-replicate h) ∙ rw (length-replicate, getD-drop, e)
+      getD-set-other zeros seedAt i seed 0 (λ q. absurd (omega arith))
+      ∙ word-past (replicate (cellsFor n) 0) (drop (cellsFor n) c) i (rw length-replicate h)
+      ∙ rw (length-replicate, getD-drop, e)
 
-  pub start-holds : Held n obj age noneAdded (emptied n c)
+  pub start-holds : Held n obj age noneAdded E
   unfolding chain fromList
   start-holds = record {
-    room = simp (length-append, length-replicate, length-drop) (omega arith);
-    marks = λ p pn. ap (λ (v : ℕ). not (eqb v 0)) (zero-at (linkAt p) (omega arith));
+    room = simp (length-set, length-append, length-replicate, length-drop) (omega arith);
+    marks = λ p pn. ap (λ (v : ℕ). not (eqb v 0)) (zero-at (linkAt p) (omega arith) (omega arith));
     chains = λ o po.
-        let s = slot-lt (keys (emptied n c)) o n pos in
-        let k : keys (emptied n c) (slot n (keys (emptied n c)) o) ≡ 0 = zero-at _ (omega (arith, s)) in
-        ap (trace n obj age (emptied n c) o top) (first-none n (emptied n c) o _ refl (λ e. absurd (omega arith)))
-        ∙ trace-end n obj age o (emptied n c) top 0 (omega arith)
+        let k : keys E (slotOf n E o) ≡ 0 = free-key _ (slot-lt n E o pos) in
+        ap (trace n obj age E o top) (first-none n E o _ refl (λ e. absurd (omega arith)))
+        ∙ trace-end n obj age o E top 0 (omega arith)
         ∙ ap fromList (sym (recs-none (seen obj noneAdded) age o n (λ x e. absurd (omega arith))));
-    homes = λ j jn k. absurd (k (zero-at (keyAt j) (omega arith)));
-    spare = rw (count-same noneAdded (used (keys (emptied n c))) n (λ i l. ap (λ (v : ℕ). not (eqb v 0)) (zero-at (keyAt i) (omega arith)))) (le-refl _);
+    homes = λ j jn k. absurd (k (free-key j jn));
+    spare = rw (
+      count-nothing (used (keys E)) (slotsFor n) (λ i l. ap (λ (v : ℕ). not (eqb v 0)) (free-key i l)),
+      count-nothing noneAdded n (λ i l. refl),
+    ) (le-refl _);
   }

@@ -20,8 +20,8 @@ use Rattle.page.proofs.Lengths.{opened-some}
 use Rattle.page.proofs.Searching.{clash}
 use Rattle.chunk.specs.Records.{ageOf}
 use Rattle.sort.proofs.Ascending.{In}
-use Rattle.index.specs.Cells.{cellsFor, firstAt, keys, isMarked}
-use Rattle.index.specs.Slots.{slot}
+use Rattle.index.specs.Cells.{cellsFor, firstAt, isMarked}
+use Rattle.index.specs.Slots.{slotOf}
 use Rattle.index.specs.Chains.{objects, top, chain}
 use Rattle.index.specs.Places.{placeOf}
 use Rattle.index.specs.Additions.{Outcome, startIn, startOf, addOther, addAt, addRecord, addTo, addIn, addOf}
@@ -79,10 +79,10 @@ module _ (c : List ℕ) where
   stored : (d : List ℕ) → Unchanged (record { answer = Done; cells = d })
   stored d r e = clash (cc)
 
-  start-in-refused : (x : Opened) → Unchanged (startIn x c)
+  start-in-refused : (seed : ℕ) (x : Opened) → Unchanged (startIn x seed c)
   unfolding startIn
-  start-in-refused (opened.Refused s) = λ r e. refl
-  start-in-refused (opened.Pages n) = either (ltb (length c) (cellsFor n)) _ _ (λ r e. refl) (stored _)
+  start-in-refused seed (opened.Refused s) = λ r e. refl
+  start-in-refused seed (opened.Pages n) = either (ltb (length c) (cellsFor n)) _ _ (λ r e. refl) (stored _)
 
   module _ (p : ℕ) where
     at-refused : (o s : ℕ) (x : Place) → Unchanged (addAt c p o s x)
@@ -96,12 +96,12 @@ module _ (c : List ℕ) where
         either (ltb (length c) (cellsFor n)) _ _ (λ r e. refl)
         (either (leb n p) _ _ (λ r e. refl)
         (either (eqb (obj p) 0) _ _ (either (isMarked c p) _ _ (λ r e. refl) (stored _))
-        (at-refused (obj p) (slot n (keys c) (obj p)) (placeOf age p (chain n obj age c (obj p)) (firstAt (slot n (keys c) (obj p)))))))
+        (at-refused (obj p) (slotOf n c (obj p)) (placeOf age p (chain n obj age c (obj p)) (firstAt (slotOf n c (obj p)))))))
 
   module _ (g : Geometry) (dump : List ℕ) where
-    pub start-refused : (r : Refusal) → startOf g dump c .answer ≡ Refused r → startOf g dump c .cells ≡ c
+    pub start-refused : (seed : ℕ) (r : Refusal) → startOf g dump c seed .answer ≡ Refused r → startOf g dump c seed .cells ≡ c
     unfolding startOf
-    start-refused = start-in-refused (openedOf g (length dump))
+    start-refused seed = start-in-refused seed (openedOf g (length dump))
 
     pub add-refused : (p : ℕ) (r : Refusal) → addOf g dump c p .answer ≡ Refused r → addOf g dump c p .cells ≡ c
     unfolding addOf addIn
@@ -129,11 +129,11 @@ module _ (g : Geometry) (dump : List ℕ) (n : ℕ) (e : openedOf g (length dump
 
   -- a start that is lent enough words makes the index hold no page
   pub start-kept :
-      (c : List ℕ) →
+      (c : List ℕ) (seed : ℕ) →
       cellsFor n ≤ length c →
-      (startOf g dump c .answer ≡ Done) × Holds noneAdded (startOf g dump c .cells)
+      (startOf g dump c seed .answer ≡ Done) × Holds noneAdded (startOf g dump c seed .cells)
   unfolding startOf
-  start-kept c h = rw (e, start-done n c h) (refl, start-holds n obj age pos c h)
+  start-kept c seed h = rw (e, start-done n c seed h) (refl, start-holds n obj age pos c seed h)
 
   -- an addition is Done the first time and AlreadyAdded afterwards, and the cells hold the page then
   pub add-kept :
@@ -160,10 +160,10 @@ module _ (g : Geometry) (dump : List ℕ) (n : ℕ) (e : openedOf g (length dump
       (r .0, held-whole n obj age pos (with p added) c len enough short (addOf g dump (take len c) p .cells) (r .1))
 
   pub start-lent :
-      (c : List ℕ) (len : ℕ) →
+      (c : List ℕ) (seed len : ℕ) →
       cellsFor n ≤ len →
       len ≤ length c →
-      (startOf g dump (take len c) .answer ≡ Done) × Holds noneAdded (startOf g dump (take len c) .cells ++ drop len c)
-  start-lent c len enough short =
-      let r = start-kept (take len c) (rw (length-take-le len c short) enough) in
-      (r .0, held-whole n obj age pos noneAdded c len enough short (startOf g dump (take len c) .cells) (r .1))
+      (startOf g dump (take len c) seed .answer ≡ Done) × Holds noneAdded (startOf g dump (take len c) seed .cells ++ drop len c)
+  start-lent c seed len enough short =
+      let r = start-kept (take len c) seed (rw (length-take-le len c short) enough) in
+      (r .0, held-whole n obj age pos noneAdded c len enough short (startOf g dump (take len c) seed .cells) (r .1))

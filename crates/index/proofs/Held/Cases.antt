@@ -8,8 +8,8 @@ use borrow.Author.Tests.{lt-ltb, le-ltb, le-leb, lt-leb, eq-eqb, ne-eqb}
 use Rattle.page.specs.declared.refusal.Refusal.{Refusal}
 use Rattle.page.specs.declared.refusal.Refusal.the-variants.{ShortIndex, BadPage, AlreadyAdded}
 use Rattle.page.specs.declared.geometry.Opened.the-variants.{Pages}
-use Rattle.index.specs.Cells.{cellsFor, linkAt, firstAt, keys, isMarked, last, linked, claimed}
-use Rattle.index.specs.Slots.{slot, firstIn, first}
+use Rattle.index.specs.Cells.{cellsFor, linkAt, firstAt, isMarked, last, linked, claimed}
+use Rattle.index.specs.Slots.{slotOf, firstIn, first}
 use Rattle.index.specs.Chains.{top, trace, chain}
 use Rattle.index.specs.Places.{placeOf}
 use Rattle.index.specs.Additions.{outcome, refused, emptied, startIn, addOther, addAt, addRecord, addTo}
@@ -18,12 +18,12 @@ use Rattle.index.specs.declared.places.Place.{Place}
 use Rattle.index.specs.declared.places.Place.the-variants.{At}
 use Rattle.index.specs.declared.places.Place.the-variants as place
 
-module _ (n : ℕ) (c : List ℕ) where
-  pub start-short : length c < cellsFor n → startIn (Pages n) c ≡ refused ShortIndex c
+module _ (n : ℕ) (c : List ℕ) (seed : ℕ) where
+  pub start-short : length c < cellsFor n → startIn (Pages n) seed c ≡ refused ShortIndex c
   unfolding startIn
   start-short h = simp (lt-ltb (length c) (cellsFor n) h)
 
-  pub start-done : cellsFor n ≤ length c → startIn (Pages n) c ≡ outcome Done (emptied n c)
+  pub start-done : cellsFor n ≤ length c → startIn (Pages n) seed c ≡ outcome Done (emptied n seed c)
   unfolding startIn
   start-done h = simp (le-ltb (length c) (cellsFor n) h)
 
@@ -70,7 +70,7 @@ module _ (n : ℕ) (obj age : ℕ → ℕ) (c : List ℕ) (p : ℕ) where
   -- a record goes by its place in its object's chain
   pub record-at :
       (s o : ℕ) (r : Place) →
-      s ≡ slot n (keys c) o →
+      s ≡ slotOf n c o →
       o ≡ obj p →
       r ≡ placeOf age p (trace n obj age c o top (firstIn c s o)) (firstAt s) →
       addAt c p o s r ≡ addRecord n obj age c p

@@ -10,12 +10,13 @@ use lib.Seq.{getD-take, getD-append-add, length-take-le}
 use lib.Dec.{eqb, ltb}
 use borrow.Author.Tests.{ltb-true, ltb-false}
 use Rattle.page.proofs.Searching.{by-test}
-use Rattle.index.specs.Cells.{cellsFor, word, linkAt, keyAt, firstAt, keys}
-use Rattle.index.specs.Slots.{serves, slot, firstIn, first, used}
+use Rattle.index.specs.Cells.{cellsFor, slotsFor, word, linkAt, keyAt, firstAt, seedAt, keys}
+use Rattle.index.specs.Slots.{serves, slotOf, firstIn, first, used}
 use Rattle.index.specs.Chains.{trace, chain, top}
 use Rattle.index.specs.Held.{Held}
 use Rattle.index.proofs.Chain.Links.{frame}
 use Rattle.index.proofs.Slot.Counts.{count-same}
+use Rattle.index.proofs.Slot.Words.{key-inside, first-inside}
 use Rattle.index.proofs.Slot.Search.{slot-lt, slot-same}
 
 -- a word behind the first of two lists
@@ -39,14 +40,14 @@ module _
     (n : ℕ) (obj age : ℕ → ℕ) (pos : 0 < n) (c c′ : List ℕ)
     (same : (i : ℕ) → i < cellsFor n → word c′ i ≡ word c i)
   where
-    slot-lent : (o : ℕ) → slot n (keys c′) o ≡ slot n (keys c) o
-    slot-lent o = slot-same (keys c) (keys c′) o n pos (λ j jn. ap (serves o) (same (keyAt j) (omega arith)))
+    slot-lent : (o : ℕ) → slotOf n c′ o ≡ slotOf n c o
+    slot-lent o = slot-same n c c′ (same seedAt (omega arith)) o pos (λ j jn. ap (serves o) (same (keyAt j) (key-inside n j jn)))
 
     first-lent : (o : ℕ) → first n c′ o ≡ first n c o
     unfolding first firstIn
     first-lent o =
-        let s = slot-lt (keys c) o n pos in
-        rw (slot-lent o, same (keyAt (slot n (keys c) o)) (omega arith), same (firstAt (slot n (keys c) o)) (omega arith)) refl
+        let s = slot-lt n c o pos in
+        rw (slot-lent o, same (keyAt (slotOf n c o)) (key-inside n _ s), same (firstAt (slotOf n c o)) (first-inside n _ s)) refl
 
     -- the chains of cells with the same first words are the same
     pub chain-lent : (o : ℕ) → chain n obj age c′ o ≡ chain n obj age c o
@@ -62,9 +63,9 @@ module _
       marks = λ p pn. ap (λ (v : ℕ). not (eqb v 0)) (same (linkAt p) (omega arith)) ∙ g .marks p pn;
       chains = λ o po. chain-lent o ∙ g .chains o po;
       homes = λ j jn k.
-          let e : keys c′ j ≡ keys c j = same (keyAt j) (omega arith) in
+          let e : keys c′ j ≡ keys c j = same (keyAt j) (key-inside n j jn) in
           slot-lent (keys c′ j) ∙ rw e (g .homes j jn (λ z. k (e ∙ z)));
-      spare = rw (count-same (used (keys c)) (used (keys c′)) n (λ i l. ap (λ (v : ℕ). not (eqb v 0)) (same (keyAt i) (omega arith)))) (g .spare);
+      spare = rw (count-same (used (keys c)) (used (keys c′)) (slotsFor n) (λ i l. ap (λ (v : ℕ). not (eqb v 0)) (same (keyAt i) (key-inside n i l)))) (g .spare);
     }
 
 -- the first `len` words are lent

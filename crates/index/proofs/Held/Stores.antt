@@ -2,7 +2,7 @@
 -- with the page inserted; the links it changes are the page's own and one of its object's, so every other chain stays. A free slot that
 -- becomes an object's hides no other, and the object had no record. A page that is no record changes its own link alone, which no chain
 -- reads.
-use Prim.Native.Nat.{ℕ, suc, _≤_, _<_}
+use Prim.Native.Nat.{ℕ, suc, _+_, _*_, _≤_, _<_}
 use mathlib.Core.Bool.{Bool, true, false, not}
 use mathlib.Core.List.{List}
 use mathlib.Core.Logic.{_≢_, _⊎_, inl, inr, ⊎-elim}
@@ -17,14 +17,15 @@ use borrow.Author.Tests.{ltb-false, eq-eqb, ne-eqb}
 use Rattle.page.specs.Choice.{pick}
 use Rattle.page.specs.Search.{count}
 use Rattle.sort.proofs.Ascending.{In}
-use Rattle.index.specs.Cells.{cellsFor, word, linkAt, keyAt, firstAt, keys, isMarked, last, linkTo, marked, linked, claimed}
-use Rattle.index.specs.Slots.{serves, slot, firstIn, first, used}
+use Rattle.index.specs.Cells.{shared, cellsFor, slotsFor, word, linkAt, keyAt, firstAt, seedAt, seedOf, keys, isMarked, last, linkTo, marked, linked, claimed}
+use Rattle.index.specs.Slots.{serves, slotOf, firstIn, first, used}
 use Rattle.index.specs.Chains.{trace, chain, top}
 use Rattle.index.specs.Held.{seen, with, recs, fromList}
 use Rattle.index.proofs.Chain.Links.{trace-end, frame}
 use Rattle.index.proofs.Sorted.Records.{recs-of, recs-same, recs-add}
 use Rattle.index.proofs.Chain.Insertion.{spot, spot-form, word-at, word-own, word-other, insert-trace}
 use Rattle.index.proofs.Slot.Counts.{count-more}
+use Rattle.index.proofs.Slot.Words.{table-seed, table-link, key-same, first-same, key-first, key-inside, first-inside}
 use Rattle.index.proofs.Slot.Search.{slot-lt, slot-same, slot-fill, first-own, first-none}
 
 -- what the cells hold, but for how many slots are used
@@ -32,7 +33,7 @@ pub record Sound (n : ℕ) (obj age : ℕ → ℕ) (added : ℕ → Bool) (c : L
   pub room : cellsFor n ≤ length c
   pub marks : (p : ℕ) → p < n → isMarked c p ≡ added p
   pub chains : (o : ℕ) → 0 < o → chain n obj age c o ≡ fromList (recs (seen obj added) age o n)
-  pub homes : (s : ℕ) → s < n → (keys c s ≡ 0 → ⊥) → slot n (keys c) (keys c s) ≡ s
+  pub homes : (s : ℕ) → s < slotsFor n → (keys c s ≡ 0 → ⊥) → slotOf n c (keys c s) ≡ s
 
 -- an added page's link is not 0
 marked-some : (w : ℕ) → 0 < marked w
@@ -116,9 +117,9 @@ module _
         let s = seen-of obj added o x pos (r .1) in
         record { inside = r .0; own = s .0; there = s .1; other = λ e. out (rw e at i) }
 
-    module _ (c : List ℕ) (g : Sound n obj age added c) (s : ℕ) (at : slot n (keys c) o ≡ s) (own : keys c s ≡ o) where
-      sn : s < n
-      sn = rw (← at) (slot-lt (keys c) o n (omega arith))
+    module _ (c : List ℕ) (g : Sound n obj age added c) (s : ℕ) (at : slotOf n c o ≡ s) (own : keys c s ≡ o) where
+      sn : s < slotsFor n
+      sn = rw (← at) (slot-lt n c o (omega arith))
 
       abbrev l : ℕ
       l = spot age p L (firstAt s)
@@ -135,7 +136,7 @@ module _
       form = ⊎-elim (λ e. inl e) (λ (w : (x : ℕ) × In x L × (l ≡ linkAt x)). inr (w .0, older (w .0) (w .1), w .2)) (spot-form age p L (firstAt s))
 
       lc : l < length c
-      lc = ⊎-elim (λ (e : l ≡ firstAt s). omega (arith, g .room, sn)) (λ (w : (x : ℕ) × Older x × (l ≡ linkAt x)). omega (arith, g .room, w .1 .inside, w .2)) form
+      lc = ⊎-elim (λ (e : l ≡ firstAt s). omega (arith, g .room, first-inside n s sn)) (λ (w : (x : ℕ) × Older x × (l ≡ linkAt x)). omega (arith, g .room, w .1 .inside, w .2)) form
 
       -- no other word is where it goes
       off : (i : ℕ) → i ≢ firstAt s → ((x : ℕ) → Older x → i ≢ linkAt x) → i ≢ l
@@ -146,7 +147,7 @@ module _
           form
 
       apart : l ≢ linkAt p
-      apart e = off (linkAt p) (λ f. absurd (omega arith)) (λ x h f. h .other (omega arith)) (sym e)
+      apart e = off (linkAt p) (λ f. table-link _ p (sym f)) (λ x h f. h .other (omega arith)) (sym e)
 
       pc : linkAt p < length c
       pc = omega (arith, g .room)
@@ -155,16 +156,20 @@ module _
       kept i a b d = word-other c p l lc pc apart i (off i a d) b
 
       pub link-key : (j : ℕ) → keys C j ≡ keys c j
-      link-key j = kept (keyAt j) (λ e. absurd (omega arith)) (λ e. absurd (omega arith)) (λ x _ e. absurd (omega arith))
+      link-key j = kept (keyAt j) (key-first j s) (table-link _ p) (λ x _. table-link _ x)
 
-      link-slot : (o′ : ℕ) → slot n (keys C) o′ ≡ slot n (keys c) o′
-      link-slot o′ = slot-same (keys c) (keys C) o′ n (omega arith) (λ j _. ap (serves o′) (link-key j))
+      -- a word of the whole index
+      link-seed : seedOf C ≡ seedOf c
+      link-seed = kept seedAt (table-seed (2 * s + 1)) (λ e. absurd (omega arith)) (λ x _ e. absurd (omega arith))
+
+      link-slot : (o′ : ℕ) → slotOf n C o′ ≡ slotOf n c o′
+      link-slot o′ = slot-same n c C link-seed o′ (omega arith) (λ j _. ap (serves o′) (link-key j))
 
       link-own : chain n obj age C o ≡ fromList (recs (seen obj (with p added)) age o n)
       unfolding chain
       link-own =
           ap (trace n obj age C o top) (first-own n C o s (link-slot o ∙ at) (link-key s ∙ own))
-          ∙ insert-trace n obj age inj c (g .room) p pn pos l lc apart L top (firstAt s) from out (old p pn) (λ x _ e. absurd (omega arith)) refl
+          ∙ insert-trace n obj age inj c (g .room) p pn pos l lc apart L top (firstAt s) from out (old p pn) (λ x _. table-link _ x) refl
           ∙ ap fromList
           (sym (recs-add (seen obj added) (seen obj (with p added)) age o p unseen (simp (with-itself added p))
           (λ x ne. simp (with-other added p x ne)) n (λ x xn ne e. ne (inj x p xn pn e)) n (le-refl n) pn))
@@ -172,18 +177,17 @@ module _
       link-other : (o′ : ℕ) → 0 < o′ → o′ ≢ o → chain n obj age C o′ ≡ fromList (recs (seen obj (with p added)) age o′ n)
       unfolding chain
       link-other o′ pos′ ne =
-          ap (trace n obj age C o′ top) (begin (ℕ-discrete (keys c (slot n (keys c) o′)) o′))
+          ap (trace n obj age C o′ top) (begin (ℕ-discrete (keys c (slotOf n c o′)) o′))
           ∙ frame n obj age o′ C c top (first n c o′)
-          (λ x _ xo _. kept (linkAt x) (λ e. absurd (omega arith)) (λ e. let q : x ≡ p = omega arith in ne (sym xo ∙ ap obj q))
+          (λ x _ xo _. kept (linkAt x) (λ e. table-link _ x (sym e)) (λ e. let q : x ≡ p = omega arith in ne (sym xo ∙ ap obj q))
           (λ y h e. let q : x ≡ y = omega arith in ne (sym xo ∙ ap obj q ∙ h .own)))
           ∙ g .chains o′ pos′
           ∙ ap fromList (recs-same (seen obj added) age o′ (seen obj (with p added)) n (λ x _. seen-same obj added p o′ pos′ ne fresh x))
         where
-          begin : Dec (keys c (slot n (keys c) o′) ≡ o′) → first n C o′ ≡ first n c o′
+          begin : Dec (keys c (slotOf n c o′) ≡ o′) → first n C o′ ≡ first n c o′
           begin (yes k) =
               first-own n C o′ _ (link-slot o′) (link-key _ ∙ k)
-              ∙ kept (firstAt (slot n (keys c) o′)) (λ e. let q : slot n (keys c) o′ ≡ s = omega arith in ne (sym k ∙ ap (keys c) q ∙ own))
-              (λ e. absurd (omega arith)) (λ x _ e. absurd (omega arith))
+              ∙ kept (firstAt (slotOf n c o′)) (λ e. ne (sym k ∙ ap (keys c) (first-same _ s e) ∙ own)) (table-link _ p) (λ x _. table-link _ x)
               ∙ sym (first-own n c o′ _ refl k)
           begin (no k) = first-none n C o′ _ (link-slot o′) (λ e. k (sym (link-key _) ∙ e)) ∙ sym (first-none n c o′ _ refl k)
 
@@ -199,7 +203,7 @@ module _
           go (no q) (yes d) =
               let m : added x ≡ true =
               ⊎-elim
-              (λ (e : l ≡ firstAt s). absurd (omega arith))
+              (λ (e : l ≡ firstAt s). absurd (table-link _ x (sym e ∙ sym d)))
               (λ (w : (x : ℕ) × Older x × (l ≡ linkAt x)). let k : x ≡ w .0 = omega (arith, w .2) in ap added k ∙ w .1 .there)
               form in
               ap (λ (i : ℕ). not (eqb (word C i) 0)) d
@@ -228,20 +232,21 @@ module _
 -- slot s is object o's in cells that are sound, and at most one slot more is used than before
 pub record Owned (n : ℕ) (obj age : ℕ → ℕ) (added : ℕ → Bool) (o s used-before : ℕ) (c : List ℕ) : Type 0 where
   pub sound : Sound n obj age added c
-  pub at : slot n (keys c) o ≡ s
+  pub at : slotOf n c o ≡ s
   pub own : keys c s ≡ o
-  pub few : count (used (keys c)) n ≤ suc used-before
+  pub few : count (used (keys c)) (slotsFor n) ≤ suc used-before
 
 module _
     (n : ℕ) (obj age : ℕ → ℕ) (added : ℕ → Bool) (c : List ℕ)
     (g : Sound n obj age added c)
     (o s : ℕ)
     (pos : 0 < o)
-    (sn : s < n)
-    (at : slot n (keys c) o ≡ s)
+    (pages : 0 < n)
+    (sn : s < slotsFor n)
+    (at : slotOf n c o ≡ s)
   where
     -- its own slot stays as it is
-    pub claim-own : keys c s ≡ o → Owned n obj age added o s (count (used (keys c)) n) (claimed c s o)
+    pub claim-own : keys c s ≡ o → Owned n obj age added o s (count (used (keys c)) (slotsFor n)) (claimed c s o)
     unfolding claimed
     claim-own k =
         rw (eq-eqb (keys c s) o k) (record { sound = g; at = at; own = k; few = omega arith })
@@ -253,20 +258,23 @@ module _
 
       d-key : keys D s ≡ o
       d-key =
-          getD-set-other (set c (keyAt s) o) (firstAt s) (keyAt s) 0 0 (λ e. absurd (omega arith))
-          ∙ getD-set-same c (keyAt s) o 0 (omega (arith, g .room))
+          getD-set-other (set c (keyAt s) o) (firstAt s) (keyAt s) 0 0 (key-first s s)
+          ∙ getD-set-same c (keyAt s) o 0 (omega (arith, g .room, key-inside n s sn))
 
       d-first : word D (firstAt s) ≡ 0
-      d-first = getD-set-same (set c (keyAt s) o) (firstAt s) 0 0 (rw length-set (omega (arith, g .room)))
+      d-first = getD-set-same (set c (keyAt s) o) (firstAt s) 0 0 (rw length-set (omega (arith, g .room, first-inside n s sn)))
 
       d-kept : (i : ℕ) → i ≢ keyAt s → i ≢ firstAt s → word D i ≡ word c i
       d-kept i a b = getD-set-other (set c (keyAt s) o) (firstAt s) i 0 0 b ∙ getD-set-other c (keyAt s) i o 0 a
 
       d-keys : (j : ℕ) → j ≢ s → keys D j ≡ keys c j
-      d-keys j ne = d-kept (keyAt j) (λ e. ne (omega arith)) (λ e. absurd (omega arith))
+      d-keys j ne = d-kept (keyAt j) (λ e. ne (key-same j s e)) (key-first j s)
 
-      d-slot : slot n (keys D) o ≡ s
-      d-slot = slot-same (keys c) (keys D) o n (omega arith) (λ j _. go j (ℕ-discrete j s)) ∙ at
+      d-seed : seedOf D ≡ seedOf c
+      d-seed = d-kept seedAt (table-seed (2 * s)) (table-seed (2 * s + 1))
+
+      d-slot : slotOf n D o ≡ s
+      d-slot = slot-same n c D d-seed o pages (λ j _. go j (ℕ-discrete j s)) ∙ at
         where
           go : (j : ℕ) → Dec (j ≡ s) → serves o (keys D j) ≡ serves o (keys c j)
           go j (yes q) =
@@ -277,30 +285,30 @@ module _
 
       -- every other object's slot and first record stay
       d-start : (o′ : ℕ) → 0 < o′ → o′ ≢ o → first n D o′ ≡ first n c o′
-      d-start o′ pos′ ne = go (ℕ-discrete (keys c (slot n (keys c) o′)) o′)
+      d-start o′ pos′ ne = go (ℕ-discrete (keys c (slotOf n c o′)) o′)
         where
-          stays : (j : ℕ) → slot n (keys c) o′ ≡ j → keys c j ≡ o′ → (slot n (keys D) o′ ≡ j) × (j ≢ s)
+          stays : (j : ℕ) → slotOf n c o′ ≡ j → keys c j ≡ o′ → (slotOf n D o′ ≡ j) × (j ≢ s)
           stays j e k =
               let js : j ≢ s = λ q. absurd (omega (arith, sym k ∙ ap (keys c) q ∙ free)) in
-              (slot-fill (keys c) (keys D) o′ s free d-keys n (λ z. absurd (omega (arith, sym z ∙ ap (keys c) e ∙ k))) ∙ e, js)
+              (slot-fill n c D d-seed o′ s free d-keys (λ z. absurd (omega (arith, sym z ∙ ap (keys c) e ∙ k))) ∙ e, js)
 
-          go : Dec (keys c (slot n (keys c) o′) ≡ o′) → first n D o′ ≡ first n c o′
+          go : Dec (keys c (slotOf n c o′) ≡ o′) → first n D o′ ≡ first n c o′
           go (yes k) =
               let r = stays _ refl k in
               first-own n D o′ _ (r .0) (d-keys _ (r .1) ∙ k)
-              ∙ d-kept (firstAt (slot n (keys c) o′)) (λ e. absurd (omega arith)) (λ e. r .1 (omega arith))
+              ∙ d-kept (firstAt (slotOf n c o′)) (λ e. key-first s _ (sym e)) (λ e. r .1 (first-same _ s e))
               ∙ sym (first-own n c o′ _ refl k)
           go (no k) =
-              first-none n D o′ _ refl (λ e. k (found _ refl e (ℕ-discrete (slot n (keys D) o′) s)))
+              first-none n D o′ _ refl (λ e. k (found _ refl e (ℕ-discrete (slotOf n D o′) s)))
               ∙ sym (first-none n c o′ _ refl k)
             where
-              found : (j : ℕ) → slot n (keys D) o′ ≡ j → keys D j ≡ o′ → Dec (j ≡ s) → keys c (slot n (keys c) o′) ≡ o′
+              found : (j : ℕ) → slotOf n D o′ ≡ j → keys D j ≡ o′ → Dec (j ≡ s) → keys c (slotOf n c o′) ≡ o′
               found j e f (yes q) = absurd (ne (sym f ∙ ap (keys D) q ∙ d-key))
               found j e f (no q) =
                   let kj : keys c j ≡ o′ = sym (d-keys j q) ∙ f in
-                  let h : slot n (keys c) (keys c j) ≡ j =
-                  g .homes j (rw (← e) (slot-lt (keys D) o′ n (omega arith))) (λ z. absurd (omega arith)) in
-                  ap (keys c) (ap (slot n (keys c)) (sym kj) ∙ h) ∙ kj
+                  let h : slotOf n c (keys c j) ≡ j =
+                  g .homes j (rw (← e) (slot-lt n D o′ pages)) (λ z. absurd (omega arith)) in
+                  ap (keys c) (ap (slotOf n c) (sym kj) ∙ h) ∙ kj
 
       d-chain : (o′ : ℕ) → 0 < o′ → Dec (o′ ≡ o) → chain n obj age D o′ ≡ chain n obj age c o′
       unfolding chain
@@ -311,33 +319,33 @@ module _
           ∙ sym (ap (trace n obj age c o top) (first-none n c o s at (λ e. absurd (omega arith))) ∙ trace-end n obj age o c top 0 (omega arith)))
       d-chain o′ pos′ (no q) =
           ap (trace n obj age D o′ top) (d-start o′ pos′ q)
-          ∙ frame n obj age o′ D c top (first n c o′) (λ x _ _ _. d-kept (linkAt x) (λ e. absurd (omega arith)) (λ e. absurd (omega arith)))
+          ∙ frame n obj age o′ D c top (first n c o′) (λ x _ _ _. d-kept (linkAt x) (λ e. table-link _ x (sym e)) (λ e. table-link _ x (sym e)))
 
-      d-homes : (j : ℕ) → j < n → (keys D j ≡ 0 → ⊥) → Dec (j ≡ s) → slot n (keys D) (keys D j) ≡ j
-      d-homes j jn k (yes q) = ap (slot n (keys D)) (ap (keys D) q ∙ d-key) ∙ d-slot ∙ sym q
+      d-homes : (j : ℕ) → j < slotsFor n → (keys D j ≡ 0 → ⊥) → Dec (j ≡ s) → slotOf n D (keys D j) ≡ j
+      d-homes j jn k (yes q) = ap (slotOf n D) (ap (keys D) q ∙ d-key) ∙ d-slot ∙ sym q
       d-homes j jn k (no q) =
           let kc : keys c j ≡ 0 → ⊥ = λ z. k (d-keys j q ∙ z) in
           let h = g .homes j jn kc in
-          ap (slot n (keys D)) (d-keys j q)
-          ∙ slot-fill (keys c) (keys D) (keys c j) s free d-keys n (λ z. kc (ap (keys c) (sym h) ∙ z))
+          ap (slotOf n D) (d-keys j q)
+          ∙ slot-fill n c D d-seed (keys c j) s free d-keys (λ z. kc (ap (keys c) (sym h) ∙ z))
           ∙ h
 
       d-length : length D ≡ length c
       d-length = simp length-set
 
-      d-used : count (used (keys D)) n ≡ suc (count (used (keys c)) n)
+      d-used : count (used (keys D)) (slotsFor n) ≡ suc (count (used (keys c)) (slotsFor n))
       d-used =
           count-more (used (keys c)) (used (keys D)) s
           (ap not (eq-eqb (keys c s) 0 free))
           (ap not (ne-eqb (keys D s) 0 (λ y. absurd (omega (arith, d-key)))))
-          (λ i ne. ap (λ (v : ℕ). not (eqb v 0)) (d-keys i ne)) n sn
+          (λ i ne. ap (λ (v : ℕ). not (eqb v 0)) (d-keys i ne)) (slotsFor n) sn
 
-      pub claim-free : Owned n obj age added o s (count (used (keys c)) n) (claimed c s o)
+      pub claim-free : Owned n obj age added o s (count (used (keys c)) (slotsFor n)) (claimed c s o)
       unfolding claimed
       claim-free = rw (ne-eqb (keys c s) o (λ e. absurd (omega arith))) (record {
         sound = record {
           room = rw d-length (g .room);
-          marks = λ p pn. ap (λ (v : ℕ). not (eqb v 0)) (d-kept (linkAt p) (λ e. absurd (omega arith)) (λ e. absurd (omega arith))) ∙ g .marks p pn;
+          marks = λ p pn. ap (λ (v : ℕ). not (eqb v 0)) (d-kept (linkAt p) (λ e. table-link _ p (sym e)) (λ e. table-link _ p (sym e))) ∙ g .marks p pn;
           chains = λ o′ pos′. d-chain o′ pos′ (ℕ-discrete o′ o) ∙ g .chains o′ pos′;
           homes = λ j jn k. d-homes j jn k (ℕ-discrete j s);
         };
@@ -363,15 +371,15 @@ module _
     e-kept i a = getD-set-other c (linkAt p) i last 0 a
 
     pub mark-key : (j : ℕ) → keys E j ≡ keys c j
-    mark-key j = e-kept (keyAt j) (λ e. absurd (omega arith))
+    mark-key j = e-kept (keyAt j) (table-link _ p)
 
-    e-slot : (o : ℕ) → slot n (keys E) o ≡ slot n (keys c) o
-    e-slot o = slot-same (keys c) (keys E) o n (omega arith) (λ j _. ap (serves o) (mark-key j))
+    e-slot : (o : ℕ) → slotOf n E o ≡ slotOf n c o
+    e-slot o = slot-same n c E (e-kept seedAt (λ e. absurd (omega arith))) o (omega arith) (λ j _. ap (serves o) (mark-key j))
 
     e-first : (o : ℕ) → first n E o ≡ first n c o
     unfolding first firstIn
     e-first o =
-        rw (e-slot o, mark-key (slot n (keys c) o), e-kept (firstAt (slot n (keys c) o)) (λ e. absurd (omega arith))) refl
+        rw (e-slot o, mark-key (slotOf n c o), e-kept (firstAt (slotOf n c o)) (table-link _ p)) refl
 
     e-mark : (x : ℕ) → x < n → Dec (x ≡ p) → isMarked E x ≡ with p added x
     e-mark x xn (yes q) =

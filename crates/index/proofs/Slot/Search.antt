@@ -1,12 +1,12 @@
 -- The search for an object's slot. On any cells it ends at a slot of the table. Where a slot is free, the slot that it ends at is free or the
 -- object's. It goes by the tests of the slots alone, and a free slot that gets a key hides no slot behind it: what is found elsewhere is
 -- found there still.
-use Prim.Native.Nat.{ℕ, zero, suc, _+_, _-_, _%_, _≤_, _<_}
+use Prim.Native.Nat.{ℕ, zero, suc, _+_, _-_, _≤_, _<_, _^_}
 use mathlib.Core.Bool.{Bool, true, false, not, _||_}
 use mathlib.Core.List.{List}
 use mathlib.Core.Logic.{_≢_}
 use mathlib.Core.Path.{_≡_, refl, sym, ap, _∙_}
-use native.Mathlib.Nat.{not-suc-le-zero, mod-lt, le-refl}
+use native.Mathlib.Nat.{not-suc-le-zero, mod-lt, le-refl, add-zero, mul-zero}
 use native.Mathlib.Decide.{ℕ-discrete}
 use native.Mathlib.Omega.{arith}
 use lib.ListN.{length}
@@ -15,11 +15,12 @@ use borrow.Author.Tests.{eq-eqb, ne-eqb, le-ltb}
 use Rattle.page.specs.Choice.{pick}
 use Rattle.page.specs.Search.{count}
 use Rattle.page.proofs.Searching.{clash}
-use Rattle.index.specs.Cells.{cellsFor, word, keys, firstAt}
-use Rattle.index.specs.Slots.{serves, down, slot, foundOr, firstIn, first, firstLink, used}
+use Rattle.index.specs.Cells.{cellsFor, slotsFor, InTable, word, keys, firstAt, seedOf}
+use Rattle.index.specs.Slots.{serves, down, mixed, homeOf, slot, slotOf, foundOr, firstIn, first, firstLink, used}
 use Rattle.index.specs.declared.slots.Found.{Found}
 use Rattle.index.specs.declared.slots.Found.the-variants.{Slot, Nothing}
 use Rattle.index.proofs.Slot.Counts.{count-all}
+use Rattle.index.proofs.Slot.Words.{slots-some, slot-in}
 
 module _ (key : ℕ → ℕ) (o : ℕ) where
   -- a search downwards, one slot at a time
@@ -68,47 +69,41 @@ module _ (key : ℕ → ℕ) (o : ℕ) where
           at i k (no q) = h i (omega arith)
       go false e (Slot s) h = (omega (arith, h .0), h .1)
 
-  module _ (n : ℕ) where
-    pub slot-lt : 0 < n → slot n key o < n
+  -- among m slots from a home on
+  module _ (m home : ℕ) where
+    slot-among : home < m → slot m home key o < m
     unfolding slot
-    slot-lt pos = go (down key o (o % n + 1)) (down key o n) (ended (o % n + 1)) (ended n)
+    slot-among h = go (down key o (home + 1)) (down key o m) (ended (home + 1)) (ended m)
       where
-        home : o % n < n
-        home = mod-lt o pos
-
-        go : (a b : Found) → Ended (o % n + 1) a → Ended n b → foundOr a (foundOr b (o % n)) < n
-        go (Slot s) b h i = omega (arith, h .0, home)
-        go Nothing (Slot s) h i = i .0
-        go Nothing Nothing h i = home
+        go : (a b : Found) → Ended (home + 1) a → Ended m b → foundOr a (foundOr b home) < m
+        go (Slot s) b f i = omega (arith, f .0, h)
+        go Nothing (Slot s) f i = i .0
+        go Nothing Nothing f i = h
 
     -- what the two searches give
-    module _ (pos : 0 < n) (r : ℕ) where
-      -- what the slot is, is one of the table
-      within : r ≡ slot n key o → (r ≡ slot n key o) × (r < n)
-      within e = (e, rw e (slot-lt pos))
-
-      pub slot-near : down key o (o % n + 1) ≡ Slot r → (r ≡ slot n key o) × (r < n)
+    module _ (r : ℕ) where
+      slot-near : down key o (home + 1) ≡ Slot r → r ≡ slot m home key o
       unfolding slot
-      slot-near e = within (rw e refl)
+      slot-near e = rw e refl
 
-      pub slot-far : down key o (o % n + 1) ≡ Nothing → r ≡ foundOr (down key o n) (o % n) → (r ≡ slot n key o) × (r < n)
+      slot-far : down key o (home + 1) ≡ Nothing → r ≡ foundOr (down key o m) home → r ≡ slot m home key o
       unfolding slot
-      slot-far e f = within (rw e f)
+      slot-far e f = rw e f
 
     -- where a slot is free, the object's slot is free or its own
-    pub slot-serves : count (used key) n < n → serves o (key (slot n key o)) ≡ true
+    slot-free : count (used key) m < m → serves o (key (slot m home key o)) ≡ true
     unfolding slot
-    slot-serves few = go (down key o (o % n + 1)) (down key o n) (ended (o % n + 1)) (ended n)
+    slot-free few = go (down key o (home + 1)) (down key o m) (ended (home + 1)) (ended m)
       where
         in-use : (t u : Bool) → (t || u) ≡ false → not t ≡ true
         in-use true u e = sym e
         in-use false u e = refl
 
-        go : (a b : Found) → Ended (o % n + 1) a → Ended n b → serves o (key (foundOr a (foundOr b (o % n)))) ≡ true
+        go : (a b : Found) → Ended (home + 1) a → Ended m b → serves o (key (foundOr a (foundOr b home))) ≡ true
         go (Slot s) b h i = h .1
         go Nothing (Slot s) h i = i .1
         go Nothing Nothing h i =
-            let all = count-all (used key) n (λ j l. in-use (eqb (key j) 0) (eqb (key j) o) (i j l)) in
+            let all = count-all (used key) m (λ j l. in-use (eqb (key j) 0) (eqb (key j) o) (i j l)) in
             absurd (omega arith)
 
 -- two tables with the same tests
@@ -118,9 +113,9 @@ module _ (key key′ : ℕ → ℕ) (o : ℕ) where
   down-same zero h = refl
   down-same (suc m) h = rw (h m (le-refl _), down-same m (λ s l. h s (omega arith))) refl
 
-  pub slot-same : (n : ℕ) → 0 < n → ((s : ℕ) → s < n → serves o (key′ s) ≡ serves o (key s)) → slot n key′ o ≡ slot n key o
+  slot-alike : (m home : ℕ) → home < m → ((s : ℕ) → s < m → serves o (key′ s) ≡ serves o (key s)) → slot m home key′ o ≡ slot m home key o
   unfolding slot
-  slot-same n pos h = rw (down-same (o % n + 1) (λ s l. h s (omega (arith, mod-lt o pos))), down-same n h) refl
+  slot-alike m home in-m h = rw (down-same (home + 1) (λ s l. h s (omega (arith, in-m))), down-same m h) refl
 
 -- the free slot s gets a key
 module _ (key key′ : ℕ → ℕ) (o s : ℕ) (free : key s ≡ 0) (others : (x : ℕ) → x ≢ s → key′ x ≡ key x) where
@@ -143,27 +138,82 @@ module _ (key key′ : ℕ → ℕ) (o s : ℕ) (free : key s ≡ 0) (others : (
           λ q. let b : serves o 0 ≡ false = ap (serves o) (sym free ∙ ap key (sym q)) ∙ f in clash (cc) in
           rw (others m ne) (simp f (ih (λ j e. h j (simp f e))))
 
-  pub slot-fill : (n : ℕ) → (key (slot n key o) ≡ 0 → ⊥) → slot n key′ o ≡ slot n key o
+  slot-filled : (m home : ℕ) → (key (slot m home key o) ≡ 0 → ⊥) → slot m home key′ o ≡ slot m home key o
   unfolding slot
-  slot-fill n h = go (down key o (o % n + 1)) (down key o n) refl refl h
+  slot-filled m home h = go (down key o (home + 1)) (down key o m) refl refl h
     where
       go :
           (a b : Found) →
-          down key o (o % n + 1) ≡ a →
-          down key o n ≡ b →
-          (key (foundOr a (foundOr b (o % n))) ≡ 0 → ⊥) →
-          foundOr (down key′ o (o % n + 1)) (foundOr (down key′ o n) (o % n)) ≡ foundOr a (foundOr b (o % n))
-      go (Slot i) b e f u = rw (down-fill (o % n + 1) (λ j q z. let k : i ≡ j = cc in u (ap key k ∙ z)) ∙ e) refl
+          down key o (home + 1) ≡ a →
+          down key o m ≡ b →
+          (key (foundOr a (foundOr b home)) ≡ 0 → ⊥) →
+          foundOr (down key′ o (home + 1)) (foundOr (down key′ o m) home) ≡ foundOr a (foundOr b home)
+      go (Slot i) b e f u = rw (down-fill (home + 1) (λ j q z. let k : i ≡ j = cc in u (ap key k ∙ z)) ∙ e) refl
       go Nothing (Slot i) e f u =
           rw (
-            down-fill (o % n + 1) (λ j q z. clash (cc)) ∙ e,
-            down-fill n (λ j q z. let k : i ≡ j = cc in u (ap key k ∙ z)) ∙ f,
+            down-fill (home + 1) (λ j q z. clash (cc)) ∙ e,
+            down-fill m (λ j q z. let k : i ≡ j = cc in u (ap key k ∙ z)) ∙ f,
           ) refl
       go Nothing Nothing e f u =
           rw (
-            down-fill (o % n + 1) (λ j q z. clash (cc)) ∙ e,
-            down-fill n (λ j q z. clash (cc)) ∙ f,
+            down-fill (home + 1) (λ j q z. clash (cc)) ∙ e,
+            down-fill m (λ j q z. clash (cc)) ∙ f,
           ) refl
+
+-- ---- the slot of an object on the cells of n pages
+
+-- with the seed 0 an id is not mixed
+pub unmixed : (o : ℕ) → mixed 0 o ≡ o
+unfolding mixed
+unmixed o = rw (mul-zero o) (add-zero o)
+
+module _ (n : ℕ) (c : List ℕ) (o : ℕ) where
+  -- its home is one of the slots
+  pub home-lt : 0 < n → homeOf (slotsFor n) (seedOf c) o < slotsFor n
+  home-lt pos = mod-lt (mixed (seedOf c) o) (slots-some n pos)
+
+  pub slot-lt : 0 < n → slotOf n c o < slotsFor n
+  unfolding slotOf
+  slot-lt pos = slot-among (keys c) o (slotsFor n) (homeOf (slotsFor n) (seedOf c) o) (home-lt pos)
+
+  -- what the two searches give
+  module _ (pos : 0 < n) (few : n < 2 ^ 32) (room : cellsFor n ≤ length c) (r : ℕ) where
+    -- what the slot is, is one of the table
+    abbrev Given : Type 0
+    Given = (r ≡ slotOf n c o) × InTable c r
+
+    within : r ≡ slotOf n c o → Given
+    within e = (e, slot-in n r (rw e (slot-lt pos)) c few room)
+
+    pub slot-first : down (keys c) o (homeOf (slotsFor n) (seedOf c) o + 1) ≡ Slot r → Given
+    unfolding slotOf
+    slot-first e = within (slot-near (keys c) o (slotsFor n) (homeOf (slotsFor n) (seedOf c) o) r e)
+
+    pub slot-second :
+        down (keys c) o (homeOf (slotsFor n) (seedOf c) o + 1) ≡ Nothing →
+        r ≡ foundOr (down (keys c) o (slotsFor n)) (homeOf (slotsFor n) (seedOf c) o) →
+        Given
+    unfolding slotOf
+    slot-second e f = within (slot-far (keys c) o (slotsFor n) (homeOf (slotsFor n) (seedOf c) o) r e f)
+
+  pub slot-serves : count (used (keys c)) (slotsFor n) < slotsFor n → serves o (keys c (slotOf n c o)) ≡ true
+  unfolding slotOf
+  slot-serves few = slot-free (keys c) o (slotsFor n) (homeOf (slotsFor n) (seedOf c) o) few
+
+-- other cells with the same seed
+module _ (n : ℕ) (c c′ : List ℕ) (seeds : seedOf c′ ≡ seedOf c) (o : ℕ) where
+  pub slot-same : 0 < n → ((s : ℕ) → s < slotsFor n → serves o (keys c′ s) ≡ serves o (keys c s)) → slotOf n c′ o ≡ slotOf n c o
+  unfolding slotOf
+  slot-same pos h = rw seeds (slot-alike (keys c) (keys c′) o (slotsFor n) (homeOf (slotsFor n) (seedOf c) o) (home-lt n c o pos) h)
+
+  -- in which the free slot s has a key
+  pub slot-fill :
+      (s : ℕ) → keys c s ≡ 0 →
+      ((x : ℕ) → x ≢ s → keys c′ x ≡ keys c x) →
+      (keys c (slotOf n c o) ≡ 0 → ⊥) →
+      slotOf n c′ o ≡ slotOf n c o
+  unfolding slotOf
+  slot-fill s free others h = rw seeds (slot-filled (keys c) (keys c′) o s free others (slotsFor n) (homeOf (slotsFor n) (seedOf c) o) h)
 
 -- the link to an object's first record, if s is its slot
 module _ (c : List ℕ) (s o : ℕ) where
@@ -175,7 +225,7 @@ module _ (c : List ℕ) (s o : ℕ) where
   unfolding firstIn
   first-in-none k = simp (ne-eqb (keys c s) o k)
 
-module _ (n : ℕ) (c : List ℕ) (o s : ℕ) (at : slot n (keys c) o ≡ s) where
+module _ (n : ℕ) (c : List ℕ) (o s : ℕ) (at : slotOf n c o ≡ s) where
   pub first-own : keys c s ≡ o → first n c o ≡ word c (firstAt s)
   unfolding first
   first-own k = rw at (first-in-own c s o k)

@@ -13,7 +13,7 @@ add-at-requires c κs =
     let l = k .before .before in
     let a = l .before .before .before .before .before .before in
     let inside = rw (k .place2 .given .1) at (l .place-of .ensures .1) in
-    omega (arith, inside, l .before .before .slot-of .ensures .1, a .pre)
+    (omega (arith, a .pre .few, a .pre .inside), (omega (arith, a .pre .inside, a .pre .room), (l .before .before .slot-of .ensures .1, inside)))
 
 returns : tie.Need-returns
 returns c =

@@ -1,9 +1,17 @@
 -- A refused dump is refused before anything else, and nothing is written.
+use mathlib.Core.Path.{sym, _∙_}
+use native.Mathlib.Omega.{arith}
 use borrow.Author.Needs.{needs}
+use Rattle.page.proofs.Lengths.{opened-most}
 use Rattle.chunk.proofs.Cases.{words-kept}
 use Rattle.index.specs.Listing.{idsFrom, listFrom}
 use Rattle.index.proofs.list.list.Statement.{statement}
 use Rattle.index.proofs.list.list.Tie as tie
+
+list-in-requires : tie.Need-list-in-requires
+list-in-requires c κs =
+    let p = c .before .before in
+    omega (arith, opened-most _ _ _ (sym (p .before .before .opened .ensures) ∙ p .p2 .given .1))
 
 returns : tie.Need-returns
 unfolding listFrom
@@ -22,4 +30,4 @@ returns-2 c =
 pub list-spec : {M : Type 1} → statement M
 list-spec =
     tie.close
-    (tie.spec (search needs) (search needs) (search needs) (search needs) returns (search needs) returns-2)
+    (tie.spec (search needs) (search needs) (search needs) list-in-requires returns (search needs) returns-2)

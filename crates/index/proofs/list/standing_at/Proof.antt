@@ -13,7 +13,7 @@ unfolding standingAt
 returns c =
     let h = c .before in
     let b = h .before .before .before in
-    rw (← b .pre .1 .1 .0, ne-eqb (b .args .o .0) 0 (λ z. absurd (omega arith)), ← h .slot-of .ensures .0, ne-eqb _ _ (c .if1 .taken))
+    rw (← b .pre .1 .1 .1 .0, ne-eqb (b .args .o .0) 0 (λ z. absurd (omega arith)), ← h .slot-of .ensures .0, ne-eqb _ _ (c .if1 .taken))
 
 returns-2 : tie.Need-returns-2
 unfolding standingAt chain first
@@ -23,7 +23,7 @@ returns-2 c =
     let h = d .before in
     let b = h .before .before .before in
     rw (
-      ← b .pre .1 .1 .0,
+      ← b .pre .1 .1 .1 .0,
       ne-eqb (b .args .o .0) 0 (λ z. absurd (omega arith)),
       ← h .slot-of .ensures .0,
       eq-eqb _ _ (d .if1 .left),

@@ -1,5 +1,5 @@
 -- The loop's invariant: no slot passed is damaged, and the count is that of the slots asked for passed.
-use Prim.Native.Nat.{_≤_, _-_}
+use Prim.Native.Nat.{_≤_, _<_, _-_}
 use mathlib.Core.Path.{_≡_, sym, ap, _∙_}
 use native.Mathlib.Omega.{arith}
 use borrow.Author.Needs.{needs}
@@ -7,23 +7,39 @@ use Rattle.page.specs.Search.{count}
 use Rattle.page.specs.Records.{recordAt}
 use Rattle.page.proofs.Searching.{count-none}
 use Rattle.chunk.proofs.Living.{count-skip, count-take}
+use Rattle.index.specs.Cells.{slotsFor, InTable}
 use Rattle.index.specs.Listing.{isAsked, isDamaged, askedSlot, damagedSlot}
+use Rattle.index.proofs.Slot.Words.{slot-in, slots-pages}
 use Rattle.index.proofs.Answer.Listings.{at-free, tally-damaged, tally-whole}
 use Rattle.index.proofs.list.tally_in.Statement.{statement}
 use Rattle.index.proofs.list.tally_in.Tie as tie
 
 abbrev Inv-loop : tie.InvT-loop
-Inv-loop dump g ask pages cells count₀ s₀ count₁ s =
-    (s ≤ pages)
+Inv-loop dump g ask pages cells slots count₀ s₀ count₁ s =
+    (s ≤ slotsFor pages)
     × (count₁ ≤ s)
     × (count (damagedSlot ask (recordAt g dump) (g .layout .«data») cells pages) s ≡ 0)
     × (count₁ ≡ count (askedSlot ask (recordAt g dump) (g .layout .«data») cells pages) s)
 
 abbrev μ-loop : tie.MeasureT-loop
-μ-loop dump g ask pages cells count₀ s₀ count₁ s = pages - s
+μ-loop dump g ask pages cells slots count₀ s₀ count₁ s = slotsFor pages - s
 
 loop-holds : tie.Need-loop-holds Inv-loop μ-loop
 loop-holds c = (search needs, search needs, count-none _, rw count-none)
+
+-- in the loop the slot is one of the index
+module _ (t : tie.In-loop Inv-loop μ-loop) where
+  abbrev a : tie.Start Inv-loop μ-loop
+  a = t .before .before .before .before .before
+
+  inside : t .before .loop .s < slotsFor (a .args .pages)
+  inside = omega (arith, t .loop-test .taken, t .before .before .slots-for .ensures)
+
+  in-table : InTable (a .args .cells .now) (t .before .loop .s)
+  in-table = slot-in (a .args .pages) (t .before .loop .s) inside (a .args .cells .now) (omega (arith, a .fits .pages)) (a .pre .1)
+
+  some-pages : 0 < a .args .pages
+  some-pages = slots-pages (a .args .pages) (t .before .loop .s) inside
 
 loop-again : tie.Need-loop-again Inv-loop μ-loop
 loop-again c =
@@ -33,7 +49,10 @@ loop-again c =
     (search needs, search needs, count-skip _ (q .s) (ap isDamaged e) ∙ q .inv .2, q .inv .3 ∙ sym (count-skip _ (q .s) (ap isAsked e)))
 
 standing-at-requires : tie.Need-standing-at-requires Inv-loop μ-loop
-standing-at-requires c κs = (search needs, (search needs, (c .before .before .key-of .ensures, omega (arith, c .if1 .left))))
+standing-at-requires c κs =
+    let k = c .before .before in
+    let t = k .before in
+    (some-pages t, (a t .pre .1, (in-table t, (k .key-of .ensures, omega (arith, c .if1 .left)))))
 
 loop-again-2 : tie.Need-loop-again-2 Inv-loop μ-loop
 loop-again-2 c =
@@ -44,9 +63,9 @@ loop-again-2 c =
 
 returns : tie.Need-returns Inv-loop μ-loop
 returns c =
-    let a = c .before .before in
-    let t = a .before .before .before .before in
-    sym (tally-damaged _ _ _ _ _ (t .before .loop .s) (t .loop-test .taken) (sym (a .standing-at .ensures) ∙ c .enum-told2 .given .1))
+    let d = c .before .before in
+    let t = d .before .before .before .before in
+    sym (tally-damaged _ _ _ _ _ (t .before .loop .s) (inside t) (sym (d .standing-at .ensures) ∙ c .enum-told2 .given .1))
 
 loop-again-3 : tie.Need-loop-again-3 Inv-loop μ-loop
 loop-again-3 c =
@@ -58,7 +77,7 @@ loop-again-3 c =
 returns-2 : tie.Need-returns-2 Inv-loop μ-loop
 returns-2 c =
     let q = c .before .loop in
-    let e : q .s ≡ c .before .before .before .before .args .pages = omega arith in
+    let e : q .s ≡ slotsFor (c .before .before .before .before .before .args .pages) = omega (arith, q .inv .0, c .loop-test .left, c .before .before .slots-for .ensures) in
     let d = rw e at (q .inv .2) in
     let n = rw e at (q .inv .3) in
     rw n (sym (tally-whole _ _ _ _ _ d))
@@ -69,8 +88,9 @@ tally-in-spec =
     (tie.spec
     Inv-loop
     μ-loop
-    loop-holds
     (search needs)
+    loop-holds
+    (λ c κs. in-table c)
     (search needs)
     (search needs)
     loop-again

@@ -1,5 +1,5 @@
 -- The loop's invariant: the ids of the slots asked for passed stand in front of the words, ascending, and the count is how many they are.
-use Prim.Native.Nat.{_≤_, _<_, _-_}
+use Prim.Native.Nat.{ℕ, _+_, _≤_, _<_, _-_}
 use mathlib.Core.Bool.{true}
 use mathlib.Core.Path.{_≡_, refl, sym, ap, _∙_}
 use lib.ListN.{length}
@@ -12,26 +12,41 @@ use Rattle.chunk.specs.Live.{passed}
 use Rattle.chunk.specs.Lists.{inFront}
 use Rattle.chunk.proofs.Living.{count-skip, count-take, count-below, passed-none, passed-skip}
 use Rattle.chunk.proofs.Sorting.{passed-written, passed-sorted}
-use Rattle.index.specs.Cells.{keys}
+use Rattle.index.specs.Cells.{slotsFor, InTable, keys}
 use Rattle.index.specs.Listing.{isAsked, askedSlot, slotIds}
 use Rattle.index.specs.declared.list.Ask.the-variants.{Live}
+use Rattle.index.proofs.Slot.Words.{slot-in, slots-pages}
 use Rattle.index.proofs.Answer.Listings.{at-free, else-asked}
 use Rattle.index.proofs.list.write_ids.Statement.{statement}
 use Rattle.index.proofs.list.write_ids.Tie as tie
 
 abbrev Inv-loop : tie.InvT-loop
-Inv-loop dump g pages cells words₀ count₀ s₀ words count₁ s =
-    (s ≤ pages)
+Inv-loop dump g pages cells words₀ slots count₀ s₀ words count₁ s =
+    (s ≤ slotsFor pages)
     × (count₁ ≤ s)
     × (length words ≡ length words₀)
     × (count₁ ≡ count (askedSlot Live (recordAt g dump) (g .layout .«data») cells pages) s)
     × (words ≡ inFront (passed (askedSlot Live (recordAt g dump) (g .layout .«data») cells pages) (keys cells) s) words₀)
 
 abbrev μ-loop : tie.MeasureT-loop
-μ-loop dump g pages cells words₀ count₀ s₀ words count₁ s = pages - s
+μ-loop dump g pages cells words₀ slots count₀ s₀ words count₁ s = slotsFor pages - s
 
 loop-holds : tie.Need-loop-holds Inv-loop μ-loop
 loop-holds c = (search needs, search needs, refl, rw count-none, rw passed-none)
+
+-- in the loop the slot is one of the index
+module _ (t : tie.In-loop Inv-loop μ-loop) where
+  abbrev a : tie.Start Inv-loop μ-loop
+  a = t .before .before .before .before .before .before
+
+  inside : t .before .loop .s < slotsFor (a .args .pages)
+  inside = omega (arith, t .loop-test .taken, t .before .before .slots-for .ensures)
+
+  in-table : InTable (a .args .cells .now) (t .before .loop .s)
+  in-table = slot-in (a .args .pages) (t .before .loop .s) inside (a .args .cells .now) (omega (arith, a .fits .pages)) (a .pre .0)
+
+  some-pages : 0 < a .args .pages
+  some-pages = slots-pages (a .args .pages) (t .before .loop .s) inside
 
 loop-again : tie.Need-loop-again Inv-loop μ-loop
 loop-again c =
@@ -41,31 +56,34 @@ loop-again c =
     (search needs, search needs, search needs, rw (count-skip _ (q .s) t) (q .inv .3), rw (passed-skip _ _ (q .s) t) (q .inv .4))
 
 standing-at-requires : tie.Need-standing-at-requires Inv-loop μ-loop
-standing-at-requires c κs = (search needs, (search needs, (c .before .before .key-of .ensures, omega (arith, c .if1 .left))))
+standing-at-requires c κs =
+    let k = c .before .before in
+    let t = k .before in
+    (some-pages t, (a t .pre .0, (in-table t, (k .key-of .ensures, omega (arith, c .if1 .left)))))
 
 loop-again-2 : tie.Need-loop-again-2 Inv-loop μ-loop
 loop-again-2 c =
-    let a = c .before in
-    let q = a .before .before .before .before .before .loop in
-    let t = ap isAsked (sym (a .standing-at .ensures)) ∙ else-asked (a .standing-at .result) (c .match .keys2) in
+    let d = c .before in
+    let q = d .before .before .before .before .before .loop in
+    let t = ap isAsked (sym (d .standing-at .ensures)) ∙ else-asked (d .standing-at .result) (c .match .keys2) in
     (search needs, search needs, search needs, rw (count-skip _ (q .s) t) (q .inv .3), rw (passed-skip _ _ (q .s) t) (q .inv .4))
 
 loop-again-3 : tie.Need-loop-again-3 Inv-loop μ-loop
 loop-again-3 c =
     let w = c .before .before in
     let m = w .before .before in
-    let a = m .before .before in
-    let k = a .before .before .before in
+    let d = m .before .before in
+    let k = d .before .before .before in
     let q = k .before .before .loop in
-    let s = k .before .before .before .before .before .before in
+    let s = a (k .before) in
     let says = recordAt (s .args .g) (s .args .dump .now) in
     let test = askedSlot Live says (s .args .g .layout .«data») (s .args .cells .now) (s .args .pages) in
-    let t : test (q .s) ≡ true = ap isAsked (sym (a .standing-at .ensures) ∙ m .enum-told .given .1) in
-    let room : q .count < length (s .args .words .now) = omega (arith, count-below test (q .s) (s .args .pages) (k .before .loop-test .taken) t, s .pre .1, q .inv .3) in (
+    let t : test (q .s) ≡ true = ap isAsked (sym (d .standing-at .ensures) ∙ m .enum-told .given .1) in
+    let room : q .count < length (s .args .words .now) = omega (arith, count-below test (q .s) (slotsFor (s .args .pages)) (inside (k .before)) t, s .pre .1, q .inv .3) in (
       search needs,
       search needs,
       w .put-id .kept .0 ∙ q .inv .2,
-      rw (count-take test (q .s) t, q .inv .3),
+      ap (λ (x : ℕ). x + 1) (q .inv .3) ∙ sym (count-take test (q .s) t),
       w .put-id .ensures
           ∙ rw (k .key-of .ensures) (passed-written test (keys (s .args .cells .now)) (q .words) (s .args .words .now) (q .count) (q .s) t (q .inv .3) room (q .inv .4)),
     )
@@ -75,11 +93,11 @@ unfolding slotIds
 returns c =
     let l = c .before .before .before .before in
     let q = l .before .loop in
-    let a = l .before .before .before .before .before .args in
-    let test = askedSlot Live (recordAt (a .g) (a .dump .now)) (a .g .layout .«data») (a .cells .now) (a .pages) in
-    let e : q .s ≡ a .pages = omega arith in
+    let b = l .before .before .before .before .before .before .args in
+    let test = askedSlot Live (recordAt (b .g) (b .dump .now)) (b .g .layout .«data») (b .cells .now) (b .pages) in
+    let e : q .s ≡ slotsFor (b .pages) = omega (arith, q .inv .0, l .loop-test .left, l .before .before .slots-for .ensures) in
     c .before .before .sort .ensures
-    ∙ (rw e at (passed-sorted test (keys (a .cells .now)) (q .words) (a .words .now) (q .count) (q .s) (q .inv .3) (q .inv .4)))
+    ∙ (rw e at (passed-sorted test (keys (b .cells .now)) (q .words) (b .words .now) (q .count) (q .s) (q .inv .3) (q .inv .4)))
 
 pub write-ids-spec : {M : Type 1} → statement M
 write-ids-spec =
@@ -87,8 +105,9 @@ write-ids-spec =
     (tie.spec
     Inv-loop
     μ-loop
-    loop-holds
     (search needs)
+    loop-holds
+    (λ c κs. in-table c)
     (search needs)
     (search needs)
     loop-again

@@ -18,7 +18,7 @@ slot-of-requires : tie.Need-slot-of-requires
 slot-of-requires c κs = (omega (arith, c .before .before .if1 .left), omega (arith, c .if2 .left, c .before .cells-for .ensures))
 
 first-of-requires : tie.Need-first-of-requires
-first-of-requires c κs = omega (arith, c .slot-of .ensures .1, c .before .if2 .left, c .before .before .cells-for .ensures)
+first-of-requires c κs = c .slot-of .ensures .1
 
 returns-3 : tie.Need-returns-3
 unfolding firstLink first
