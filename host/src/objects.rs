@@ -1,5 +1,7 @@
 //! The objects of a dump and their chunks, by an index of all its pages.
 
+use std::collections::hash_map::RandomState;
+use std::hash::{BuildHasher, Hasher};
 use std::ops::Range;
 
 use crate::ffi::{self, Answer, ChunkAnswer, Geometry, SizeAnswer, TallyAnswer};
@@ -25,9 +27,15 @@ impl Started {
     pub fn of(dump: &[u8], on: Geometry, runs: Runs) -> Result<Started, u32> {
         let pages = ffi::pages(dump, on).given()?.pages;
         let mut cells = vec![0; ffi::cells(pages)];
-        done(ffi::start(dump, on, &mut cells, 0))?;
+        done(ffi::start(dump, on, &mut cells, drawn()))?;
         Ok(Started { cells, runs })
     }
+}
+
+/// A word that nobody knows beforehand. No answer depends on it, and no dump can
+/// be made for it on which the search for an object's slot is slow.
+pub fn drawn() -> u32 {
+    RandomState::new().build_hasher().finish() as u32
 }
 
 /// A dump with the index of all its pages.

@@ -18,7 +18,8 @@ The requests of a script, one a line; # starts a comment:
 
 L is P/S/T or a layout's number. The first ask the dump alone, the others an
 index: under the layout and K of the last accepted start, with as many words.
-k=, words= and layout= behind the arguments of such a call give it others.
+k=, words= and layout= behind the arguments of such a call give it others, and
+seed= behind those of a start gives it a seed, which is 0 if left out.
 ";
 
 /// What a call on the index is given by options of its own: layout, K and how
@@ -46,7 +47,7 @@ pub enum Request {
     Counts { on: Geometry },
     Kind { on: Geometry, page: u32 },
     Header { on: Geometry, page: u32 },
-    Start { on: Geometry, words: usize },
+    Start { on: Geometry, words: usize, seed: u32 },
     Add { lent: Lent, page: u32 },
     Size { over: Over, object: u32 },
     Chunk { over: Over, object: u32, n: u32 },
@@ -127,10 +128,12 @@ impl Words<'_> {
                 on: self.on()?,
                 page: self.number("PAGE")?,
             },
-            "start" => Request::Start {
-                on: self.on()?,
-                words: self.length("WORDS")?,
-            },
+            "start" => {
+                let seed = self.seed()?;
+                let on = self.on()?;
+                let words = self.length("WORDS")?;
+                Request::Start { on, words, seed }
+            }
             "add" => {
                 let lent = self.lent()?;
                 let page = self.number("PAGE")?;
@@ -218,7 +221,17 @@ impl Words<'_> {
 
     /// A word of the index, which has 32 bits.
     fn word(&mut self) -> Result<u32, String> {
-        self.next("X", |word| u32::try_from(long(word)?).ok())
+        self.next("X", word)
+    }
+
+    /// The seed, which may stand behind the arguments of a start.
+    fn seed(&mut self) -> Result<u32, String> {
+        let Some(value) = self.0.last().and_then(|word| word.strip_prefix("seed=")) else {
+            return Ok(0);
+        };
+        let seed = word(value).ok_or_else(|| format!("seed cannot be {value}"))?;
+        self.0.pop();
+        Ok(seed)
     }
 
     fn on(&mut self) -> Result<Geometry, String> {
@@ -249,6 +262,11 @@ fn length(word: &str) -> Option<usize> {
     usize::try_from(long(word)?).ok()
 }
 
+/// A number of 32 bits and no more.
+fn word(word: &str) -> Option<u32> {
+    u32::try_from(long(word)?).ok()
+}
+
 #[cfg(test)]
 mod tests {
     use super::*;
@@ -262,7 +280,22 @@ mod tests {
         let lines = [
             ("find 0x4 # K", Request::Find { k: 4 }),
             ("kind 512/16/0 4 3", Request::Kind { on, page: 3 }),
-            ("start 6 4 48", Request::Start { on, words: 48 }),
+            (
+                "start 6 4 48",
+                Request::Start {
+                    on,
+                    words: 48,
+                    seed: 0,
+                },
+            ),
+            (
+                "start 6 4 48 seed=0x10",
+                Request::Start {
+                    on,
+                    words: 48,
+                    seed: 16,
+                },
+            ),
             (
                 "  dread 6 4 257 1 512",
                 Request::Read {
@@ -349,6 +382,11 @@ mod tests {
             ("objects 257", "objects does not take 257"),
             ("fill 0x100000000", "X cannot be 0x100000000"),
             ("size 257 k=", "k cannot be "),
+            (
+                "start 6 4 48 seed=0x100000000",
+                "seed cannot be 0x100000000",
+            ),
+            ("size 257 seed=1", "there is no option seed="),
         ];
         for (line, said) in wrong {
             assert_eq!(request(line), Err(said.to_string()), "{line}");

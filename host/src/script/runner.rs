@@ -56,7 +56,7 @@ impl<'d> Runner<'d> {
                 line::done(0)
             }
             Request::Peek { at } => format!("word={}", self.cell(at)?),
-            Request::Start { on, words } => self.start(on, words),
+            Request::Start { on, words, seed } => self.start(on, words, seed),
             Request::Add { lent, page } => self.add(lent, page),
             Request::Size { over, object } => self.size(over, object),
             Request::Chunk { over, object, n } => self.chunk(over, object, n),
@@ -126,9 +126,9 @@ impl<'d> Runner<'d> {
         (Geometry { layout, block }, lent.words.unwrap_or(words))
     }
 
-    fn start(&mut self, on: Geometry, words: usize) -> String {
+    fn start(&mut self, on: Geometry, words: usize, seed: u32) -> String {
         let cells = &mut self.index[..words];
-        let refusal = ffi::start(self.dump, on, cells, 0);
+        let refusal = ffi::start(self.dump, on, cells, seed);
         if refusal == 0 {
             self.started = Some((on, words));
         }

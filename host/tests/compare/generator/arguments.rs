@@ -22,6 +22,8 @@ pub struct Asker<'a> {
     pub dump: &'a Dump,
     /// Layout and page count of the last accepted start.
     pub started: Option<(Layout, usize)>,
+    /// The seed that the index has.
+    pub seed: u32,
     pub list: Vec<Request>,
 }
 
@@ -156,6 +158,13 @@ impl Asker<'_> {
             (need, _) => need + self.rng.between(1, 5),
         };
         words as usize
+    }
+
+    /// A seed: none, any, or one of few bits.
+    pub fn any_seed(&mut self) -> u32 {
+        let any = self.rng.word();
+        self.rng
+            .pick(&[0, 0, 0, any, any, any, 1, u32::MAX, 1 << 31, any & 0xFFFF])
     }
 
     /// A row's words: of a page and a length, each mostly in range.

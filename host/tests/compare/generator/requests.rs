@@ -16,6 +16,7 @@ pub fn requests(rng: &mut Rng, dump: &Dump) -> Vec<Request> {
         rng,
         dump,
         started: None,
+        seed: 0,
         list,
     };
     asker.whole_dump();
@@ -109,11 +110,13 @@ impl Asker<'_> {
     }
 
     pub fn start_with(&mut self, lent: Lent) {
+        let seed = self.any_seed();
         if !self.refused(lent) {
             let layout = lent.layout.layout();
             self.started = layout.map(|l| (l, self.dump.bytes.len() / l.page()));
+            self.seed = seed;
         }
-        self.list.push(Request::Start { lent });
+        self.list.push(Request::Start { lent, seed });
     }
 
     /// What a call on the started index is lent; a layout other than the
@@ -158,7 +161,7 @@ impl Asker<'_> {
         }
         if self.rng.chance(10) {
             let word = self.rng.pick(&[0, 1, 0xFFFF_FFFF, 0x0101_0101]);
-            self.list.push(Request::Fill { word });
+            self.fill(word);
             self.started = None;
         }
         let layout = self.named(self.dump.layout);

@@ -2,7 +2,7 @@
 //! and listings go by the set of pages added since the start, as if all others
 //! were blank; on other cells, by what the words say.
 
-use super::cells::{need, unused, Cells};
+use super::cells::{need, unused, Cells, SEED};
 use super::layout::{opened, Layout, Named};
 use super::page::{kind, Kind};
 use super::records::{ids, records};
@@ -106,7 +106,7 @@ impl<'d> Reader<'d> {
     }
 
     /// Start: no page is added any more. A refused start changes nothing.
-    pub fn start(&mut self, lent: Lent) -> Result<(), Refusal> {
+    pub fn start(&mut self, lent: Lent, seed: u32) -> Result<(), Refusal> {
         let tests = self.opened(lent.layout, lent.k).and_then(|opened| {
             let short = self.short_index(lent.words, opened.1);
             refuse(&[(Refusal::ShortIndex, short)], self.wrong).map(|()| opened)
@@ -129,9 +129,12 @@ impl<'d> Reader<'d> {
             _ => need(pages),
         };
         for (at, word) in self.words.iter_mut().enumerate().take(end) {
-            if self.wrong != Wrong::StartLeavesUnused || !unused(at) {
+            if self.wrong != Wrong::StartLeavesUnused || !unused(at, pages) {
                 *word = 0;
             }
+        }
+        if self.wrong != Wrong::SeedNotKept {
+            self.words[SEED] = seed;
         }
         Ok(())
     }

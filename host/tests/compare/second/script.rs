@@ -38,6 +38,7 @@ pub enum Request {
     },
     Start {
         lent: Lent,
+        seed: u32,
     },
     Add {
         lent: Lent,
@@ -106,7 +107,7 @@ impl Request {
             Over::Dump(..) => 0,
         };
         match *self {
-            Request::Start { lent } | Request::Add { lent, .. } => lent.words,
+            Request::Start { lent, .. } | Request::Add { lent, .. } => lent.words,
             Request::Size { over, .. }
             | Request::Chunk { over, .. }
             | Request::Read { over, .. }
@@ -161,8 +162,12 @@ impl fmt::Display for Request {
             Request::Counts { layout, k } => write!(f, "counts {layout} {k}"),
             Request::Kind { layout, k, page } => write!(f, "kind {layout} {k} {page}"),
             Request::Header { layout, k, page } => write!(f, "header {layout} {k} {page}"),
-            Request::Start { lent } => {
-                write!(f, "start {} {} {}", lent.layout, lent.k, lent.words)
+            Request::Start { lent, seed } => {
+                write!(f, "start {} {} {}", lent.layout, lent.k, lent.words)?;
+                match seed {
+                    0 => Ok(()),
+                    _ => write!(f, " seed={seed:#x}"),
+                }
             }
             Request::Add { lent, page } => write!(f, "add {page} {}", options(lent)),
             Request::Size { over, object } => lookup(f, "size", over, &object.to_string()),
@@ -220,7 +225,7 @@ pub fn answer(reader: &mut Reader<'_>, request: &Request) -> Answer {
             .header(layout, k, page)
             .map(|fields| header_line(&fields))
             .map_err(Refused::from),
-        Request::Start { lent } => done(reader.start(lent)),
+        Request::Start { lent, seed } => done(reader.start(lent, seed)),
         Request::Add { lent, page } => done(reader.add(lent, page)),
         Request::Size { over, object } => reader
             .size(over, object)

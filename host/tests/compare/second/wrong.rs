@@ -180,6 +180,18 @@ wrong_rules! {
     StartLeavesUnused,
 
     // What the words say.
+    /// A start keeps no seed.
+    SeedNotKept,
+    /// The seed moves no home.
+    SeedIgnored,
+    /// The seed is added to the id.
+    SeedAdded,
+    /// What is added to the id is not squared.
+    MixedWithoutSquare,
+    /// The id itself is left out of the home.
+    MixedWithoutId,
+    /// There are as many slots as pages.
+    SlotForEachPage,
     /// Slots are searched from the object's home upwards.
     SlotsSearchedUpwards,
     /// A free slot does not end the search.

@@ -92,7 +92,7 @@ fn cases_on_an_index() {
     let lent = Lent { layout, k, words };
     let (over, object) = (Over::Index(lent), OBJECT);
     let mut ask = |request: Request| answer(&mut reader, &request).line;
-    assert_eq!(ask(Request::Start { lent }), "done");
+    assert_eq!(ask(Request::Start { lent, seed: 0 }), "done");
     for page in [7, 3, 0, 4, 2, 1] {
         assert_eq!(ask(Request::Add { lent, page }), "done");
         assert_eq!(ask(Request::Add { lent, page }), "refusal=15 visits=0");
