@@ -4,13 +4,11 @@ use std::collections::hash_map::RandomState;
 use std::hash::{BuildHasher, Hasher};
 use std::ops::Range;
 
-use crate::ffi::{self, Answer, ChunkAnswer, Geometry, SizeAnswer, TallyAnswer};
+use crate::ffi::{self, Answer as _, ChunkAnswer, Geometry, SizeAnswer, TallyAnswer};
 use crate::refusal::SHORT_BUFFER;
 use crate::table::{Piece, Table};
 
-/// Words that are mostly enough for a listing and for a table, so that one call
-/// is.
-const SOME_IDS: usize = 4096;
+/// Words that are mostly enough for a table, so that one call is.
 const SOME_ROWS: usize = 1024;
 
 /// Pages in runs, each with the word by which it has its place.
@@ -79,12 +77,13 @@ impl<'d> Objects<'d> {
     /// The table of a live file, or the number of the refusal.
     pub fn table(&self, object: u32) -> Result<Table, u32> {
         let (dump, on, cells) = (self.dump, self.on, &self.cells);
-        let (answer, words) = filled(
-            SOME_ROWS,
-            |words| ffi::table(dump, on, cells, object, words),
-            |answer| answer.need,
-        )?;
-        Table::of(answer, words)
+        let mut words = vec![0; SOME_ROWS];
+        let mut answer = ffi::table(dump, on, cells, object, &mut words);
+        if answer.refusal == SHORT_BUFFER {
+            words = vec![0; answer.need as usize];
+            answer = ffi::table(dump, on, cells, object, &mut words);
+        }
+        Table::of(answer.given()?, words)
     }
 
     /// Hands on the bytes of a live file, in pieces, until one is not taken.
@@ -96,15 +95,13 @@ impl<'d> Objects<'d> {
         table.hand_on(self.dump, self.on, take)
     }
 
-    /// The ids of the live objects, ascending, or the number of the refusal.
+    /// The ids of the live objects, ascending, or the number of the refusal. There
+    /// are no more of them than pages, and words that stay zeros take no memory.
     pub fn list(&self) -> Result<Vec<u32>, u32> {
-        let (dump, on, cells) = (self.dump, self.on, &self.cells);
-        let (answer, mut ids) = filled(
-            SOME_IDS,
-            |words| ffi::list(dump, on, cells, words),
-            |answer| answer.need,
-        )?;
-        ids.truncate(answer.count as usize);
+        let pages = ffi::pages(self.dump, self.on).given()?.pages;
+        let mut ids = vec![0; pages as usize];
+        let answer = ffi::list(self.dump, self.on, &self.cells, &mut ids);
+        ids.truncate(answer.given()?.count as usize);
         Ok(ids)
     }
 
@@ -112,22 +109,6 @@ impl<'d> Objects<'d> {
     pub fn count(&self) -> TallyAnswer {
         ffi::objects(self.dump, self.on, &self.cells)
     }
-}
-
-/// The answer of a call, and the words that it was lent to write to: some, or
-/// if those are too few as many as it needs.
-fn filled<A: Answer>(
-    some: usize,
-    call: impl Fn(&mut [u32]) -> A,
-    need: impl Fn(&A) -> u32,
-) -> Result<(A, Vec<u32>), u32> {
-    let mut words = vec![0; some];
-    let mut answer = call(&mut words);
-    if answer.refusal() == SHORT_BUFFER {
-        words = vec![0; need(&answer) as usize];
-        answer = call(&mut words);
-    }
-    Ok((answer.given()?, words))
 }
 
 /// What was done, or the number of the refusal.

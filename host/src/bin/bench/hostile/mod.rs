@@ -28,9 +28,9 @@ const ROUNDS: usize = 9;
 const LONG: Duration = Duration::from_secs(2);
 
 /// What grows from a shorter time is not judged, and a growth may be so much larger
-/// than that of pages × log pages.
+/// than that of pages × log pages: the memory of a larger dump is slower to reach.
 const SHORT: Duration = Duration::from_millis(20);
-const NOISE: f64 = 1.2;
+const NOISE: f64 = 1.3;
 
 /// The commands, with what stands behind the dump: `OBJECT` is one of its own.
 const COMMANDS: [&[&str]; 8] = [
