@@ -232,6 +232,11 @@ uint32_t lohenarr_add(const uint8_t *dump, size_t len, lohenarr_geometry geometr
  * until one is refused. */
 lohenarr_run_answer lohenarr_add_run(const uint8_t *dump, size_t len, lohenarr_geometry geometry, uint32_t *cells, size_t cells_len, uint32_t from, uint32_t to);
 
+/* Adds of these pages only the records that are older than a given page: lookups
+ * then answer as the dump stood before that was written. A page that the dump
+ * does not have is refused. */
+lohenarr_run_answer lohenarr_add_older(const uint8_t *dump, size_t len, lohenarr_geometry geometry, uint32_t *cells, size_t cells_len, uint32_t from, uint32_t to, uint32_t before);
+
 /* The lookups by an index answer as if pages that were not added were blank. */
 lohenarr_size_answer lohenarr_size(const uint8_t *dump, size_t len, lohenarr_geometry geometry, const uint32_t *cells, size_t cells_len, uint32_t object);
 lohenarr_chunk_answer lohenarr_chunk(const uint8_t *dump, size_t len, lohenarr_geometry geometry, const uint32_t *cells, size_t cells_len, uint32_t object, uint32_t n);
@@ -240,6 +245,10 @@ lohenarr_place_answer lohenarr_part(const uint8_t *dump, size_t len, lohenarr_ge
 
 /* The ids of the live objects, written in ascending order, by an index. */
 lohenarr_list_answer lohenarr_list(const uint8_t *dump, size_t len, lohenarr_geometry geometry, const uint32_t *cells, size_t cells_len, uint32_t *words, size_t words_len);
+
+/* The pages of the records of an object, written from the newest to the oldest,
+ * by an index. */
+lohenarr_list_answer lohenarr_records(const uint8_t *dump, size_t len, lohenarr_geometry geometry, const uint32_t *cells, size_t cells_len, uint32_t object, uint32_t *words, size_t words_len);
 
 /* How many objects have an added record, by an index. */
 lohenarr_tally_answer lohenarr_objects(const uint8_t *dump, size_t len, lohenarr_geometry geometry, const uint32_t *cells, size_t cells_len);

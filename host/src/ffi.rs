@@ -7,6 +7,7 @@
 //! refused, and its other fields count only then.
 
 use std::fmt;
+use std::ops::Range;
 
 /// An answer of the library.
 pub trait Answer: Sized {
@@ -256,11 +257,13 @@ extern "C" {
     fn lohenarr_start(dump: *const u8, len: usize, geometry: Geometry, cells: *mut u32, cells_len: usize, seed: u32) -> u32;
     fn lohenarr_add(dump: *const u8, len: usize, geometry: Geometry, cells: *mut u32, cells_len: usize, page: u32) -> u32;
     fn lohenarr_add_run(dump: *const u8, len: usize, geometry: Geometry, cells: *mut u32, cells_len: usize, from: u32, to: u32) -> RunAnswer;
+    fn lohenarr_add_older(dump: *const u8, len: usize, geometry: Geometry, cells: *mut u32, cells_len: usize, from: u32, to: u32, before: u32) -> RunAnswer;
     fn lohenarr_size(dump: *const u8, len: usize, geometry: Geometry, cells: *const u32, cells_len: usize, object: u32) -> SizeAnswer;
     fn lohenarr_chunk(dump: *const u8, len: usize, geometry: Geometry, cells: *const u32, cells_len: usize, object: u32, n: u32) -> ChunkAnswer;
     fn lohenarr_read(dump: *const u8, len: usize, geometry: Geometry, cells: *const u32, cells_len: usize, object: u32, n: u32, buffer: *mut u8, buffer_len: usize) -> ChunkAnswer;
     fn lohenarr_part(dump: *const u8, len: usize, geometry: Geometry, cells: *const u32, cells_len: usize, object: u32, n: u32) -> PlaceAnswer;
     fn lohenarr_list(dump: *const u8, len: usize, geometry: Geometry, cells: *const u32, cells_len: usize, words: *mut u32, words_len: usize) -> ListAnswer;
+    fn lohenarr_records(dump: *const u8, len: usize, geometry: Geometry, cells: *const u32, cells_len: usize, object: u32, words: *mut u32, words_len: usize) -> ListAnswer;
     fn lohenarr_objects(dump: *const u8, len: usize, geometry: Geometry, cells: *const u32, cells_len: usize) -> TallyAnswer;
     fn lohenarr_table(dump: *const u8, len: usize, geometry: Geometry, cells: *const u32, cells_len: usize, object: u32, words: *mut u32, words_len: usize) -> TableAnswer;
     fn lohenarr_row(dump: *const u8, len: usize, geometry: Geometry, place: u32, valid: u32) -> PlaceAnswer;
@@ -390,6 +393,20 @@ pub fn add_run(dump: &[u8], on: Geometry, cells: &mut [u32], from: u32, to: u32)
     unsafe { lohenarr_add_run(dump.as_ptr(), dump.len(), on, at, words, from, to) }
 }
 
+/// Adds of the pages from one to before another the records that are older than
+/// page `before`, until one is refused.
+pub fn add_older(
+    dump: &[u8],
+    on: Geometry,
+    cells: &mut [u32],
+    pages: Range<u32>,
+    before: u32,
+) -> RunAnswer {
+    let (at, words) = (cells.as_mut_ptr(), cells.len());
+    let (from, to) = (pages.start, pages.end);
+    unsafe { lohenarr_add_older(dump.as_ptr(), dump.len(), on, at, words, from, to, before) }
+}
+
 /// The size of an object, by the index.
 pub fn size(dump: &[u8], on: Geometry, cells: &[u32], object: u32) -> SizeAnswer {
     let (at, words) = (cells.as_ptr(), cells.len());
@@ -421,6 +438,20 @@ pub fn list(dump: &[u8], on: Geometry, cells: &[u32], words: &mut [u32]) -> List
     let (at, count) = (cells.as_ptr(), cells.len());
     let (to, room) = (words.as_mut_ptr(), words.len());
     unsafe { lohenarr_list(dump.as_ptr(), dump.len(), on, at, count, to, room) }
+}
+
+/// The pages of the records of an object, from the newest to the oldest, by the
+/// index.
+pub fn records(
+    dump: &[u8],
+    on: Geometry,
+    cells: &[u32],
+    object: u32,
+    words: &mut [u32],
+) -> ListAnswer {
+    let (at, count) = (cells.as_ptr(), cells.len());
+    let (to, room) = (words.as_mut_ptr(), words.len());
+    unsafe { lohenarr_records(dump.as_ptr(), dump.len(), on, at, count, object, to, room) }
 }
 
 /// How many objects have an added record, by the index.

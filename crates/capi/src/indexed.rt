@@ -6,7 +6,8 @@ ghost use Rattle.capi.specs.Layouts.{geometryAt};
 ghost use Rattle.chunk.specs.Answers.{readBy, bufferBy, partBy};
 ghost use Rattle.chunk.specs.Lists.{wordsBy};
 ghost use Rattle.index.specs.Additions.{startOf, addOf};
-ghost use Rattle.index.specs.Runs.{runOf};
+ghost use Rattle.index.specs.Recorded.{pagesFrom, recordsFrom};
+ghost use Rattle.index.specs.Runs.{runOf, olderOf};
 ghost use Rattle.index.specs.Cells.{cellsFor};
 ghost use Rattle.index.specs.Listing.{listFrom, idsFrom, objectsFrom};
 ghost use Rattle.index.specs.Walks.{sizeFrom, chunkFrom};
@@ -39,6 +40,8 @@ use index::list::objects;
 use index::lookups::chunk;
 use index::lookups::read;
 use index::lookups::size;
+use index::records::records;
+use index::runs::add_older;
 use index::runs::add_run;
 use page::number::ChunkNumber;
 use page::number::ObjectId;
@@ -93,6 +96,30 @@ pub extern "C" fn lohenarr_add_run(
         cells,
         PageNumber(from),
         PageNumber(to),
+    ))
+}
+
+// Adds of the pages from one to before another the records that are older than a given one to the index, one after the other, until one is
+// refused; those before it stand.
+#[no_mangle]
+pub extern "C" fn lohenarr_add_older(
+    dump: &[u8],
+    geometry: Geometry,
+    cells: &mut [u32],
+    from: u32,
+    to: u32,
+    before: u32,
+) -> RunAnswer
+    ensures { λ r. ⌜ r ≡ runAnswer (olderOf (geometryAt geometry) (now (dump .entry)) (now (cells .entry)) from to before .answer) ⌝ }
+    ensures { λ _. ⌜ now (cells .exit) ≡ olderOf (geometryAt geometry) (now (dump .entry)) (now (cells .entry)) from to before .cells ⌝ }
+{
+    run_answer(add_older(
+        dump,
+        geometry_at(geometry),
+        cells,
+        PageNumber(from),
+        PageNumber(to),
+        PageNumber(before),
     ))
 }
 
@@ -185,6 +212,27 @@ pub extern "C" fn lohenarr_list(
     ensures { λ _. ⌜ now (words .exit) ≡ wordsBy (idsFrom (geometryAt geometry) (now (dump .entry)) (now (cells .entry))) (now (words .entry)) (listFrom (geometryAt geometry) (now (dump .entry)) (now (cells .entry)) (length (now (words .entry)))) ⌝ }
 {
     list_answer(list(dump, geometry_at(geometry), cells, words))
+}
+
+// The pages of the records of an object, written to words from the newest to the oldest. Words past them stay, and a refusal writes nothing.
+#[no_mangle]
+pub extern "C" fn lohenarr_records(
+    dump: &[u8],
+    geometry: Geometry,
+    cells: &[u32],
+    object: u32,
+    words: &mut [u32],
+) -> ListAnswer
+    ensures { λ r. ⌜ r ≡ listAnswer (recordsFrom (geometryAt geometry) (now (dump .entry)) (now (cells .entry)) object (length (now (words .entry)))) ⌝ }
+    ensures { λ _. ⌜ now (words .exit) ≡ wordsBy (pagesFrom (geometryAt geometry) (now (dump .entry)) (now (cells .entry)) object) (now (words .entry)) (recordsFrom (geometryAt geometry) (now (dump .entry)) (now (cells .entry)) object (length (now (words .entry)))) ⌝ }
+{
+    list_answer(records(
+        dump,
+        geometry_at(geometry),
+        cells,
+        ObjectId(object),
+        words,
+    ))
 }
 
 // How many objects have an added record.

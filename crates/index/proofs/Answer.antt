@@ -2,3 +2,4 @@
 pub mod Walked
 pub mod Lookups
 pub mod Listings
+pub mod Recorded

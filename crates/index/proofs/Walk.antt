@@ -2,4 +2,5 @@
 pub mod Walks
 pub mod Visits
 pub mod Standing
+pub mod Recorded
 pub mod Ahead

@@ -9,4 +9,5 @@ pub mod Ahead
 pub mod Listing
 pub mod Requests
 pub mod Runs
+pub mod Recorded
 pub mod Demand

@@ -1,9 +1,10 @@
 -- Adding a run of pages: one addition after the other, until one is refused. It is a list of additions in one call; those before the refused one
--- stand, and the refused one changes nothing.
+-- stand, and the refused one changes nothing. A run takes every page, or only the records that are older than a given one.
 use Prim.Native.Nat.{ℕ, zero, suc, _+_, _-_}
+use mathlib.Core.Bool.{Bool, true, not, _&&_}
 use mathlib.Core.List.{List, [], _∷_}
 use lib.ListN.{length}
-use lib.Dec.{ltb}
+use lib.Dec.{eqb, ltb, leb}
 use Rattle.page.specs.Choice.{pick}
 use Rattle.page.specs.Lengths.{openedOf}
 use Rattle.page.specs.Records.{recordAt}
@@ -11,7 +12,7 @@ use Rattle.page.specs.declared.record.Record.{Record}
 use Rattle.page.specs.declared.geometry.Geometry.{Geometry}
 use Rattle.page.specs.declared.geometry.Opened.{Opened}
 use Rattle.page.specs.declared.geometry.Opened.the-variants as opened
-use Rattle.page.specs.declared.refusal.Refusal.the-variants.{ShortIndex}
+use Rattle.page.specs.declared.refusal.Refusal.the-variants.{ShortIndex, BadPage}
 use Rattle.chunk.specs.Records.{ageOf}
 use Rattle.index.specs.Cells.{cellsFor}
 use Rattle.index.specs.Chains.{objects}
@@ -21,6 +22,13 @@ use Rattle.index.specs.declared.additions.Added.{Added}
 use Rattle.index.specs.declared.additions.Added.the-variants as added
 use Rattle.index.specs.declared.runs.Run.{Run}
 use Rattle.index.specs.declared.runs.Run.the-variants.{Done, Stopped}
+use Rattle.index.specs.declared.runs.Takes.{Takes}
+use Rattle.index.specs.declared.runs.Takes.the-variants.{Every, Older}
+
+-- the pages that are taken, where the pages say this: all, or the records below an age
+abbrev pub takenBy : Takes → (says : ℕ → Record) (page : ℕ) → Bool
+takenBy Every says p = true
+takenBy (Older b) says p = not (eqb (objects says p) 0) && ltb (ageOf says p) b
 
 -- what a run answers, and the cells that it leaves
 pub record Ran : Type 0 where
@@ -35,28 +43,45 @@ abbrev pub onward : Added → (cells : List ℕ) (page : ℕ) → (List ℕ → 
 onward added.Done c p rest = rest c
 onward (added.Refused r) c p rest = ran (Stopped (record { 0 = p }) r) c
 
--- so many pages from page p on, of n
-unfoldable pub runBy : (pages : ℕ) (obj age : ℕ → ℕ) (count from : ℕ) (cells : List ℕ) → Ran
-runBy n obj age zero p c = ran Done c
-runBy n obj age (suc m) p c = onward (addTo n obj age c p .answer) (addTo n obj age c p .cells) p (runBy n obj age m (p + 1))
+-- the pages taken of so many from page p on, of n
+unfoldable pub runBy : (taken : ℕ → Bool) (pages : ℕ) (obj age : ℕ → ℕ) (count from : ℕ) (cells : List ℕ) → Ran
+runBy taken n obj age zero p c = ran Done c
+runBy taken n obj age (suc m) p c =
+    let rest = runBy taken n obj age m (p + 1) in
+    pick (taken p) (onward (addTo n obj age c p .answer) (addTo n obj age c p .cells) p rest) (rest c)
 
 -- a dump or words that no addition would take stop a run at its first page, even if it has none to add
-unfoldable pub runIn : Opened → (says : ℕ → Record) (from to : ℕ) (cells : List ℕ) → Ran
-runIn (opened.Refused r) says from to c = ran (Stopped (record { 0 = from }) r) c
-runIn (opened.Pages n) says from to c =
+unfoldable pub runIn : Takes → Opened → (says : ℕ → Record) (from to : ℕ) (cells : List ℕ) → Ran
+runIn t (opened.Refused r) says from to c = ran (Stopped (record { 0 = from }) r) c
+runIn t (opened.Pages n) says from to c =
     pick (ltb (length c) (cellsFor n)) (ran (Stopped (record { 0 = from }) ShortIndex) c)
-    (runBy n (objects says) (ageOf says) (to - from) from c)
+    (runBy (takenBy t says) n (objects says) (ageOf says) (to - from) from c)
 
--- the pages of a dump from one to before another
-unfoldable pub runOf : Geometry → (dump cells : List ℕ) (from to : ℕ) → Ran
-runOf g dump c from to = runIn (openedOf g (length dump)) (recordAt g dump) from to c
+-- the pages taken of a dump from one to before another
+unfoldable pub takenOf : Takes → Geometry → (dump cells : List ℕ) (from to : ℕ) → Ran
+takenOf t g dump c from to = runIn t (openedOf g (length dump)) (recordAt g dump) from to c
 
--- the additions of a run as a list of requests: so many pages from page p on, each lent w words
-unfoldable pub adds : (k words count from : ℕ) → List Request
-adds k w zero p = []
-adds k w (suc m) p = add k w p ∷ adds k w m (p + 1)
+-- all of them
+abbrev pub runOf : Geometry → (dump cells : List ℕ) (from to : ℕ) → Ran
+runOf = takenOf Every
 
--- how many additions a run asked for: all of them, or those up to the refused one
+-- a page that the dump does not have, where it and the words would be taken
+abbrev pub onOlder : Opened → (cells : List ℕ) (before : ℕ) → (bad run : Ran) → Ran
+onOlder (opened.Refused r) c b bad run = run
+onOlder (opened.Pages n) c b bad run = pick (leb (cellsFor n) (length c) && leb n b) bad run
+
+-- of these, the records older than page b. A page that is no record has none that are older
+unfoldable pub olderOf : Geometry → (dump cells : List ℕ) (from to before : ℕ) → Ran
+olderOf g dump c from to b =
+    onOlder (openedOf g (length dump)) c b (ran (Stopped (record { 0 = from }) BadPage) c)
+    (takenOf (Older (ageOf (recordAt g dump) b)) g dump c from to)
+
+-- the additions of a run as a list of requests: of so many pages from page p on those taken, each lent w words
+unfoldable pub adds : (taken : ℕ → Bool) (k words count from : ℕ) → List Request
+adds taken k w zero p = []
+adds taken k w (suc m) p = let rest = adds taken k w m (p + 1) in pick (taken p) (add k w p ∷ rest) rest
+
+-- how many pages a run went over: all of them, or those up to the refused one
 unfoldable pub asked : Run → (from to : ℕ) → ℕ
 asked Done from to = to - from
 asked (Stopped p r) from to = p .0 - from + 1

@@ -5,6 +5,7 @@ pub mod chains;
 pub mod list;
 pub mod lookups;
 pub mod places;
+pub mod records;
 pub mod runs;
 pub mod slots;
 pub mod walks;
