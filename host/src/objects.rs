@@ -36,7 +36,8 @@ pub fn drawn() -> u32 {
     RandomState::new().build_hasher().finish() as u32
 }
 
-/// A dump with the index of all its pages.
+/// A dump with the index of all its pages, or of its records that are older than
+/// one.
 pub struct Objects<'d> {
     dump: &'d [u8],
     on: Geometry,
@@ -47,21 +48,28 @@ impl<'d> Objects<'d> {
     /// Makes the index, or gives the number of the refusal.
     pub fn of(dump: &'d [u8], on: Geometry) -> Result<Objects<'d>, u32> {
         let started = Started::of(dump, on, by_sequence(dump, on.layout))?;
-        Objects::telling(dump, on, started, |_| ())
+        Objects::telling(dump, on, started, None, |_| ())
     }
 
-    /// The same, of what was started; tells of each run of pages that is added how
-    /// many they are.
+    /// The same, of what was started, or with none but the records that are older
+    /// than the one on page `before`; tells of each run of pages that is gone over
+    /// how many they are.
     pub fn telling(
         dump: &'d [u8],
         on: Geometry,
         started: Started,
+        before: Option<u32>,
         mut tell: impl FnMut(u32),
     ) -> Result<Objects<'d>, u32> {
         let Started { mut cells, runs } = started;
         for (_, run) in runs {
-            ffi::add_run(dump, on, &mut cells, run.start, run.end).given()?;
-            tell(run.end - run.start);
+            let count = run.end - run.start;
+            let added = match before {
+                None => ffi::add_run(dump, on, &mut cells, run.start, run.end),
+                Some(page) => ffi::add_older(dump, on, &mut cells, run, page),
+            };
+            added.given()?;
+            tell(count);
         }
         Ok(Objects { dump, on, cells })
     }

@@ -3,8 +3,8 @@
 use crc32fast::hash as crc32;
 
 use crate::ffi::{
-    ChunkAnswer, CountsAnswer, KindAnswer, ListAnswer, PlaceAnswer, SizeAnswer, TableAnswer,
-    TallyAnswer,
+    ChunkAnswer, CountsAnswer, KindAnswer, ListAnswer, PlaceAnswer, RunAnswer, SizeAnswer,
+    TableAnswer, TallyAnswer,
 };
 use crate::fields;
 use crate::refusal::{kind_name, SHORT_BUFFER};
@@ -76,15 +76,32 @@ pub fn part(place: PlaceAnswer, dump: &[u8]) -> String {
     format!("part={offset}+{length}/{:08x}", crc32(place.of(dump)))
 }
 
+/// How a run of additions ended: with the page whose addition was refused.
+pub fn run(answer: RunAnswer) -> String {
+    match answer.refusal {
+        0 => done(0),
+        number => format!("{} page={}", done(number), answer.page),
+    }
+}
+
 /// The ids that a listing wrote in front of the words, and how many words it
 /// was lent.
 pub fn list(answer: ListAnswer, words: &[u32]) -> String {
+    listed("ids", answer, words)
+}
+
+/// The same of the pages of an object's records.
+pub fn records(answer: ListAnswer, words: &[u32]) -> String {
+    listed("records", answer, words)
+}
+
+fn listed(name: &str, answer: ListAnswer, words: &[u32]) -> String {
     if answer.refusal != 0 {
         return refused(answer.refusal, 0, answer.need);
     }
-    let ids = words.iter().take(answer.count as usize);
-    let ids: Vec<String> = ids.map(u32::to_string).collect();
-    format!("ids={} words={}", ids.join(","), words.len())
+    let listed = words.iter().take(answer.count as usize);
+    let listed: Vec<String> = listed.map(u32::to_string).collect();
+    format!("{name}={} words={}", listed.join(","), words.len())
 }
 
 pub fn objects(answer: TallyAnswer) -> String {

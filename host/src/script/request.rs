@@ -14,7 +14,8 @@ The requests of a script, one a line; # starts a comment:
 
   start L K WORDS   add PAGE          size OBJ          chunk OBJ N
   part OBJ N        list WORDS        objects           read OBJ N BUFLEN
-  table OBJ WORDS   fill X            poke I X          peek I
+  table OBJ WORDS   fill X            poke I X          records OBJ WORDS
+  peek I            older FROM TO PAGE
 
 L is P/S/T or a layout's number. The first ask the dump alone, the others an
 index: under the layout and K of the last accepted start, with as many words.
@@ -49,12 +50,14 @@ pub enum Request {
     Header { on: Geometry, page: u32 },
     Start { on: Geometry, words: usize, seed: u32 },
     Add { lent: Lent, page: u32 },
+    Older { lent: Lent, from: u32, to: u32, before: u32 },
     Size { over: Over, object: u32 },
     Chunk { over: Over, object: u32, n: u32 },
     Read { over: Over, object: u32, n: u32, length: usize },
     Part { over: Over, object: u32, n: u32 },
     List { over: Over, length: usize },
     Objects { over: Over },
+    Records { lent: Lent, object: u32, length: usize },
     Table { lent: Lent, object: u32, length: usize },
     Row { layout: u32, place: u32, valid: u32 },
     Fill { word: u32 },
@@ -63,7 +66,7 @@ pub enum Request {
 }
 
 impl Request {
-    /// How many words the request names, for the index, a list or a table.
+    /// How many words the request names, for the index or for what it lists.
     pub fn words(&self) -> Option<usize> {
         let over = |over: Over| match over {
             Over::Index(lent) => lent.words,
@@ -71,14 +74,16 @@ impl Request {
         };
         match *self {
             Request::Start { words, .. } => Some(words),
-            Request::Add { lent, .. } => lent.words,
+            Request::Add { lent, .. } | Request::Older { lent, .. } => lent.words,
             Request::Size { over: o, .. }
             | Request::Chunk { over: o, .. }
             | Request::Read { over: o, .. }
             | Request::Part { over: o, .. }
             | Request::Objects { over: o } => over(o),
             Request::List { over: o, length } => over(o).max(Some(length)),
-            Request::Table { lent, length, .. } => lent.words.max(Some(length)),
+            Request::Table { lent, length, .. } | Request::Records { lent, length, .. } => {
+                lent.words.max(Some(length))
+            }
             _ => None,
         }
     }
@@ -139,6 +144,12 @@ impl Words<'_> {
                 let page = self.number("PAGE")?;
                 Request::Add { lent, page }
             }
+            "older" => Request::Older {
+                lent: self.lent()?,
+                from: self.number("FROM")?,
+                to: self.number("TO")?,
+                before: self.number("PAGE")?,
+            },
             "fill" => Request::Fill { word: self.word()? },
             "poke" => Request::Poke {
                 at: self.length("I")?,
@@ -147,16 +158,16 @@ impl Words<'_> {
             "peek" => Request::Peek {
                 at: self.length("I")?,
             },
-            "table" => {
-                let lent = self.lent()?;
-                let object = self.number("OBJ")?;
-                let length = self.length("WORDS")?;
-                Request::Table {
-                    lent,
-                    object,
-                    length,
-                }
-            }
+            "table" => Request::Table {
+                lent: self.lent()?,
+                object: self.number("OBJ")?,
+                length: self.length("WORDS")?,
+            },
+            "records" => Request::Records {
+                lent: self.lent()?,
+                object: self.number("OBJ")?,
+                length: self.length("WORDS")?,
+            },
             "row" => Request::Row {
                 layout: self.next("L", layout)?,
                 place: self.number("PLACE")?,
@@ -297,6 +308,18 @@ mod tests {
                 },
             ),
             (
+                "older 0 8 4 k=4",
+                Request::Older {
+                    lent: Lent {
+                        k: Some(4),
+                        ..Lent::default()
+                    },
+                    from: 0,
+                    to: 8,
+                    before: 4,
+                },
+            ),
+            (
                 "  dread 6 4 257 1 512",
                 Request::Read {
                     over: Over::Dump(on),
@@ -365,7 +388,7 @@ mod tests {
             assert!(request(&format!("{line} 1")).is_err(), "{form}");
             count += 1;
         }
-        assert_eq!(count, 24);
+        assert_eq!(count, 26);
     }
 
     #[test]

@@ -58,6 +58,16 @@ impl<'d> Runner<'d> {
             Request::Peek { at } => format!("word={}", self.cell(at)?),
             Request::Start { on, words, seed } => self.start(on, words, seed),
             Request::Add { lent, page } => self.add(lent, page),
+            Request::Older {
+                lent,
+                from,
+                to,
+                before,
+            } => {
+                let (on, words) = self.given(lent);
+                let cells = &mut self.index[..words];
+                line::run(ffi::add_older(self.dump, on, cells, from..to, before))
+            }
             Request::Size { over, object } => self.size(over, object),
             Request::Chunk { over, object, n } => self.chunk(over, object, n),
             Request::Read {
@@ -75,6 +85,14 @@ impl<'d> Runner<'d> {
                 self.list(over, &mut answer.words)
             }
             Request::Objects { over } => self.objects(over),
+            Request::Records {
+                lent,
+                object,
+                length,
+            } => {
+                answer.words = filled(length, WORD)?;
+                self.records(lent, object, &mut answer.words)
+            }
             Request::Table {
                 lent,
                 object,
@@ -203,6 +221,13 @@ impl<'d> Runner<'d> {
                 ffi::objects(self.dump, on, &self.index[..words])
             }
         })
+    }
+
+    fn records(&self, lent: Lent, object: u32, words: &mut [u32]) -> String {
+        let (on, count) = self.given(lent);
+        let cells = &self.index[..count];
+        let answer = ffi::records(self.dump, on, cells, object, words);
+        line::records(answer, words)
     }
 
     fn table(&self, lent: Lent, object: u32, words: &mut [u32]) -> String {
