@@ -74,12 +74,13 @@ impl Asker<'_> {
             k: self.k(),
             words,
         };
-        match self.rng.chance(30) {
-            true => {
+        match self.rng.below(100) {
+            0..=29 => {
                 let page = self.page();
                 self.list.push(Request::Add { lent, page });
             }
-            false => self.lookup(Over::Index(lent)),
+            30..=34 => self.older(lent),
+            _ => self.lookup(Over::Index(lent)),
         }
     }
 

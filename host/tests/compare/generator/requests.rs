@@ -64,8 +64,10 @@ impl Asker<'_> {
         let n = self.chunk();
         let ids = self.dump.ids.len();
         if let Over::Index(lent) = over {
-            if self.rng.chance(15) {
-                return self.table(lent, object);
+            match self.rng.below(100) {
+                0..=14 => return self.table(lent, object),
+                15..=21 => return self.records(lent, object),
+                _ => {}
             }
         }
         let lookup = match self.rng.below(21) {
@@ -99,6 +101,37 @@ impl Asker<'_> {
             let row = self.row();
             self.list.push(row);
         }
+    }
+
+    /// The records of an object, in words that are mostly enough.
+    fn records(&mut self, lent: Lent, object: u64) {
+        let pages = self.pages() as usize;
+        let few = self.rng.below(8) as usize;
+        let buffer = self.rng.pick(&[pages, pages, pages + 1, few, pages / 2]);
+        self.list.push(Request::Records {
+            lent,
+            object,
+            buffer,
+        });
+    }
+
+    /// Additions of the older records of some pages, mostly of all.
+    pub fn older(&mut self, lent: Lent) {
+        let pages = self.pages();
+        let (from, to) = match self.rng.chance(60) {
+            true => (0, pages),
+            // the page where a run begins is told, in 32 bits
+            false => (self.page().min(0xFFFF_FFFF), self.page()),
+        };
+        // pages that the dump lacks are gone over one by one
+        let to = to.min(pages + self.rng.pick(&[0, 1, 100]));
+        let before = self.page();
+        self.list.push(Request::Older {
+            lent,
+            from,
+            to,
+            before,
+        });
     }
 
     /// A start that may be refused.
@@ -177,6 +210,15 @@ impl Asker<'_> {
             self.list.push(Request::Add { lent, page: 0 });
             return;
         };
+        if self.rng.chance(25) {
+            for _ in 0..self.rng.between(1, 3) {
+                let lent = self.lent(layout);
+                self.older(lent);
+                for _ in 0..self.rng.between(2, 6) {
+                    self.index_lookup(layout);
+                }
+            }
+        }
         self.additions(layout, pages);
         for _ in 0..self.rng.between(10, 20) {
             self.index_lookup(layout);
@@ -220,6 +262,10 @@ impl Asker<'_> {
             }
             if self.rng.chance(2) {
                 self.refused_start(layout);
+            }
+            if self.rng.chance(1) {
+                let lent = self.lent(layout);
+                self.older(lent);
             }
             let asked = if 3 * done < order.len() {
                 most / 4

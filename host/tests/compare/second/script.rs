@@ -11,8 +11,7 @@ use super::page::{Body, Field, Kind};
 use super::refusal::Refusal;
 
 /// One request with everything that its call is given. Lookups are over the
-/// dump alone or over the index; `buffer` counts bytes for a read and words
-/// for a list or a table.
+/// dump alone or over the index; `buffer` counts bytes for a read and else words.
 #[derive(Clone, Copy, Debug, PartialEq, Eq)]
 pub enum Request {
     Find {
@@ -43,6 +42,12 @@ pub enum Request {
     Add {
         lent: Lent,
         page: u64,
+    },
+    Older {
+        lent: Lent,
+        from: u64,
+        to: u64,
+        before: u64,
     },
     Size {
         over: Over,
@@ -81,6 +86,11 @@ pub enum Request {
         place: u64,
         valid: u64,
     },
+    Records {
+        lent: Lent,
+        object: u64,
+        buffer: usize,
+    },
     Fill {
         word: u32,
     },
@@ -100,21 +110,25 @@ pub struct Answer {
 
 impl Request {
     /// The words that the request names: those of the index that its call is
-    /// lent, and those of a list's or a table's buffer.
+    /// lent, and those of a buffer for words.
     pub fn words(&self) -> u64 {
         let lent = |over| match over {
             Over::Index(lent) => lent.words,
             Over::Dump(..) => 0,
         };
         match *self {
-            Request::Start { lent, .. } | Request::Add { lent, .. } => lent.words,
+            Request::Start { lent, .. }
+            | Request::Add { lent, .. }
+            | Request::Older { lent, .. } => lent.words,
             Request::Size { over, .. }
             | Request::Chunk { over, .. }
             | Request::Read { over, .. }
             | Request::Part { over, .. }
             | Request::Objects { over } => lent(over),
             Request::List { over, buffer } => lent(over).max(buffer as u64),
-            Request::Table { lent, buffer, .. } => lent.words.max(buffer as u64),
+            Request::Table { lent, buffer, .. } | Request::Records { lent, buffer, .. } => {
+                lent.words.max(buffer as u64)
+            }
             _ => 0,
         }
     }
@@ -170,6 +184,12 @@ impl fmt::Display for Request {
                 }
             }
             Request::Add { lent, page } => write!(f, "add {page} {}", options(lent)),
+            Request::Older {
+                lent,
+                from,
+                to,
+                before,
+            } => write!(f, "older {from} {to} {before} {}", options(lent)),
             Request::Size { over, object } => lookup(f, "size", over, &object.to_string()),
             Request::Chunk { over, object, n } => {
                 lookup(f, "chunk", over, &format!("{object} {n}"))
@@ -198,6 +218,11 @@ impl fmt::Display for Request {
                 place,
                 valid,
             } => write!(f, "row {layout} {place} {valid}"),
+            Request::Records {
+                lent,
+                object,
+                buffer,
+            } => write!(f, "records {object} {buffer} {}", options(lent)),
             Request::Fill { word } => write!(f, "fill {word:#x}"),
             Request::Poke { at, word } => write!(f, "poke {at} {word:#x}"),
         }
@@ -227,6 +252,12 @@ pub fn answer(reader: &mut Reader<'_>, request: &Request) -> Answer {
             .map_err(Refused::from),
         Request::Start { lent, seed } => done(reader.start(lent, seed)),
         Request::Add { lent, page } => done(reader.add(lent, page)),
+        Request::Older {
+            lent,
+            from,
+            to,
+            before,
+        } => Ok(run_line(reader.add_older(lent, from..to, before))),
         Request::Size { over, object } => reader
             .size(over, object)
             .map(|(size, visits)| format!("size={size} visits={visits}")),
@@ -246,10 +277,7 @@ pub fn answer(reader: &mut Reader<'_>, request: &Request) -> Answer {
         Request::List { over, buffer } => {
             answer.words = vec![0xA5A5_A5A5; buffer];
             let list = reader.list(over, &mut answer.words);
-            list.map(|ids| {
-                let ids: Vec<String> = ids.iter().map(u32::to_string).collect();
-                format!("ids={} words={buffer}", ids.join(","))
-            })
+            list.map(|ids| format!("ids={} words={buffer}", joined(&ids)))
         }
         Request::Objects { over } => reader
             .objects(over)
@@ -272,6 +300,15 @@ pub fn answer(reader: &mut Reader<'_>, request: &Request) -> Answer {
             place,
             valid,
         } => Ok(part_line(reader.row(layout, place, valid))),
+        Request::Records {
+            lent,
+            object,
+            buffer,
+        } => {
+            answer.words = vec![0xA5A5_A5A5; buffer];
+            let records = reader.records(lent, object, &mut answer.words);
+            records.map(|pages| format!("records={} words={buffer}", joined(&pages)))
+        }
         Request::Fill { word } => {
             reader.fill(word);
             done(Ok(()))
@@ -283,6 +320,19 @@ pub fn answer(reader: &mut Reader<'_>, request: &Request) -> Answer {
     };
     answer.line = line.unwrap_or_else(refusal_line);
     answer
+}
+
+/// Numbers with commas between them.
+fn joined(numbers: &[u32]) -> String {
+    let numbers: Vec<String> = numbers.iter().map(u32::to_string).collect();
+    numbers.join(",")
+}
+
+fn run_line(run: Result<(), (Refusal, u64)>) -> String {
+    match run {
+        Ok(()) => "done".to_string(),
+        Err((refusal, page)) => format!("{} page={page}", refusal_line(refusal.into())),
+    }
 }
 
 fn done(result: Result<(), Refusal>) -> Result<String, Refused> {

@@ -179,6 +179,21 @@ wrong_rules! {
     /// A start leaves the words that no rule reads.
     StartLeavesUnused,
 
+    /// A run of older records takes the record itself too.
+    OlderWithItself,
+    /// A run of older records takes those on lower pages.
+    OlderByPage,
+    /// A run of older records leaves out those of the same sequence.
+    OlderBySequenceAlone,
+    /// A run of older records takes those of the record's object alone.
+    OlderOfOneObject,
+    /// A run of older records takes every record.
+    EveryPageOlder,
+    /// A run of older records takes pages that are none.
+    OlderWithoutRecords,
+    /// A refused addition does not end a run.
+    RunPassesRefused,
+
     // What the words say.
     /// A start keeps no seed.
     SeedNotKept,
@@ -268,6 +283,16 @@ wrong_rules! {
     RowOfPage,
     /// The bytes of a row may reach into the spare.
     RowReachesSpare,
+
+    // Records of an object.
+    /// Records are listed in the order of their pages.
+    RecordsByPage,
+    /// Records are listed from the oldest on.
+    RecordsOldestFirst,
+    /// Records below the newest header are not listed.
+    RecordsFromHeader,
+    /// A damaged link ends the records like any other end.
+    RecordsPassDamage,
 
     // Counting.
     /// Only live objects are counted.

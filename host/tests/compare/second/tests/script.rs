@@ -30,6 +30,23 @@ fn requests_as_lines() {
         (Request::Kind { layout, k, page }, "kind 512/16/0 4 3"),
         (Request::Start { lent, seed: 0 }, "start 6 4 48"),
         (Request::Start { lent, seed: 16 }, "start 6 4 48 seed=0x10"),
+        (
+            Request::Older {
+                lent,
+                from: 0,
+                to: 8,
+                before: 4,
+            },
+            "older 0 8 4 k=4 words=48 layout=6",
+        ),
+        (
+            Request::Records {
+                lent,
+                object,
+                buffer: 7,
+            },
+            "records 257 7 k=4 words=48 layout=6",
+        ),
         (Request::Add { lent, page }, "add 3 k=4 words=48 layout=6"),
         (Request::Size { over: dump, object }, "dsize 512/16/0 4 257"),
         (read(dump), "dread 512/16/0 4 257 1 512"),
