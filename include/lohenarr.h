@@ -154,6 +154,25 @@ typedef struct {
     uint32_t rows;
 } lohenarr_table_answer;
 
+/* The size of a file and how many rows its copies are. damaged is 1 where a
+ * damaged link of the index keeps a chunk from being found. Beside ShortBuffer,
+ * need is how many words it needs. */
+typedef struct {
+    uint32_t refusal;
+    uint32_t count;
+    uint64_t size;
+    uint32_t need;
+    uint32_t damaged;
+} lohenarr_copies_answer;
+
+/* The copy of a chunk: the page that holds it, and how many of its bytes are
+ * valid. */
+typedef struct {
+    uint32_t chunk;
+    uint32_t page;
+    uint32_t valid;
+} lohenarr_copy_answer;
+
 /* The most bytes that a dump has. */
 size_t lohenarr_most_bytes(void);
 
@@ -262,6 +281,16 @@ lohenarr_table_answer lohenarr_table(const uint8_t *dump, size_t len, lohenarr_g
 
 /* The valid bytes of the copy that a row of a table names, as a part of the dump. */
 lohenarr_place_answer lohenarr_row(const uint8_t *dump, size_t len, lohenarr_geometry geometry, uint32_t place, uint32_t valid);
+
+/* The copies that a file shows, ascending by chunk: a row of one number for
+ * each, and none for a hole. It takes two words for each copy that the object's
+ * records hold, older ones too, whatever size the file claims. The rows come
+ * first; the rest of those words is cleared, and words past them stay as they
+ * were. */
+lohenarr_copies_answer lohenarr_copies(const uint8_t *dump, size_t len, lohenarr_geometry geometry, const uint32_t *cells, size_t cells_len, uint32_t object, uint64_t *rows, size_t rows_len);
+
+/* The copy that a row of copies tells. */
+lohenarr_copy_answer lohenarr_copy(uint64_t row);
 
 #ifdef __cplusplus
 }

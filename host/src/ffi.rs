@@ -34,7 +34,7 @@ macro_rules! answers {
 
 answers! {
     LayoutAnswer PagesAnswer CountsAnswer KindAnswer HeaderAnswer PartAnswer SizeAnswer ChunkAnswer
-    ListAnswer TallyAnswer TableAnswer RunAnswer
+    ListAnswer TallyAnswer TableAnswer CopiesAnswer RunAnswer
 }
 
 /// How a dump is cut into pages and blocks: a layout by its number in the table,
@@ -232,6 +232,29 @@ pub struct TableAnswer {
     pub rows: u32,
 }
 
+/// The size of a file and how many rows its copies are; `damaged` is 1 where a
+/// damaged link keeps a chunk from being found. Beside ShortBuffer `need` is how
+/// many words it needs.
+#[repr(C)]
+#[derive(Clone, Copy, Debug, PartialEq, Eq)]
+pub struct CopiesAnswer {
+    pub refusal: u32,
+    pub count: u32,
+    pub size: u64,
+    pub need: u32,
+    pub damaged: u32,
+}
+
+/// The copy of a chunk: the page that holds it, and how many of its bytes are
+/// valid.
+#[repr(C)]
+#[derive(Clone, Copy, Debug, PartialEq, Eq)]
+pub struct CopyAnswer {
+    pub chunk: u32,
+    pub page: u32,
+    pub valid: u32,
+}
+
 #[rustfmt::skip]
 extern "C" {
     fn lohenarr_most_bytes() -> usize;
@@ -267,6 +290,8 @@ extern "C" {
     fn lohenarr_objects(dump: *const u8, len: usize, geometry: Geometry, cells: *const u32, cells_len: usize) -> TallyAnswer;
     fn lohenarr_table(dump: *const u8, len: usize, geometry: Geometry, cells: *const u32, cells_len: usize, object: u32, words: *mut u32, words_len: usize) -> TableAnswer;
     fn lohenarr_row(dump: *const u8, len: usize, geometry: Geometry, place: u32, valid: u32) -> PlaceAnswer;
+    fn lohenarr_copies(dump: *const u8, len: usize, geometry: Geometry, cells: *const u32, cells_len: usize, object: u32, rows: *mut u64, rows_len: usize) -> CopiesAnswer;
+    fn lohenarr_copy(row: u64) -> CopyAnswer;
 }
 
 /// The most bytes that a dump has.
@@ -472,4 +497,18 @@ pub fn table(dump: &[u8], on: Geometry, cells: &[u32], object: u32, words: &mut 
 /// dump.
 pub fn row(dump: &[u8], on: Geometry, place: u32, valid: u32) -> PlaceAnswer {
     unsafe { lohenarr_row(dump.as_ptr(), dump.len(), on, place, valid) }
+}
+
+/// The copies that a file shows, ascending by chunk, a number for each, by the
+/// index.
+#[rustfmt::skip]
+pub fn copies(dump: &[u8], on: Geometry, cells: &[u32], object: u32, rows: &mut [u64]) -> CopiesAnswer {
+    let (at, count) = (cells.as_ptr(), cells.len());
+    let (to, room) = (rows.as_mut_ptr(), rows.len());
+    unsafe { lohenarr_copies(dump.as_ptr(), dump.len(), on, at, count, object, to, room) }
+}
+
+/// The copy that a row of copies tells.
+pub fn copy(row: u64) -> CopyAnswer {
+    unsafe { lohenarr_copy(row) }
 }

@@ -52,6 +52,9 @@ fn places() -> String {
         ("tally_answer.count", offset_of!(TallyAnswer, count)),
         ("table_answer.size", offset_of!(TableAnswer, size)),
         ("table_answer.rows", offset_of!(TableAnswer, rows)),
+        ("copies_answer.size", offset_of!(CopiesAnswer, size)),
+        ("copies_answer.damaged", offset_of!(CopiesAnswer, damaged)),
+        ("copy_answer.valid", offset_of!(CopyAnswer, valid)),
         ("run_answer.page", offset_of!(RunAnswer, page)),
     ];
     let lines = fields.map(|(field, offset)| format!("lohenarr_{field} {offset}\n"));
@@ -68,6 +71,8 @@ fn places() -> String {
         size_of::<ListAnswer>(),
         size_of::<TallyAnswer>(),
         size_of::<TableAnswer>(),
+        size_of::<CopiesAnswer>(),
+        size_of::<CopyAnswer>(),
         size_of::<RunAnswer>(),
     ];
     let sizes = sizes.map(|size| format!(" {size}"));
@@ -98,6 +103,8 @@ objects 0: 1
 table 11: need 6, 7
 table 0: size 1034, rows 3: 3 300 0 0 8 10 7
 row 3168+10
+copies 11: need 4, 7
+copies 0: size 1034, damaged 0: 1/1/300 3/6/10 7
 ";
     let shelf = File::open(Path::new(HOST).join("tests/data/W")).unwrap();
     let output = Command::new(compiled()).stdin(shelf).output().unwrap();

@@ -56,10 +56,12 @@ fn rust_field(field: &str) -> Vec<String> {
         "&mut [u8]" => slice("mut bytes"),
         "&[u32]" => slice("words"),
         "&mut [u32]" => slice("mut words"),
+        "&mut [u64]" => slice("mut longs"),
         "*const u8" => vec![format!("bytes {name}")],
         "*mut u8" => vec![format!("mut bytes {name}")],
         "*const u32" => vec![format!("words {name}")],
         "*mut u32" => vec![format!("mut words {name}")],
+        "*mut u64" => vec![format!("mut longs {name}")],
         kind => match kind.starts_with(|c: char| c.is_ascii_uppercase()) {
             true => vec![format!("{} {name}", c_name(kind))],
             false => vec![format!("{kind} {name}")],
@@ -131,6 +133,7 @@ fn c_field(field: &str) -> String {
         ("uint8_t", true) => "mut bytes",
         ("const uint32_t", true) => "words",
         ("uint32_t", true) => "mut words",
+        ("uint64_t", true) => "mut longs",
         (kind, false) if kind.starts_with("lohenarr_") => kind,
         _ => panic!("unknown type of {field}"),
     };

@@ -1,6 +1,6 @@
--- What the lookups of an object, listings, tables, counts of objects, starts and additions answer, as the exports give it.
+-- What the lookups of an object, listings, tables, copies, counts of objects, starts and additions answer, as the exports give it.
 use Prim.Native.Nat.{ℕ, _-_, _*_}
-use mathlib.Core.Bool.{_&&_}
+use mathlib.Core.Bool.{_&&_, cond}
 use lib.Dec.{leb, ltb}
 use Rattle.page.specs.Choice.{pick}
 use Rattle.page.specs.Refusals.{refusalNumber}
@@ -19,6 +19,9 @@ use Rattle.index.specs.declared.additions.Added.{Added}
 use Rattle.index.specs.declared.additions.Added.the-variants as added
 use Rattle.index.specs.declared.runs.Run.{Run}
 use Rattle.index.specs.declared.runs.Run.the-variants as run
+use Rattle.file.specs.declared.copies.Copied.{Copied}
+use Rattle.file.specs.declared.copies.Copied.the-variants as copied
+use Rattle.file.specs.declared.copy.Copy.{Copy}
 use Rattle.file.specs.declared.table.Tabled.{Tabled}
 use Rattle.file.specs.declared.table.Tabled.the-variants as tabled
 use Rattle.capi.specs.declared.answer.SizeAnswer.{SizeAnswer}
@@ -26,6 +29,8 @@ use Rattle.capi.specs.declared.answer.ChunkAnswer.{ChunkAnswer}
 use Rattle.capi.specs.declared.answer.PlaceAnswer.{PlaceAnswer}
 use Rattle.capi.specs.declared.answer.ListAnswer.{ListAnswer}
 use Rattle.capi.specs.declared.answer.TableAnswer.{TableAnswer}
+use Rattle.capi.specs.declared.answer.CopiesAnswer.{CopiesAnswer}
+use Rattle.capi.specs.declared.answer.CopyAnswer.{CopyAnswer}
 use Rattle.capi.specs.declared.answer.RunAnswer.{RunAnswer}
 use Rattle.capi.specs.declared.answer.TallyAnswer.{TallyAnswer}
 
@@ -92,6 +97,14 @@ tallyAnswer (tallied.Count m) = record { refusal = 0; count = m }
 abbrev pub tableAnswer : Tabled → TableAnswer
 tableAnswer (tabled.Refused r n) = record { refusal = refusalNumber r; need = n; size = 0; rows = 0 }
 tableAnswer (tabled.Rows z m) = record { refusal = 0; need = 0; size = z; rows = m }
+
+-- a damaged link is marked by 1
+abbrev pub copiesAnswer : Copied → CopiesAnswer
+copiesAnswer (copied.Refused r n) = record { refusal = refusalNumber r; count = 0; size = 0; need = n; damaged = 0 }
+copiesAnswer (copied.Rows z m d) = record { refusal = 0; count = m; size = z; need = 0; damaged = cond d 1 0 }
+
+abbrev pub copyAnswer : Copy → CopyAnswer
+copyAnswer x = record { chunk = x .chunk; page = x .page; valid = x .valid }
 
 -- the number of a refused start or addition; 0 where it was done
 abbrev pub addedAnswer : Added → ℕ

@@ -1,10 +1,12 @@
 // What the lookups of an object answer, whether on a dump alone or on an index.
 ghost use mathlib.Core.Path.{_≡_};
-ghost use Rattle.capi.specs.Lookups.{sizeAnswer, chunkAnswer, placeOf, placeAnswer, listAnswer, tallyAnswer, tableAnswer, addedAnswer, runAnswer};
+ghost use Rattle.capi.specs.Lookups.{sizeAnswer, chunkAnswer, placeOf, placeAnswer, listAnswer, tallyAnswer, tableAnswer, copiesAnswer, copyAnswer, addedAnswer, runAnswer};
 use chunk::answer::Listed;
 use chunk::answer::Looked;
 use chunk::answer::Sized;
 use chunk::answer::Tallied;
+use file::copies::Copied;
+use file::copy::Copy;
 use file::table::Tabled;
 use index::additions::Added;
 use index::runs::Run;
@@ -54,6 +56,25 @@ pub struct TableAnswer {
     pub need: u32,
     pub size: u64,
     pub rows: u32,
+}
+
+// The size of a file and how many rows its copies are; 1 in `damaged` if a damaged link keeps one of its chunks from being found. Beside
+// ShortBuffer `need` is how many words it needs, and 0 else.
+#[repr(C)]
+pub struct CopiesAnswer {
+    pub refusal: u32,
+    pub count: u32,
+    pub size: u64,
+    pub need: u32,
+    pub damaged: u32,
+}
+
+// The copy of a chunk: the page that holds it, and how many of its bytes are valid.
+#[repr(C)]
+pub struct CopyAnswer {
+    pub chunk: u32,
+    pub page: u32,
+    pub valid: u32,
 }
 
 // How a run of additions ended: with 0 all were done, else the addition of this page was refused, and those before it stand.
@@ -193,6 +214,37 @@ pub(crate) fn table_answer(t: Tabled) -> TableAnswer
             size,
             rows,
         },
+    }
+}
+
+pub(crate) fn copies_answer(a: Copied) -> CopiesAnswer
+    ensures { λ r. ⌜ r ≡ copiesAnswer a ⌝ }
+{
+    match a {
+        Copied::Refused(r, need) => CopiesAnswer {
+            refusal: r.number(),
+            count: 0,
+            size: 0,
+            need,
+            damaged: 0,
+        },
+        Copied::Rows(size, count, damaged) => CopiesAnswer {
+            refusal: 0,
+            count,
+            size,
+            need: 0,
+            damaged: damaged as u32,
+        },
+    }
+}
+
+pub(crate) fn copy_answer(x: Copy) -> CopyAnswer
+    ensures { λ r. ⌜ r ≡ copyAnswer x ⌝ }
+{
+    CopyAnswer {
+        chunk: x.chunk,
+        page: x.page,
+        valid: x.valid,
     }
 }
 

@@ -1,5 +1,5 @@
-// Starting an index in lent words, adding pages to it, and what it answers: lookups of an object, a file's table, the live list, the number of
-// objects.
+// Starting an index in lent words, adding pages to it, and what it answers: lookups of an object, a file's table, its copies, the live list, the
+// number of objects.
 ghost use mathlib.Core.Path.{_≡_};
 ghost use lib.ListN.{length, take, drop};
 ghost use Rattle.capi.specs.Layouts.{geometryAt};
@@ -11,9 +11,12 @@ ghost use Rattle.index.specs.Runs.{runOf, olderOf};
 ghost use Rattle.index.specs.Cells.{cellsFor};
 ghost use Rattle.index.specs.Listing.{listFrom, idsFrom, objectsFrom};
 ghost use Rattle.index.specs.Walks.{sizeFrom, chunkFrom};
+ghost use Rattle.file.specs.Copies.{copyOf, copiedFrom, rowsFrom};
 ghost use Rattle.file.specs.Table.{rowPart, tableFrom, filledBy};
-ghost use Rattle.capi.specs.Lookups.{sizeAnswer, chunkAnswer, placeAnswer, rowPlace, listAnswer, tallyAnswer, tableAnswer, addedAnswer, runAnswer};
+ghost use Rattle.capi.specs.Lookups.{sizeAnswer, chunkAnswer, placeAnswer, rowPlace, listAnswer, tallyAnswer, tableAnswer, copiesAnswer, copyAnswer, addedAnswer, runAnswer};
 use crate::answer::ChunkAnswer;
+use crate::answer::CopiesAnswer;
+use crate::answer::CopyAnswer;
 use crate::answer::ListAnswer;
 use crate::answer::PlaceAnswer;
 use crate::answer::RunAnswer;
@@ -22,6 +25,8 @@ use crate::answer::TableAnswer;
 use crate::answer::TallyAnswer;
 use crate::answer::added_answer;
 use crate::answer::chunk_answer;
+use crate::answer::copies_answer;
+use crate::answer::copy_answer;
 use crate::answer::list_answer;
 use crate::answer::place_answer;
 use crate::answer::place_of;
@@ -31,6 +36,8 @@ use crate::answer::table_answer;
 use crate::answer::tally_answer;
 use crate::layout::Geometry;
 use crate::layout::geometry_at;
+use file::copies::copies;
+use file::copy::Copy;
 use file::table::table;
 use index::additions::add;
 use index::additions::start;
@@ -226,13 +233,7 @@ pub extern "C" fn lohenarr_records(
     ensures { λ r. ⌜ r ≡ listAnswer (recordsFrom (geometryAt geometry) (now (dump .entry)) (now (cells .entry)) object (length (now (words .entry)))) ⌝ }
     ensures { λ _. ⌜ now (words .exit) ≡ wordsBy (pagesFrom (geometryAt geometry) (now (dump .entry)) (now (cells .entry)) object) (now (words .entry)) (recordsFrom (geometryAt geometry) (now (dump .entry)) (now (cells .entry)) object (length (now (words .entry)))) ⌝ }
 {
-    list_answer(records(
-        dump,
-        geometry_at(geometry),
-        cells,
-        ObjectId(object),
-        words,
-    ))
+    list_answer(records(dump, geometry_at(geometry), cells, ObjectId(object), words))
 }
 
 // How many objects have an added record.
@@ -282,4 +283,28 @@ pub extern "C" fn lohenarr_row(
         PageNumber(place - 2),
         valid,
     )
+}
+
+// The copies that a file shows, a row of one number for each, ascending by chunk; holes have no row. The rest of the words that were needed is
+// cleared, words past those stay, and a refusal writes nothing.
+#[no_mangle]
+pub extern "C" fn lohenarr_copies(
+    dump: &[u8],
+    geometry: Geometry,
+    cells: &[u32],
+    object: u32,
+    rows: &mut [u64],
+) -> CopiesAnswer
+    ensures { λ r. ⌜ r ≡ copiesAnswer (copiedFrom (geometryAt geometry) (now (dump .entry)) (now (cells .entry)) object (length (now (rows .entry)))) ⌝ }
+    ensures { λ _. ⌜ now (rows .exit) ≡ rowsFrom (geometryAt geometry) (now (dump .entry)) (now (cells .entry)) object (now (rows .entry)) (copiedFrom (geometryAt geometry) (now (dump .entry)) (now (cells .entry)) object (length (now (rows .entry)))) ⌝ }
+{
+    copies_answer(copies(dump, geometry_at(geometry), cells, ObjectId(object), rows))
+}
+
+// The copy that a row of copies tells.
+#[no_mangle]
+pub extern "C" fn lohenarr_copy(row: u64) -> CopyAnswer
+    ensures { λ r. ⌜ r ≡ copyAnswer (copyOf row) ⌝ }
+{
+    copy_answer(Copy::of(row))
 }

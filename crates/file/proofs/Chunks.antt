@@ -58,6 +58,11 @@ chunk-in P z c p h m b =
     let q = d .1 (omega arith) in
     rw (ne-eqb z 0 (λ e. absurd (omega arith))) (omega arith)
 
+-- all have numbers
+pub chunks-most : (P z : ℕ) → chunksIn P z ≤ mostChunk
+unfolding chunksIn
+chunks-most P z = by-test (eqb z 0) _ (λ t. rw t (omega arith)) (λ t. rw t (omega arith))
+
 -- the words of a row do not go by the records visited
 same-words : (a : Looked) → (whereWord (unvisited a) ≡ whereWord a) × (validWord (unvisited a) ≡ validWord a)
 same-words (looked.Copy p a s v) = (refl, refl)

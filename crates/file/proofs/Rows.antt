@@ -7,8 +7,8 @@ use mathlib.Core.Path.{_≡_, refl, sym, ap, _∙_}
 use native.Mathlib.Omega.{arith}
 use lib.ListN.{length, take, drop, set, getD, replicate, length-set, length-append, length-drop, length-replicate, getD-replicate, List·getD-append, take-append-drop}
 use lib.Seq.{take-suc, getD-set-same, getD-set-other, getD-drop, drop-set-lt, drop-at, drop-drop}
-use lib.Dec.{eqb, ltb}
-use borrow.Author.Tests.{eqb-true, eqb-false, eq-eqb, ne-eqb, ltb-false, le-ltb, not-true}
+use lib.Dec.{eqb}
+use borrow.Author.Tests.{eqb-true, eqb-false, eq-eqb, ne-eqb, not-true}
 use Rattle.page.specs.Records.{isHeader}
 use Rattle.page.specs.declared.record.Data.{Data}
 use Rattle.page.specs.declared.record.Record.{Record}
@@ -29,7 +29,9 @@ use Rattle.index.specs.Ahead.{stillNewest, ahead}
 use Rattle.index.proofs.Walk.Walks.{no-copy}
 use Rattle.index.proofs.Walk.Ahead.{ahead-here, ahead-on}
 use Rattle.index.proofs.Sorted.Order.{never}
+use Rattle.file.specs.Shows.{isMet}
 use Rattle.file.specs.Table.{whereWord, validWord, wordsOf, rowAt, rows, noted, closedWord, Closed}
+use Rattle.file.proofs.IsMet.{met-in, is-met}
 
 -- a row that has these words
 pub record Has (t : List ℕ) (c place valid : ℕ) : Type 0 where
@@ -67,20 +69,12 @@ module _ (t : List ℕ) (m P size : ℕ) (cut : Cut) (q ch n : ℕ) where
   pub noting : Noted t m P size cut q ch n
   unfolding noted
   noting =
-      by-test (eqb ch 0) _
-      (λ a. passed (rw a refl))
+      by-test (isMet P m cut ch) _
       (λ a.
-      by-test (ltb m ch) _
-      (λ b. passed (rw (a, b) refl))
-      (λ b.
       by-test (eqb (word t (rowAt ch)) 0) _
-      (λ d.
-      by-test (hides cut (baseOf P ch)) _
-      (λ e. passed (rw (a, b, d, e) refl))
-      (λ e.
-      let z : ch ≡ 0 → ⊥ = eqb-false ch 0 a in
-      wrote (omega arith) (ltb-false _ _ b) (eqb-true _ _ d) e (rw (a, b, d, e) refl)))
-      (λ d. passed (rw (a, b, d) refl))))
+      (λ d. let i = met-in P m cut ch a in wrote (i .0) (i .1) (eqb-true _ _ d) (i .2) (rw (a, d) refl))
+      (λ d. passed (rw (a, d) refl)))
+      (λ a. passed (rw a refl))
 
   writes :
       0 < ch →
@@ -89,13 +83,7 @@ module _ (t : List ℕ) (m P size : ℕ) (cut : Cut) (q ch n : ℕ) where
       hides cut (baseOf P ch) ≡ false →
       noted t m P size cut q ch n ≡ stored t P size cut q ch n
   unfolding noted
-  writes h i z b =
-      rw (
-        ne-eqb ch 0 (λ e. absurd (omega arith)),
-        le-ltb m ch i,
-        eq-eqb (word t (rowAt ch)) 0 z,
-        b,
-      )
+  writes h i z b = rw (is-met P m cut ch h i b, eq-eqb (word t (rowAt ch)) 0 z)
 
   -- noting leaves the length, and the words behind the rows
   pub noted-length : length (noted t m P size cut q ch n) ≡ length t

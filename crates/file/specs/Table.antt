@@ -2,7 +2,7 @@
 -- first word says where the copy is: 0 for a hole, 1 where a damaged link is met before a copy, q + 2 for page q. The second is the copy's
 -- valid length.
 use Prim.Native.Nat.{ℕ, zero, suc, _+_, _-_, _*_, _/_, _≤_, _<_, min}
-use mathlib.Core.Bool.{true, not, _||_}
+use mathlib.Core.Bool.{true, not}
 use mathlib.Core.List.{List, [], _∷_, _++_}
 use mathlib.Core.Path.{_≡_}
 use lib.ListN.{length, set, drop}
@@ -13,7 +13,7 @@ use Rattle.page.specs.declared.record.Record.{Record}
 use Rattle.page.specs.declared.geometry.Geometry.{Geometry}
 use Rattle.page.specs.declared.refusal.Refusal.the-variants.{ShortBuffer}
 use Rattle.chunk.specs.Records.{baseOf}
-use Rattle.chunk.specs.Cuts.{hides, leaves}
+use Rattle.chunk.specs.Cuts.{leaves}
 use Rattle.chunk.specs.Answers.{validPart}
 use Rattle.chunk.specs.declared.cut.Cut.{Cut}
 use Rattle.chunk.specs.declared.cut.Cut.the-variants.{Nowhere}
@@ -26,6 +26,7 @@ use Rattle.index.specs.Cells.{word, linkTo}
 use Rattle.index.specs.Chains.{top}
 use Rattle.index.specs.Walks.{under, sizeFrom}
 use Rattle.index.specs.Ahead.{ahead}
+use Rattle.file.specs.Shows.{isMet}
 use Rattle.file.specs.declared.table.Tabled.{Tabled}
 use Rattle.file.specs.declared.table.Tabled.the-variants.{Rows, Refused}
 
@@ -79,14 +80,12 @@ tableFrom g dump cells o room = tableBy (g .layout .«data») room (sizeFrom g d
 abbrev pub allAhead : (says : ℕ → Record) (P size pages : ℕ) (cells : List ℕ) (object first chunk : ℕ) → Looked
 allAhead says P size n cells o first c = ahead says P c (shownOf P c size) true Nowhere (under says n cells o top first)
 
--- a table of m rows in which page q, of chunk number c and byte count n, is noted: if the chunk has a row, nothing is noted there, and no newer
--- header hides it
+-- a table of m rows in which page q, of chunk number c and byte count n, is noted: if it is met as a copy, and nothing is noted in its row
 unfoldable pub noted : (table : List ℕ) (rows P size : ℕ) → Cut → (page chunk count : ℕ) → List ℕ
 noted t m P size cut q c n =
-    pick (eqb c 0 || ltb m c) t
+    pick (not (isMet P m cut c)) t
     (pick (not (eqb (word t (rowAt c)) 0)) t
-    (pick (hides cut (baseOf P c)) t
-    (set (set t (rowAt c) (linkTo q)) (rowAt c + 1) (min n (leaves cut (baseOf P c) (shownOf P c size))))))
+    (set (set t (rowAt c) (linkTo q)) (rowAt c + 1) (min n (leaves cut (baseOf P c) (shownOf P c size)))))
 
 -- the first word of a row after a damaged link was met
 abbrev pub closedWord : ℕ → ℕ

@@ -9,11 +9,10 @@ ghost use Rattle.page.specs.declared.geometry.Opened.the-variants as opened;
 ghost use Rattle.index.specs.Cells.{cellsFor};
 ghost use Rattle.index.specs.Walks.{chunkFrom};
 ghost use Rattle.file.specs.Table.{wordsOf, chunksIn, rows, allAhead, noted, closedWord, Closed, filledBy, tableFrom};
+use crate::shows::is_met;
+use crate::shows::valid_in;
 use chunk::answer::Sized;
 use chunk::cut::Cut;
-use chunk::lookup::shown_of;
-use chunk::lookup::valid_of;
-use chunk::record::base_of;
 use chunk::record::smaller;
 use index::cells::clear;
 use index::cells::link_at;
@@ -51,7 +50,7 @@ fn words_of(count: u32) -> usize
 }
 
 // How many chunks a file of this size has, of those that have numbers.
-fn chunks_in(data: u32, size: u64) -> u32
+pub(crate) fn chunks_in(data: u32, size: u64) -> u32
     requires { ⌜ 0 < «data» ⌝ }
     ensures { λ r. ⌜ r ≡ chunksIn «data» size ⌝ }
     ensures { λ r. ⌜ r < 2 ^ 20 ⌝ }
@@ -62,28 +61,20 @@ fn chunks_in(data: u32, size: u64) -> u32
     smaller(ChunkNumber::MOST as u64, (size - 1) / (data as u64) + 1) as u32
 }
 
-// Notes page q, of this data, in the row of its chunk, if the table has one, nothing is noted there yet, and the lowest cut of newer headers does
-// not hide the chunk.
+// Notes page q, of this data, in the row of its chunk, if it is met as a copy and nothing is noted there yet.
 fn note(table: &mut [u32], count: u32, data: u32, size: u64, cut: Cut, q: PageNumber, d: Data)
     requires { ⌜ wordsOf count ≤ length (now table) ⌝ }
     requires { ⌜ q .0 < 2 ^ 31 ⌝ }
     ensures { λ _. ⌜ now (table .exit) ≡ noted (now (table .entry)) count «data» size cut (q .0) (d .chunk .0) (d .count) ⌝ }
 {
-    if d.chunk.0 == 0 {
-        return;
-    }
-    if count < d.chunk.0 {
+    if !is_met(count, data, cut, d) {
         return;
     }
     let i = words_of(d.chunk.0 - 1);
     if table[i] != 0 {
         return;
     }
-    let base = base_of(data, d.chunk);
-    if cut.hides(base) {
-        return;
-    }
-    let valid = valid_of(d.count, shown_of(data, size, base), cut, base);
+    let valid = valid_in(data, size, cut, d);
     table[i] = q.0 + PAGES;
     table[i + 1] = valid;
 }

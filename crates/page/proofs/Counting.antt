@@ -8,11 +8,13 @@ use native.Mathlib.Numerals.{add-one}
 use native.Mathlib.Omega.{arith}
 use lib.ListN.{length}
 use Rattle.page.specs.Search.{count, more}
-use Rattle.page.specs.Lengths.{pageCount}
+use Rattle.page.specs.Lengths.{pageCount, openedOf}
 use Rattle.page.specs.Kinds.{kindAt}
-use Rattle.page.specs.Counts.{countsBelow, withKind, AtMost, isBlank, isForeign, isDamaged, isHeader, isData}
+use Rattle.page.specs.Counts.{countsBelow, countedIn, countedOf, withKind, AtMost, isBlank, isForeign, isDamaged, isHeader, isData}
 use Rattle.page.specs.declared.geometry.Geometry.{Geometry}
 use Rattle.page.specs.declared.count.Counts.{Counts}
+use Rattle.page.specs.declared.count.Counted.the-variants as counted
+use Rattle.page.specs.declared.geometry.Opened.the-variants.{Pages}
 use Rattle.page.specs.declared.kind.Kind.{Kind}
 use Rattle.page.specs.declared.kind.Kind.the-variants.{Blank, Foreign, Damaged, Header, Data}
 use Rattle.page.proofs.Searching.{count-le}
@@ -46,6 +48,11 @@ module _ (g : Geometry) (dump : List ℕ) where
         header = le-trans (count-le _ n) h;
         datas = le-trans (count-le _ n) h;
       }
+
+  -- counting an accepted dump is not refused
+  pub counted-pages : (n : ℕ) → openedOf g (length dump) ≡ Pages n → countedOf g dump ≡ counted.Counts (countsBelow g dump n)
+  unfolding countedOf countedIn
+  counted-pages n e = rw e
 
 -- the sum of the five counts
 abbrev pub total : Counts → ℕ

@@ -1,4 +1,5 @@
--- Laws of finding the layout: a found layout fits and divides the dump, no candidate has a higher score and none before it as high a one.
+-- Laws of finding the layout: a found layout fits and divides the dump, which is accepted under it; no candidate has a higher score and none
+-- before it as high a one.
 use Prim.Native.Nat.{ℕ, _≤_, _<_}
 use mathlib.Core.Bool.{Bool, true, not}
 use mathlib.Core.List.{List}
@@ -6,16 +7,18 @@ use mathlib.Core.Path.{_≡_, refl, sym}
 use native.Mathlib.Omega.{arith}
 use lib.Dec.{eqb}
 use lib.ListN.{length}
-use borrow.Author.Tests.{eqb-true, eqb-false}
-use Rattle.page.specs.Layouts.{layouts, layoutAt}
-use Rattle.page.specs.Lengths.{blockFits, lengthFits, wholeBlocks, pageCount}
+use borrow.Author.Tests.{eqb-true, eqb-false, lt-leb, not-false}
+use Rattle.page.specs.Layouts.{layouts, layoutAt, numberOf}
+use Rattle.page.specs.Lengths.{geometryOf, blockFits, lengthFits, wholeBlocks, pageCount, openedOf}
 use Rattle.page.specs.Tags.{claimAt}
 use Rattle.page.specs.Find.{candidateAt, scoreOf, markedOf, scoreFits, fittingScore, candidateScore, winnerOf, findOf}
 use Rattle.page.specs.declared.layout.Layout.{Layout}
 use Rattle.page.specs.declared.layout.Named.{Named}
 use Rattle.page.specs.declared.layout.Named.the-variants as named
 use Rattle.page.specs.declared.refusal.Refusal.the-variants.{BadLayout, BadLength, NoLayout}
+use Rattle.page.specs.declared.geometry.Opened.the-variants.{Pages}
 use Rattle.page.proofs.Searching.{clash, pick-cases, by-test}
+use Rattle.page.proofs.Layouts.{row-listed}
 use Rattle.page.proofs.Leading.{winning, highest-bounds, won-named, won-refused}
 
 -- what the pages of a candidate score, and whether it fits
@@ -83,6 +86,23 @@ found-is dump k l e =
       highest = λ c less. let b = highest-bounds score layouts c less in omega (arith, s, t .top);
       first = λ c less. let b = t .before c less in omega (arith, s);
     })
+
+-- what finding refuses first: a block and a length that do not fit
+first-tests : (dump : List ℕ) (k : ℕ) (l : Layout) → findOf dump k ≡ named.Layout l → (blockFits k ≡ true) × (lengthFits (length dump) ≡ true)
+unfolding findOf
+first-tests dump k l e =
+    pick-cases (not (blockFits k)) _ _ _ _ e (λ t z. clash (cc))
+    (λ t z. pick-cases (not (lengthFits (length dump))) _ _ _ _ z (λ u y. clash (cc)) (λ u y. (not-false _ t, not-false _ u)))
+
+-- a dump is accepted under the layout that was found
+pub found-opens :
+    (dump : List ℕ) (k : ℕ) (l : Layout) → findOf dump k ≡ named.Layout l
+    → openedOf (geometryOf l k) (length dump) ≡ Pages (pageCount (geometryOf l k) (length dump))
+unfolding openedOf
+found-opens dump k l e =
+    let f = found-is dump k l e in
+    let t = first-tests dump k l e in
+    rw (← f .row, lt-leb layouts (numberOf (layoutAt (f .number))) (row-listed (f .number) (f .listed)), t .0, t .1, f .fits .divides)
 
 -- where NoLayout is given, no candidate has a score
 pub none-found : (dump : List ℕ) (k : ℕ) → findOf dump k ≡ named.Refused NoLayout → (c : ℕ) → c < layouts → candidateScore dump k c ≡ 0

@@ -2,13 +2,14 @@
 use Prim.Native.Nat.{ℕ, zero, suc, _+_, _*_, _<_, _≤_}
 use mathlib.Core.Bool.{Bool, true, false, _&&_}
 use mathlib.Core.List.{List}
-use mathlib.Core.Path.{_≡_, refl}
+use mathlib.Core.Path.{_≡_, refl, ap}
 use mathlib.Core.Logic.{⊎-elim}
 use native.Mathlib.Nat.{le-of-suc-le-suc, not-suc-le-zero, eq-or-lt-of-le, le-trans, mul-le-mul-right, mul-le-mul-left}
 use native.Mathlib.Omega.{arith}
 use lib.Dec.{leb, ltb, eqb}
 use lib.ListN.{getD}
 use borrow.Author.Tests.{leb-true, ltb-true, eqb-true}
+use Rattle.page.specs.Search.{firstFrom}
 use Rattle.page.specs.Layouts.{headerBytes, tagLength, mostBytes, pageLen, layoutOf, layoutAt, dataSizes, spareSizes, tagOffsets, hasSizes, numberOfSizes, numberOf, roomy}
 use Rattle.page.specs.declared.layout.Layout.{Layout}
 use Rattle.page.proofs.Searching.{clash, first-passes}
@@ -55,9 +56,17 @@ pub row-roomy : (n : ℕ) → n < 13 → roomy (layoutAt n) ≡ true
 unfolding allBelow roomy layoutAt dataSizes spareSizes tagOffsets
 row-roomy n h = all-at (λ k. roomy (layoutAt k)) 13 refl n h
 
--- the numbers of a column fit two bytes, where a computed test says so
+-- and is in the table
+pub row-listed : (n : ℕ) → n < 13 → numberOf (layoutAt n) < 13
+unfolding allBelow numberOfSizes firstFrom hasSizes layoutAt dataSizes spareSizes tagOffsets
+row-listed n h = ltb-true _ _ (all-at (λ k. ltb (numberOf (layoutAt k)) 13) 13 refl n h)
+
+-- the numbers of a column are below a bound, and so fit two bytes, where a computed test says so
+column-below : (most : ℕ) (column : List ℕ) → allBelow (λ k. ltb (getD column k 0) most) 13 ≡ true → (n : ℕ) → n < 13 → getD column n 0 < most
+column-below most column e n h = ltb-true _ _ (all-at (λ k. ltb (getD column k 0) most) 13 e n h)
+
 pub column-small : (column : List ℕ) → allBelow (λ k. ltb (getD column k 0) 65536) 13 ≡ true → (n : ℕ) → n < 13 → getD column n 0 < 65536
-column-small column e n h = ltb-true _ _ (all-at (λ k. ltb (getD column k 0) 65536) 13 e n h)
+column-small column e n h = column-below 65536 column e n h
 
 layout-equal : (a b c d e f : ℕ) → a ≡ d → b ≡ e → c ≡ f → layoutOf a b c ≡ layoutOf d e f
 layout-equal a b c d e f p q r = cc
@@ -79,6 +88,13 @@ listed-row l h =
 -- and has room
 pub listed-roomy : (l : Layout) → numberOf l < 13 → roomy l ≡ true
 listed-roomy l h = rw listed-row at (row-roomy (numberOf l) h)
+
+-- a page of it has no more than 16384 data bytes
+pub listed-data : (l : Layout) → numberOf l < 13 → l .«data» ≤ 16384
+unfolding allBelow layoutAt dataSizes
+listed-data l h =
+    let e : getD dataSizes (numberOf l) 0 ≡ l .«data» = ap (λ (k : Layout). k .«data») (listed-row l h) in
+    omega (arith, e, column-below 16385 dataSizes refl (numberOf l) h)
 
 -- a product is at most the product of what bounds its factors
 pub product-le : {a b m n : ℕ} → a ≤ m → b ≤ n → a * b ≤ m * n

@@ -13,16 +13,18 @@ use Rattle.page.specs.Words.{le32}
 use Rattle.page.specs.Layouts.{dataSizes, spareSizes, tagOffsets, layoutAt, hasSizes, numberOfSizes, roomy}
 use Rattle.page.specs.Lengths.{blockFits, lengthFits, wholeBlocks, openedOf, pageIn}
 use Rattle.page.specs.Pages.{pageAt}
-use Rattle.page.specs.Tags.{tagsOf, tagBytes, objectIn, headerClaim, dataClaim, claimOf, claimOn}
+use Rattle.page.specs.Tags.{tagsOf, tagBytes, objectIn, headerClaim, dataClaim, claimOf, claimOn, claimAt}
 use Rattle.page.specs.Kinds.{badType, typeDiffers, headerOf, kindBy, kindOf, kindAt}
 use Rattle.page.specs.Records.{recordOf, recordAt}
 use Rattle.page.specs.Counts.{countsBelow, countedIn, countedOf}
+use Rattle.page.specs.Find.{bearsSequence, firstSequence, blockSequence, isScored, scoreFits, fittingScore, candidateScore, highest, winner, winnerOf, findOf}
 use Rattle.page.specs.Shelf.{shelfLayout, shelfGeometry, wordBytes, tagged, headerPage, dataPage, blankPage, shelfPages, dumpOf, shelf, retagged, kindsFrom, shelfKinds, pageCases, kindIn}
 use Rattle.page.specs.declared.geometry.Geometry.{Geometry}
 use Rattle.page.specs.declared.kind.Kind.{Kind}
 use Rattle.page.specs.declared.kind.Kind.the-variants.{Blank}
 use Rattle.page.specs.declared.geometry.Opened.the-variants.{Pages, Refused}
 use Rattle.page.specs.declared.count.Counted.the-variants.{Counts}
+use Rattle.page.specs.declared.layout.Named.the-variants as named
 use Rattle.page.specs.declared.refusal.Refusal.the-variants.{BadLength}
 use Rattle.page.proofs.Searching.{by-test}
 use Rattle.page.proofs.Within.{blank-beyond}
@@ -54,6 +56,11 @@ marked = record {
   longest = refl;
   too-long = refl;
 }
+
+-- and its layout is found
+pub shelf-found : findOf shelf 4 ≡ named.Layout shelfLayout
+unfolding shelf shelfPages dumpOf headerPage dataPage blankPage tagged wordBytes findOf blockFits lengthFits wholeBlocks winnerOf winner highest firstFrom candidateScore fittingScore scoreFits count isScored blockSequence firstSequence bearsSequence claimAt pageIn roomy layoutAt dataSizes spareSizes tagOffsets claimOn claimOf headerClaim dataClaim objectIn badObject tagsOf tagBytes pageAt le32
+shelf-found = refl
 
 module _ (g : Geometry) (dump : List ℕ) where
   kinds-length : (i n : ℕ) → length (kindsFrom g dump i n) ≡ n

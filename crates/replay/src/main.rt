@@ -1,5 +1,6 @@
 // The replay: reads test vectors of at most 65,536 bytes together from standard input, and prints what the proved calls answer on each. A vector
 // is a byte for the pages of a block, three for a length, little-endian, and a dump of that length; a last one that is not whole is passed over.
+// Where a read fails nothing is printed but a sentence on standard error.
 ghost use Prim.Native.Nat.{_≤_, _<_, _^_};
 ghost use lib.ListN.{length};
 use chunk::answer::Listed;
@@ -16,10 +17,8 @@ use index::cells::link_at;
 use index::list::list;
 use index::lookups::chunk;
 use index::lookups::size;
-use lines::line;
-use lines::put;
-use lines::refuse;
-use lines::report;
+use input::Input;
+use input::read_all;
 use page::find::find;
 use page::geometry::Geometry;
 use page::geometry::Opened;
@@ -28,6 +27,11 @@ use page::number::ChunkNumber;
 use page::number::ObjectId;
 use page::number::PageNumber;
 use page::refusal::Refusal;
+use summary::report::LONGEST;
+use summary::report::write_report;
+use text::put::put_field;
+use text::put::put_line;
+use text::written::Written;
 
 // The most bytes of vectors that are read, and one more, by which a longer input is told.
 const MOST: usize = 65536;
@@ -39,6 +43,45 @@ const CELLS: usize = SHARED + PER_PAGE * 124;
 const CHUNKS: u32 = 6;
 // An object that every dump is asked for, live or not.
 const ALWAYS: u32 = 300;
+
+// The most bytes of a name, a number and the end of a line: no name here has more than 8, and no number more than 20.
+const PART: usize = 32;
+
+// Prints a text that was put into bytes and has this end; stored output would show one that they had no room for.
+fn print(bytes: &[u8], end: usize) {
+    if end <= bytes.len() {
+        io::write_all(1, &bytes[..end]);
+    }
+}
+
+// A name and a number, with more to come on their line.
+fn put(name: &[u8], n: u64) {
+    let mut text = [0u8; PART];
+    let end = put_field(&mut text, 0, name, n);
+    print(&text, end);
+}
+
+// A name and a number that end their line.
+fn line(name: &[u8], n: u64) {
+    let mut text = [0u8; PART];
+    let end = put_line(&mut text, 0, name, n);
+    print(&text, end);
+}
+
+// The one line of a refusal.
+fn refuse(r: Refusal) {
+    line(b"refusal=", r.number() as u64);
+}
+
+// The report of a dump.
+fn report_lines(dump: &[u8], k: u32) {
+    let mut text = [0u8; LONGEST];
+    let written = write_report(dump, k, &mut text);
+    match written {
+        Written::Bytes(n) => print(&text, n),
+        Written::Short(_) => {}
+    }
+}
 
 // A refusal with the records visited.
 fn refused_line(r: Refusal, visits: u32) {
@@ -189,9 +232,8 @@ fn cell_lines(cells: &[u32], pages: u32) {
     }
 }
 
-// The lines of a dump whose layout was found: its report, then an index on the words lent, whatever they held, and the objects by it.
+// The lines of a dump whose layout was found: an index on the words lent, whatever they held, and the objects by it.
 fn dump_lines(dump: &[u8], g: Geometry, cells: &mut [u32]) {
-    report(dump, g);
     let opened = g.opened(dump.len());
     let Opened::Pages(pages) = opened else {
         return;
@@ -203,12 +245,13 @@ fn dump_lines(dump: &[u8], g: Geometry, cells: &mut [u32]) {
     object_lines(dump, g, cells, ObjectId(ALWAYS));
 }
 
-// The lines of a dump in blocks of so many pages, or of the refusal to find its layout.
+// The lines of a dump in blocks of so many pages: its report and, where its layout is found, all else.
 fn found_lines(dump: &[u8], block: u8, cells: &mut [u32]) {
     let k = block as u32;
+    report_lines(dump, k);
     let found = find(dump, k);
     match found {
-        Named::Refused(r) => refuse(r),
+        Named::Refused(_) => {}
         Named::Layout(layout) => dump_lines(dump, Geometry { layout, block: k }, cells),
     }
 }
@@ -250,13 +293,23 @@ fn all_lines(input: &[u8], cells: &mut [u32]) {
     }
 }
 
-fn main() {
-    let mut buffer = [0u8; 65537];
-    let n = io::read_full(0, &mut buffer);
-    if MOST < n {
+// The lines of an input.
+fn input_lines(input: &[u8]) {
+    if MOST < input.len() {
         refuse(Refusal::BadLength);
         return;
     }
     let mut cells = [0u32; CELLS];
-    all_lines(&buffer[..n], &mut cells);
+    all_lines(input, &mut cells);
+}
+
+fn main() {
+    let mut buffer = [0u8; 65537];
+    let input = read_all(0, &mut buffer);
+    match input {
+        Input::Failed => {
+            io::write_all(2, b"replay: the input could not be read\n");
+        }
+        Input::Bytes(n) => input_lines(&buffer[..n]),
+    }
 }

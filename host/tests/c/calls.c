@@ -9,6 +9,7 @@ static uint8_t dump[65536];
 static uint8_t buffer[512];
 static uint32_t cells[48];
 static uint32_t table[7] = {7, 7, 7, 7, 7, 7, 7};
+static uint64_t shown[9] = {7, 7, 7, 7, 7, 7, 7, 7, 7};
 
 int main(void) {
     size_t len = fread(dump, 1, sizeof dump, stdin);
@@ -54,6 +55,15 @@ int main(void) {
         printf(" %u", table[i]);
     part = lohenarr_row(dump, len, geometry, table[4], table[5]);
     printf("\nrow %zu+%zu\n", part.offset, part.length);
+    lohenarr_copies_answer copies = lohenarr_copies(dump, len, geometry, cells, 48, 257, shown, 1);
+    printf("copies %u: need %u, %llu\n", copies.refusal, copies.need, (unsigned long long)shown[0]);
+    copies = lohenarr_copies(dump, len, geometry, cells, 48, 257, shown, 9);
+    printf("copies %u: size %llu, damaged %u:", copies.refusal, (unsigned long long)copies.size, copies.damaged);
+    for (uint32_t i = 0; i < copies.count; i++) {
+        lohenarr_copy_answer copy = lohenarr_copy(shown[i]);
+        printf(" %u/%u/%u", copy.chunk, copy.page, copy.valid);
+    }
+    printf(" %llu\n", (unsigned long long)shown[8]);
     FIELD(lohenarr_geometry, block);
     FIELD(lohenarr_layout_answer, tag);
     FIELD(lohenarr_kind_answer, count);
@@ -69,11 +79,15 @@ int main(void) {
     FIELD(lohenarr_tally_answer, count);
     FIELD(lohenarr_table_answer, size);
     FIELD(lohenarr_table_answer, rows);
+    FIELD(lohenarr_copies_answer, size);
+    FIELD(lohenarr_copies_answer, damaged);
+    FIELD(lohenarr_copy_answer, valid);
     FIELD(lohenarr_run_answer, page);
-    printf("sizes %zu %zu %zu %zu %zu %zu %zu %zu %zu %zu %zu %zu %zu\n", sizeof(lohenarr_layout_answer), sizeof(lohenarr_pages_answer),
+    printf("sizes %zu %zu %zu %zu %zu %zu %zu %zu %zu %zu %zu %zu %zu %zu %zu\n", sizeof(lohenarr_layout_answer), sizeof(lohenarr_pages_answer),
            sizeof(lohenarr_counts_answer), sizeof(lohenarr_kind_answer), sizeof(lohenarr_header_answer),
            sizeof(lohenarr_part_answer), sizeof(lohenarr_size_answer), sizeof(lohenarr_chunk_answer),
            sizeof(lohenarr_place_answer), sizeof(lohenarr_list_answer), sizeof(lohenarr_tally_answer),
-           sizeof(lohenarr_table_answer), sizeof(lohenarr_run_answer));
+           sizeof(lohenarr_table_answer), sizeof(lohenarr_copies_answer), sizeof(lohenarr_copy_answer),
+           sizeof(lohenarr_run_answer));
     return 0;
 }

@@ -1,15 +1,8 @@
 -- Each arm of the match is a case of the definition.
-use mathlib.Core.Bool.{Bool, true, false, cond}
-use mathlib.Core.Path.{_≡_, refl}
-use mir.Val.{boolByte}
 use borrow.Author.Needs.{needs}
+use Rattle.capi.proofs.Marks.{as-number}
 use Rattle.capi.proofs.kind.kind_fields.Statement.{statement}
 use Rattle.capi.proofs.kind.kind_fields.Tie as tie
-
--- the cast makes 1 of true and 0 of false
-as-number : (t : Bool) → boolByte t ≡ cond t 1 0
-as-number true = refl
-as-number false = refl
 
 returns : tie.Need-returns
 returns c = rw (c .before .enum-told .given .1, c .bare .ensures)

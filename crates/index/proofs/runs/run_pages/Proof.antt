@@ -41,7 +41,6 @@ module _ (d : tie.After-add-page Inv-loop μ-loop) where
   is-taken : let a = i .before .before .before .before .args in takenBy (a .takes) (recordAt (a .g) (a .dump .now)) (i .before .loop .p) ≡ true
   is-taken = sym (e .before .has .ensures) ∙ not-false (e .before .has .result) (e .if1 .left)
 
-
 returns : tie.Need-returns Inv-loop μ-loop
 returns c =
     let g = c .before in

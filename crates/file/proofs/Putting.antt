@@ -1,0 +1,117 @@
+-- The words of copies, one store at a time: what a walk puts, what a gathering keeps of it, and what is cleared. Where n copies are put from the
+-- front on, the first n words are their keys, the next n their rows, and all behind those is as it was.
+use Prim.Native.Nat.{ℕ, suc, _+_, _-_, _≤_, _<_, zero-le}
+use mathlib.Core.Bool.{Bool, true, false}
+use mathlib.Core.List.{List, [], _∷_, _++_, map, append-assoc, append-nil}
+use mathlib.Core.Path.{_≡_, refl, sym, ap, _∙_}
+use native.Mathlib.Numerals.{add-one}
+use native.Mathlib.Omega.{arith}
+use lib.Dec.{ltb}
+use lib.ListN.{length, take, drop, set, getD, replicate, length-set, length-append, length-replicate, length-drop, take-append-drop, drop-of-length-le, replicate-append-replicate}
+use lib.Seq.{sets, sets-eq, take-set-le, take-set-lt, drop-set-add, drop-set-lt, length-take-le, drop-cons, drop-drop, set-at, append-snoc}
+use borrow.Author.Tests.{lt-ltb, le-ltb}
+use Rattle.sort.specs.Packed.{packed}
+use Rattle.file.specs.Copies.{packedCopy, putCopy, putFrom, roomFor, inRoom}
+use Rattle.file.specs.declared.copy.Copy.{Copy}
+
+-- putting no copy, one, and some after others
+module _ (n : ℕ) where
+  pub put-none : (w : List ℕ) (i : ℕ) → putFrom n w i [] ≡ w
+  unfolding putFrom
+  put-none w i = refl
+
+  pub put-one : (w : List ℕ) (i : ℕ) (x : Copy) → putFrom n w i (x ∷ []) ≡ putCopy n w i x
+  unfolding putFrom
+  put-one w i x = refl
+
+  pub put-on : (w : List ℕ) (i : ℕ) (L M : List Copy) → putFrom n w i (L ++ M) ≡ putFrom n (putFrom n w i L) (i + length L) M
+  unfolding putFrom
+  put-on w i [] M = let e : i + 0 ≡ i = omega arith in rw e
+  put-on w i (x ∷ L) M = let e : i + suc (length L) ≡ suc i + length L = omega arith in rw e (put-on (putCopy n w i x) (suc i) L M)
+
+  -- copies put leave the length
+  one-length : (w : List ℕ) (i : ℕ) (x : Copy) (t : Bool) → ltb i n ≡ t → length (putCopy n w i x) ≡ length w
+  one-length w i x true e = rw e (length-set (set w i _) _ _ ∙ length-set w i _)
+  one-length w i x false e = rw e
+
+  pub put-length : (w : List ℕ) (i : ℕ) (L : List Copy) → length (putFrom n w i L) ≡ length w
+  unfolding putFrom
+  put-length w i [] = refl
+  put-length w i (x ∷ L) = put-length (putCopy n w i x) (suc i) L ∙ one-length w i x _ refl
+
+-- of no copies none is put
+pub put-zero : (w : List ℕ) (i : ℕ) (L : List Copy) → putFrom 0 w i L ≡ w
+unfolding putFrom
+put-zero w i [] = refl
+put-zero w i (x ∷ L) = let e = le-ltb i 0 zero-le in rw e (put-zero w (suc i) L)
+
+-- the keys of copies from number i on
+abbrev pub keysFrom : ℕ → List Copy → List ℕ
+keysFrom i [] = []
+keysFrom i (x ∷ L) = packed (x .chunk) i ∷ keysFrom (suc i) L
+
+pub keys-length : (i : ℕ) (L : List Copy) → length (keysFrom i L) ≡ length L
+keys-length i [] = refl
+keys-length i (x ∷ L) = ap suc (keys-length (suc i) L)
+
+pub rows-length : (L : List Copy) → length (map packedCopy L) ≡ length L
+rows-length [] = refl
+rows-length (x ∷ L) = ap suc (rows-length L)
+
+module _ (n : ℕ) where
+  -- below n, the keys come into the first n words and the rows into those behind
+  keys-put : (w : List ℕ) (i : ℕ) (L : List Copy) → i + length L ≡ n → take n (putFrom n w i L) ≡ sets (take n w) i (keysFrom i L)
+  unfolding putFrom
+  keys-put w i [] e = refl
+  keys-put w i (x ∷ L) e =
+      let t = lt-ltb i n (omega arith) in
+      rw t
+      (keys-put _ (suc i) L (omega arith)
+      ∙ rw (take-set-le n (set w i (packed (x .chunk) i)) (n + i) (packedCopy x) (omega arith), take-set-lt n w i (packed (x .chunk) i) (omega arith)))
+
+  rows-put : (w : List ℕ) (i : ℕ) (L : List Copy) → i + length L ≡ n → drop n (putFrom n w i L) ≡ sets (drop n w) i (map packedCopy L)
+  unfolding putFrom
+  rows-put w i [] e = refl
+  rows-put w i (x ∷ L) e =
+      let t = lt-ltb i n (omega arith) in
+      rw t
+      (rows-put _ (suc i) L (omega arith)
+      ∙ rw (drop-set-add n (set w i (packed (x .chunk) i)) i (packedCopy x), drop-set-lt n w i (packed (x .chunk) i) (omega arith)))
+
+  module _ (w : List ℕ) (L : List Copy) (all : length L ≡ n) (room : roomFor n ≤ length w) where
+    pub keys-first : take n (putFrom n w 0 L) ≡ keysFrom 0 L
+    keys-first =
+        let k = keys-length 0 L in
+        keys-put w 0 L (omega arith)
+        ∙ sets-eq (keysFrom 0 L) (take n w) 0 (omega (arith, length-take-le n w (omega arith)))
+        ∙ rw (drop-of-length-le (take n w) {i = 0 + length (keysFrom 0 L)} (omega (arith, length-take-le n w (omega arith)))) (append-nil (keysFrom 0 L))
+
+    pub rows-behind : drop n (putFrom n w 0 L) ≡ map packedCopy L ++ drop (roomFor n) w
+    rows-behind =
+        let k = rows-length L in
+        let e : n + (0 + length (map packedCopy L)) ≡ roomFor n = omega arith in
+        rows-put w 0 L (omega arith)
+        ∙ sets-eq (map packedCopy L) (drop n w) 0 (omega (arith, length-drop n w))
+        ∙ rw (drop-drop (0 + length (map packedCopy L)) n w, e)
+
+-- words cleared one after the other
+module _ (f : ℕ) (w : List ℕ) where
+  abbrev pub clearedTo : ℕ → List ℕ
+  clearedTo i = take f w ++ replicate (i - f) 0 ++ drop i w
+
+  pub clear-none : w ≡ clearedTo f
+  clear-none = let e : f - f ≡ 0 = omega arith in rw (e, append-nil (take f w)) (sym (take-append-drop f w))
+
+  pub clear-more : (i : ℕ) → f ≤ i → i < length w → set (clearedTo i) i 0 ≡ clearedTo (i + 1)
+  clear-more i h k =
+      let p = take f w ++ replicate (i - f) 0 in
+      let e : i + 1 - f ≡ i - f + 1 = omega arith in
+      let l : length p ≡ i = length-append (take f w) (replicate (i - f) 0) ∙ rw (length-take-le f w (omega arith), length-replicate {A = ℕ} (i - f) 0) (omega arith) in
+      ap (λ (r : List ℕ). set (p ++ r) i 0) (drop-cons w i 0 k)
+      ∙ set-at p (getD w i 0) (drop (suc i) w) 0 i l
+      ∙ sym (append-snoc p 0 (drop (suc i) w))
+      ∙ ap (λ (r : List ℕ). r ++ drop (suc i) w) (append-assoc (take f w) (replicate (i - f) 0) (0 ∷ []))
+      ∙ rw (e, ← replicate-append-replicate {A = ℕ} (i - f) 1 0, add-one i)
+
+  pub clear-all : (to : ℕ) → f ≤ length w → clearedTo to ≡ inRoom (take f w) to w
+  clear-all to h = rw (length-take-le f w h)

@@ -1,0 +1,3 @@
+pub mod Figured
+pub mod Length
+pub mod Shelf
