@@ -5,7 +5,7 @@ use std::hash::{BuildHasher, Hasher};
 use std::ops::Range;
 
 use crate::ffi::{self, Answer as _, ChunkAnswer, Geometry, SizeAnswer, TallyAnswer};
-use crate::refusal::SHORT_BUFFER;
+use crate::refusal::{INDEX_DAMAGED, SHORT_BUFFER};
 use crate::table::{Piece, Table};
 
 /// Words that are mostly enough for a table, so that one call is.
@@ -94,6 +94,23 @@ impl<'d> Objects<'d> {
         Table::of(answer.given()?, words)
     }
 
+    /// The shown copies of a live file, ascending by chunk, a row for each, or the
+    /// number of the refusal. The memory grows to what a file needs, and serves the
+    /// next one too.
+    pub fn copies<'m>(&self, object: u32, memory: &'m mut Vec<u64>) -> Result<&'m [u64], u32> {
+        let (dump, on, cells) = (self.dump, self.on, &self.cells);
+        let mut answer = ffi::copies(dump, on, cells, object, memory);
+        if answer.refusal == SHORT_BUFFER {
+            memory.resize(answer.need as usize, 0);
+            answer = ffi::copies(dump, on, cells, object, memory);
+        }
+        let answer = answer.given()?;
+        match answer.damaged {
+            0 => Ok(&memory[..answer.count as usize]),
+            _ => Err(INDEX_DAMAGED),
+        }
+    }
+
     /// Hands on the bytes of a live file, in pieces, until one is not taken.
     pub fn hand_on<E>(
         &self,
@@ -156,7 +173,6 @@ pub fn by_sequence(dump: &[u8], layout: u32) -> Runs {
 #[cfg(test)]
 mod tests {
     use super::*;
-    use crate::refusal::INDEX_DAMAGED;
 
     const W: Geometry = Geometry {
         layout: 6,
@@ -164,17 +180,33 @@ mod tests {
     };
 
     /// The link below the newest header of W's file leads outside: the size is
-    /// known, and the table is refused.
+    /// known, and table and copies are refused.
     #[test]
     fn a_table_of_damaged_cells_is_refused() {
         let dump = include_bytes!("../tests/data/W");
         let mut objects = Objects::of(dump, W).unwrap();
         let chunks = |objects: &Objects| objects.table(257).map(|table| table.rows().count());
-        assert_eq!(chunks(&objects), Ok(3));
+        let copies = |objects: &Objects| objects.copies(257, &mut Vec::new()).map(<[u64]>::len);
+        assert_eq!((chunks(&objects), copies(&objects)), (Ok(3), Ok(2)));
         let link_of_page_4 = ffi::cells(4);
         objects.cells[link_of_page_4] = u32::MAX;
         assert_eq!(objects.size(257).size, 1034);
         assert_eq!(chunks(&objects), Err(INDEX_DAMAGED));
+        assert_eq!(copies(&objects), Err(INDEX_DAMAGED));
+    }
+
+    /// Memory that served a file before serves another one.
+    #[test]
+    fn copies_are_written_over_others() {
+        let dump = include_bytes!("../tests/data/W");
+        let objects = Objects::of(dump, W).unwrap();
+        let mut memory = vec![u64::MAX; 100];
+        for _ in 0..2 {
+            let rows = objects.copies(257, &mut memory).unwrap();
+            let copies = rows.iter().map(|&row| ffi::copy(row));
+            let copies: Vec<_> = copies.map(|c| (c.chunk, c.page, c.valid)).collect();
+            assert_eq!(copies, [(1, 5, 300), (3, 6, 10)]);
+        }
     }
 
     /// W with its second block first, in one block of 8 pages: the older records

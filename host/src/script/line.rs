@@ -3,8 +3,8 @@
 use crc32fast::hash as crc32;
 
 use crate::ffi::{
-    ChunkAnswer, CountsAnswer, KindAnswer, ListAnswer, PlaceAnswer, RunAnswer, SizeAnswer,
-    TableAnswer, TallyAnswer,
+    self, ChunkAnswer, CopiesAnswer, CopyAnswer, CountsAnswer, KindAnswer, ListAnswer, PlaceAnswer,
+    RunAnswer, SizeAnswer, TableAnswer, TallyAnswer,
 };
 use crate::fields;
 use crate::refusal::{kind_name, SHORT_BUFFER};
@@ -121,4 +121,25 @@ pub fn table(answer: TableAnswer, words: &[u32]) -> String {
     let rows: Vec<String> = rows.map(|row| format!("{}:{}", row[0], row[1])).collect();
     let (size, length) = (answer.size, words.len());
     format!("size={size} rows={} words={length}", rows.join(","))
+}
+
+/// The copies that were written in front of the rows, and how many rows were lent.
+pub fn copies(answer: CopiesAnswer, rows: &[u64]) -> String {
+    if answer.refusal != 0 {
+        return refused(answer.refusal, 0, answer.need);
+    }
+    let copies = rows.iter().take(answer.count as usize);
+    let copies = copies.map(|&row| ffi::copy(row));
+    let copies: Vec<String> = copies
+        .map(|copy| format!("{}:{}:{}", copy.chunk, copy.page, copy.valid))
+        .collect();
+    let CopiesAnswer { size, damaged, .. } = answer;
+    let (copies, length) = (copies.join(","), rows.len());
+    format!("size={size} copies={copies} damaged={damaged} rows={length}")
+}
+
+/// What a row says.
+pub fn copy(copy: CopyAnswer) -> String {
+    let CopyAnswer { chunk, page, valid } = copy;
+    format!("chunk={chunk} page={page} valid={valid}")
 }

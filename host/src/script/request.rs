@@ -9,13 +9,13 @@ The requests of a script, one a line; # starts a comment:
 
   find K            pages L K         counts L K        kind L K PAGE
   header L K PAGE   dsize L K OBJ     dchunk L K OBJ N  dpart L K OBJ N
-  dlist L K WORDS   dobjects L K      dread L K OBJ N BUFLEN
+  dlist L K WORDS   dobjects L K      copy ROW          dread L K OBJ N BUFLEN
   row L PLACE VALID
 
   start L K WORDS   add PAGE          size OBJ          chunk OBJ N
   part OBJ N        list WORDS        objects           read OBJ N BUFLEN
-  table OBJ WORDS   fill X            poke I X          records OBJ WORDS
-  peek I            older FROM TO PAGE
+  table OBJ WORDS   copies OBJ ROWS   fill X            records OBJ WORDS
+  poke I X          peek I            older FROM TO PAGE
 
 L is P/S/T or a layout's number. The first ask the dump alone, the others an
 index: under the layout and K of the last accepted start, with as many words.
@@ -60,6 +60,8 @@ pub enum Request {
     Records { lent: Lent, object: u32, length: usize },
     Table { lent: Lent, object: u32, length: usize },
     Row { layout: u32, place: u32, valid: u32 },
+    Copies { lent: Lent, object: u32, length: usize },
+    Copy { row: u64 },
     Fill { word: u32 },
     Poke { at: usize, word: u32 },
     Peek { at: usize },
@@ -74,7 +76,9 @@ impl Request {
         };
         match *self {
             Request::Start { words, .. } => Some(words),
-            Request::Add { lent, .. } | Request::Older { lent, .. } => lent.words,
+            Request::Add { lent, .. }
+            | Request::Older { lent, .. }
+            | Request::Copies { lent, .. } => lent.words,
             Request::Size { over: o, .. }
             | Request::Chunk { over: o, .. }
             | Request::Read { over: o, .. }
@@ -167,6 +171,14 @@ impl Words<'_> {
                 lent: self.lent()?,
                 object: self.number("OBJ")?,
                 length: self.length("WORDS")?,
+            },
+            "copies" => Request::Copies {
+                lent: self.lent()?,
+                object: self.number("OBJ")?,
+                length: self.length("ROWS")?,
+            },
+            "copy" => Request::Copy {
+                row: self.next("ROW", long)?,
             },
             "row" => Request::Row {
                 layout: self.next("L", layout)?,
@@ -319,6 +331,7 @@ mod tests {
                     before: 4,
                 },
             ),
+            ("copy 0x100000000", Request::Copy { row: 1 << 32 }),
             (
                 "  dread 6 4 257 1 512",
                 Request::Read {
@@ -388,7 +401,7 @@ mod tests {
             assert!(request(&format!("{line} 1")).is_err(), "{form}");
             count += 1;
         }
-        assert_eq!(count, 26);
+        assert_eq!(count, 28);
     }
 
     #[test]

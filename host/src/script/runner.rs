@@ -10,6 +10,7 @@ use crate::ffi::{self, Answer as _, Geometry};
 /// What a buffer holds before a call, and the index words before the first.
 const BYTE: u8 = 0xA5;
 const WORD: u32 = 0xA5A5_A5A5;
+const ROW: u64 = 0xA5A5_A5A5_A5A5_A5A5;
 
 /// The dump, the index words, and what the last accepted start was given.
 pub struct Runner<'d> {
@@ -24,6 +25,7 @@ pub struct Answer {
     pub line: String,
     pub bytes: Vec<u8>,
     pub words: Vec<u32>,
+    pub rows: Vec<u64>,
 }
 
 /// A layout and a K that every call refuses: those of no start.
@@ -101,6 +103,15 @@ impl<'d> Runner<'d> {
                 answer.words = filled(length, WORD)?;
                 self.table(lent, object, &mut answer.words)
             }
+            Request::Copies {
+                lent,
+                object,
+                length,
+            } => {
+                answer.rows = filled(length, ROW)?;
+                self.copies(lent, object, &mut answer.rows)
+            }
+            Request::Copy { row } => line::copy(ffi::copy(row)),
             Request::Row {
                 layout,
                 place,
@@ -228,6 +239,13 @@ impl<'d> Runner<'d> {
         let cells = &self.index[..count];
         let answer = ffi::records(self.dump, on, cells, object, words);
         line::records(answer, words)
+    }
+
+    fn copies(&self, lent: Lent, object: u32, rows: &mut [u64]) -> String {
+        let (on, count) = self.given(lent);
+        let cells = &self.index[..count];
+        let answer = ffi::copies(self.dump, on, cells, object, rows);
+        line::copies(answer, rows)
     }
 
     fn table(&self, lent: Lent, object: u32, words: &mut [u32]) -> String {
