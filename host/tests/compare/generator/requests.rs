@@ -66,7 +66,8 @@ impl Asker<'_> {
         if let Over::Index(lent) = over {
             match self.rng.below(100) {
                 0..=14 => return self.table(lent, object),
-                15..=21 => return self.records(lent, object),
+                15..=29 => return self.copies(lent, object),
+                30..=36 => return self.records(lent, object),
                 _ => {}
             }
         }
@@ -100,6 +101,20 @@ impl Asker<'_> {
         if self.rng.chance(50) {
             let row = self.row();
             self.list.push(row);
+        }
+    }
+
+    /// The shown copies of a file, and what some row says.
+    fn copies(&mut self, lent: Lent, object: u64) {
+        let buffer = self.copies_rows(object);
+        self.list.push(Request::Copies {
+            lent,
+            object,
+            buffer,
+        });
+        if self.rng.chance(30) {
+            let copy = self.copy();
+            self.list.push(copy);
         }
     }
 

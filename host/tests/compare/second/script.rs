@@ -4,6 +4,7 @@ use std::fmt;
 
 use crc32fast::hash as crc32;
 
+use super::copies::{unpacked, Copies, Copy};
 use super::index::{Lent, Over, Reader, Refused};
 use super::layout::{Layout, Named};
 use super::lookup::Chunk;
@@ -11,7 +12,8 @@ use super::page::{Body, Field, Kind};
 use super::refusal::Refusal;
 
 /// One request with everything that its call is given. Lookups are over the
-/// dump alone or over the index; `buffer` counts bytes for a read and else words.
+/// dump alone or over the index; `buffer` counts bytes for a read, rows for copies
+/// and else words.
 #[derive(Clone, Copy, Debug, PartialEq, Eq)]
 pub enum Request {
     Find {
@@ -86,6 +88,14 @@ pub enum Request {
         place: u64,
         valid: u64,
     },
+    Copies {
+        lent: Lent,
+        object: u64,
+        buffer: usize,
+    },
+    Copy {
+        row: u64,
+    },
     Records {
         lent: Lent,
         object: u64,
@@ -106,6 +116,7 @@ pub struct Answer {
     pub line: String,
     pub bytes: Vec<u8>,
     pub words: Vec<u32>,
+    pub rows: Vec<u64>,
 }
 
 impl Request {
@@ -119,7 +130,8 @@ impl Request {
         match *self {
             Request::Start { lent, .. }
             | Request::Add { lent, .. }
-            | Request::Older { lent, .. } => lent.words,
+            | Request::Older { lent, .. }
+            | Request::Copies { lent, .. } => lent.words,
             Request::Size { over, .. }
             | Request::Chunk { over, .. }
             | Request::Read { over, .. }
@@ -218,6 +230,12 @@ impl fmt::Display for Request {
                 place,
                 valid,
             } => write!(f, "row {layout} {place} {valid}"),
+            Request::Copies {
+                lent,
+                object,
+                buffer,
+            } => write!(f, "copies {object} {buffer} {}", options(lent)),
+            Request::Copy { row } => write!(f, "copy {row:#x}"),
             Request::Records {
                 lent,
                 object,
@@ -300,6 +318,19 @@ pub fn answer(reader: &mut Reader<'_>, request: &Request) -> Answer {
             place,
             valid,
         } => Ok(part_line(reader.row(layout, place, valid))),
+        Request::Copies {
+            lent,
+            object,
+            buffer,
+        } => {
+            answer.rows = vec![0xA5A5_A5A5_A5A5_A5A5; buffer];
+            let copies = reader.copies(lent, object, &mut answer.rows);
+            copies.map(|copies| copies_line(&copies, buffer))
+        }
+        Request::Copy { row } => {
+            let [chunk, page, valid] = unpacked(row, reader.wrong);
+            Ok(format!("chunk={chunk} page={page} valid={valid}"))
+        }
         Request::Records {
             lent,
             object,
@@ -333,6 +364,14 @@ fn run_line(run: Result<(), (Refusal, u64)>) -> String {
         Ok(()) => "done".to_string(),
         Err((refusal, page)) => format!("{} page={page}", refusal_line(refusal.into())),
     }
+}
+
+fn copies_line(copies: &Copies, buffer: usize) -> String {
+    let copy = |[chunk, page, valid]: &Copy| format!("{chunk}:{page}:{valid}");
+    let all: Vec<String> = copies.copies.iter().map(copy).collect();
+    let (size, damaged) = (copies.size, u8::from(copies.damaged));
+    let all = all.join(",");
+    format!("size={size} copies={all} damaged={damaged} rows={buffer}")
 }
 
 fn done(result: Result<(), Refusal>) -> Result<String, Refused> {

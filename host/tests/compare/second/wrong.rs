@@ -284,7 +284,33 @@ wrong_rules! {
     /// The bytes of a row may reach into the spare.
     RowReachesSpare,
 
-    // Records of an object.
+    // Copies and records.
+    /// A copy that a newer one supersedes is listed.
+    CopiesWithOlder,
+    /// A copy that a cut hides is listed.
+    CopiesWithHidden,
+    /// A copy behind the file's end is listed.
+    CopiesPastEnd,
+    /// Copies are listed in the order of their pages.
+    CopiesByPage,
+    /// Copies are listed as the chain has them.
+    CopiesAsMet,
+    /// A copy is listed with its shown length.
+    CopiesHaveShown,
+    /// What copies need is given as one row each.
+    CopiesNeedOneEach,
+    /// Rows that are needed beyond the copies are left as they were.
+    CopiesLeaveRoom,
+    /// Rows that are not needed are cleared.
+    CopiesClearAll,
+    /// A damaged link at the end of the chain is told, though every chunk has a copy.
+    BrokenIsDamaged,
+    /// No damaged link is told.
+    NeverDamaged,
+    /// A row has its page above its chunk.
+    RowByPage,
+    /// A row's page has one bit fewer.
+    PageOfRowCut,
     /// Records are listed in the order of their pages.
     RecordsByPage,
     /// Records are listed from the oldest on.

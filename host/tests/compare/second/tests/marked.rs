@@ -106,6 +106,15 @@ fn cases_on_an_index() {
     assert_eq!(ask(Request::List { over, buffer: 2 }), "ids=257 words=2");
     let short = Request::List { over, buffer: 0 };
     assert_eq!(ask(short), "refusal=11 visits=0 need=1");
+    let copies = |buffer| Request::Copies {
+        lent,
+        object,
+        buffer,
+    };
+    // page 1 is met too, below the newer copy of its chunk, and page 2 is hidden
+    assert_eq!(ask(copies(5)), "refusal=11 visits=0 need=6");
+    let shown = "size=1034 copies=1:5:300,3:6:10 damaged=0 rows=7";
+    assert_eq!(ask(copies(7)), shown);
     let records = |buffer| Request::Records {
         lent,
         object,

@@ -40,6 +40,15 @@ fn requests_as_lines() {
             "older 0 8 4 k=4 words=48 layout=6",
         ),
         (
+            Request::Copies {
+                lent,
+                object,
+                buffer: 8,
+            },
+            "copies 257 8 k=4 words=48 layout=6",
+        ),
+        (Request::Copy { row: 16 }, "copy 0x10"),
+        (
             Request::Records {
                 lent,
                 object,
