@@ -257,6 +257,36 @@ impl<'d> Index<'d> {
         Some((size, rows))
     }
 
+    /// The shown copies of a live file, ascending by chunk: chunk, page and valid
+    /// length. One walk notes every copy that no newer header hides, and of those of
+    /// one chunk the first one met stays.
+    pub fn copies(&self, object: u32) -> Option<Vec<(u32, u32, u32)>> {
+        let size = self.size(object)?;
+        let mut met = Vec::new();
+        let (mut newest, mut cut) = (true, size);
+        let mut walk = self.walk(object, self.slot(object));
+        while let Some((page, chunk)) = walk.next(self) {
+            if chunk == 0 {
+                cut = cut.min(self.cut(page, newest));
+                newest = false;
+                continue;
+            }
+            let left = cut.saturating_sub(self.end(chunk, 0));
+            if left > 0 {
+                let count = u64::from(word(self.tags(page), 12));
+                met.push((chunk, met.len(), page as u32, left.min(count) as u32));
+            }
+        }
+        met.sort_unstable();
+        met.dedup_by_key(|copy| copy.0);
+        let copies = met.into_iter();
+        Some(
+            copies
+                .map(|(chunk, _, page, valid)| (chunk, page, valid))
+                .collect(),
+        )
+    }
+
     /// Hands on the bytes of a live file by its table: of each chunk the valid
     /// ones as they stand in the dump, then zeros.
     pub fn contents(&self, object: u32, mut hand_on: impl FnMut(&[u8])) {

@@ -16,8 +16,9 @@
 //!
 //! Plain Rust has the same index words, filled in the same order, and tries
 //! each link that it meets. `table` is the rows of the long file, by one walk on
-//! both sides; `read` is every short file and `long` the long one, each by its
-//! table, and both sides copy each piece of the dump to the same buffer.
+//! both sides, and `copies` its shown copies; `read` is every short file and
+//! `long` the long one, each by its table, and both sides copy each piece of the
+//! dump to the same buffer.
 //!
 //! `bench hostile` measures the commands on dumps that are made to be slow.
 
@@ -183,6 +184,18 @@ fn contents(library: &Objects<'_>, plain: &Index<'_>, rounds: usize) {
         rounds,
         || library.table(LONG).ok().map(|table| table.size),
         || plain.table(LONG).map(|(size, _)| size),
+    );
+    let memory = RefCell::new(Vec::new());
+    timing::compare(
+        "copies",
+        rounds,
+        || {
+            let mut memory = memory.borrow_mut();
+            let rows = library.copies(LONG, &mut memory).ok()?;
+            let copies = rows.iter().map(|&row| ffi::copy(row));
+            Some(copies.map(|c| (c.chunk, c.page, c.valid)).collect())
+        },
+        || plain.copies(LONG),
     );
     let buffer = RefCell::new(vec![0; 1 << 16]);
     let put = |piece: &[u8]| {
