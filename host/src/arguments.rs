@@ -56,19 +56,19 @@ pub enum Command {
     /// The live objects
     List {
         #[command(flatten)]
-        on: On,
+        on: Past,
     },
     /// The size of a file
     Size {
         #[command(flatten)]
-        on: On,
+        on: Past,
         #[command(flatten)]
         of: Object,
     },
     /// Where a chunk of a file stands
     Chunk {
         #[command(flatten)]
-        on: On,
+        on: Past,
         #[command(flatten)]
         of: Object,
         /// The chunk's number, from 1 on
@@ -78,7 +78,7 @@ pub enum Command {
     /// The bytes of a file, holes as zeros
     Read {
         #[command(flatten)]
-        on: On,
+        on: Past,
         #[command(flatten)]
         of: Object,
         /// A new file for the bytes, in which holes are left sparse; size and
@@ -89,7 +89,7 @@ pub enum Command {
     /// Which pages hold a file, or every live file
     Extract {
         #[command(flatten)]
-        on: On,
+        on: Past,
         /// The object's id; every live file if left out
         #[arg(value_parser = Typed::number, allow_negative_numbers = true)]
         object: Option<Typed>,
@@ -119,6 +119,16 @@ pub struct On {
     pub block: Block,
     #[command(flatten)]
     pub form: Form,
+}
+
+/// A dump that can be read as it once stood.
+#[derive(Debug, Args)]
+pub struct Past {
+    #[command(flatten)]
+    pub on: On,
+    /// As the dump stood before the record on this page was written
+    #[arg(long, value_name = "PAGE", value_parser = Typed::number, allow_negative_numbers = true)]
+    pub before: Option<Typed>,
 }
 
 #[derive(Debug, Args)]
@@ -176,14 +186,14 @@ impl Arguments {
     pub fn json(&self) -> bool {
         match &self.command {
             Command::Find { form, .. } => form.json,
-            Command::Report { on }
-            | Command::Pages { on }
-            | Command::Header { on, .. }
-            | Command::List { on }
+            Command::Report { on } | Command::Pages { on } | Command::Header { on, .. } => {
+                on.form.json
+            }
+            Command::List { on }
             | Command::Size { on, .. }
             | Command::Chunk { on, .. }
             | Command::Read { on, .. }
-            | Command::Extract { on, .. } => on.form.json,
+            | Command::Extract { on, .. } => on.on.form.json,
             Command::Script { .. } | Command::Completions { .. } => false,
         }
     }

@@ -398,7 +398,8 @@ pub fn cells(pages: u32) -> usize {
     unsafe { lohenarr_cells(pages) }
 }
 
-/// Makes an index empty: the number of the refusal, or 0.
+/// Makes an index empty: the number of the refusal, or 0. The seed says where a
+/// search for an object begins; no answer depends on it.
 pub fn start(dump: &[u8], on: Geometry, cells: &mut [u32], seed: u32) -> u32 {
     let (at, words) = (cells.as_mut_ptr(), cells.len());
     unsafe { lohenarr_start(dump.as_ptr(), dump.len(), on, at, words, seed) }

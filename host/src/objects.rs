@@ -1,14 +1,14 @@
 //! The objects of a dump and their chunks, by an index of all its pages.
 
+use std::collections::hash_map::RandomState;
+use std::hash::{BuildHasher, Hasher};
 use std::ops::Range;
 
-use crate::ffi::{self, Answer, ChunkAnswer, Geometry, SizeAnswer, TallyAnswer};
-use crate::refusal::SHORT_BUFFER;
+use crate::ffi::{self, Answer as _, ChunkAnswer, Geometry, SizeAnswer, TallyAnswer};
+use crate::refusal::{INDEX_DAMAGED, SHORT_BUFFER};
 use crate::table::{Piece, Table};
 
-/// Words that are mostly enough for a listing and for a table, so that one call
-/// is.
-const SOME_IDS: usize = 4096;
+/// Words that are mostly enough for a table, so that one call is.
 const SOME_ROWS: usize = 1024;
 
 /// Pages in runs, each with the word by which it has its place.
@@ -25,12 +25,19 @@ impl Started {
     pub fn of(dump: &[u8], on: Geometry, runs: Runs) -> Result<Started, u32> {
         let pages = ffi::pages(dump, on).given()?.pages;
         let mut cells = vec![0; ffi::cells(pages)];
-        done(ffi::start(dump, on, &mut cells, 0))?;
+        done(ffi::start(dump, on, &mut cells, drawn()))?;
         Ok(Started { cells, runs })
     }
 }
 
-/// A dump with the index of all its pages.
+/// A word that nobody knows beforehand. No answer depends on it, and no dump can
+/// be made for it on which the search for an object's slot is slow.
+pub fn drawn() -> u32 {
+    RandomState::new().build_hasher().finish() as u32
+}
+
+/// A dump with the index of all its pages, or of its records that are older than
+/// one.
 pub struct Objects<'d> {
     dump: &'d [u8],
     on: Geometry,
@@ -41,21 +48,28 @@ impl<'d> Objects<'d> {
     /// Makes the index, or gives the number of the refusal.
     pub fn of(dump: &'d [u8], on: Geometry) -> Result<Objects<'d>, u32> {
         let started = Started::of(dump, on, by_sequence(dump, on.layout))?;
-        Objects::telling(dump, on, started, |_| ())
+        Objects::telling(dump, on, started, None, |_| ())
     }
 
-    /// The same, of what was started; tells of each run of pages that is added how
-    /// many they are.
+    /// The same, of what was started, or with none but the records that are older
+    /// than the one on page `before`; tells of each run of pages that is gone over
+    /// how many they are.
     pub fn telling(
         dump: &'d [u8],
         on: Geometry,
         started: Started,
+        before: Option<u32>,
         mut tell: impl FnMut(u32),
     ) -> Result<Objects<'d>, u32> {
         let Started { mut cells, runs } = started;
         for (_, run) in runs {
-            ffi::add_run(dump, on, &mut cells, run.start, run.end).given()?;
-            tell(run.end - run.start);
+            let count = run.end - run.start;
+            let added = match before {
+                None => ffi::add_run(dump, on, &mut cells, run.start, run.end),
+                Some(page) => ffi::add_older(dump, on, &mut cells, run, page),
+            };
+            added.given()?;
+            tell(count);
         }
         Ok(Objects { dump, on, cells })
     }
@@ -71,12 +85,30 @@ impl<'d> Objects<'d> {
     /// The table of a live file, or the number of the refusal.
     pub fn table(&self, object: u32) -> Result<Table, u32> {
         let (dump, on, cells) = (self.dump, self.on, &self.cells);
-        let (answer, words) = filled(
-            SOME_ROWS,
-            |words| ffi::table(dump, on, cells, object, words),
-            |answer| answer.need,
-        )?;
-        Table::of(answer, words)
+        let mut words = vec![0; SOME_ROWS];
+        let mut answer = ffi::table(dump, on, cells, object, &mut words);
+        if answer.refusal == SHORT_BUFFER {
+            words = vec![0; answer.need as usize];
+            answer = ffi::table(dump, on, cells, object, &mut words);
+        }
+        Table::of(answer.given()?, words)
+    }
+
+    /// The shown copies of a live file, ascending by chunk, a row for each, or the
+    /// number of the refusal. The memory grows to what a file needs, and serves the
+    /// next one too.
+    pub fn copies<'m>(&self, object: u32, memory: &'m mut Vec<u64>) -> Result<&'m [u64], u32> {
+        let (dump, on, cells) = (self.dump, self.on, &self.cells);
+        let mut answer = ffi::copies(dump, on, cells, object, memory);
+        if answer.refusal == SHORT_BUFFER {
+            memory.resize(answer.need as usize, 0);
+            answer = ffi::copies(dump, on, cells, object, memory);
+        }
+        let answer = answer.given()?;
+        match answer.damaged {
+            0 => Ok(&memory[..answer.count as usize]),
+            _ => Err(INDEX_DAMAGED),
+        }
     }
 
     /// Hands on the bytes of a live file, in pieces, until one is not taken.
@@ -88,15 +120,13 @@ impl<'d> Objects<'d> {
         table.hand_on(self.dump, self.on, take)
     }
 
-    /// The ids of the live objects, ascending, or the number of the refusal.
+    /// The ids of the live objects, ascending, or the number of the refusal. There
+    /// are no more of them than pages, and words that stay zeros take no memory.
     pub fn list(&self) -> Result<Vec<u32>, u32> {
-        let (dump, on, cells) = (self.dump, self.on, &self.cells);
-        let (answer, mut ids) = filled(
-            SOME_IDS,
-            |words| ffi::list(dump, on, cells, words),
-            |answer| answer.need,
-        )?;
-        ids.truncate(answer.count as usize);
+        let pages = ffi::pages(self.dump, self.on).given()?.pages;
+        let mut ids = vec![0; pages as usize];
+        let answer = ffi::list(self.dump, self.on, &self.cells, &mut ids);
+        ids.truncate(answer.given()?.count as usize);
         Ok(ids)
     }
 
@@ -104,22 +134,6 @@ impl<'d> Objects<'d> {
     pub fn count(&self) -> TallyAnswer {
         ffi::objects(self.dump, self.on, &self.cells)
     }
-}
-
-/// The answer of a call, and the words that it was lent to write to: some, or
-/// if those are too few as many as it needs.
-fn filled<A: Answer>(
-    some: usize,
-    call: impl Fn(&mut [u32]) -> A,
-    need: impl Fn(&A) -> u32,
-) -> Result<(A, Vec<u32>), u32> {
-    let mut words = vec![0; some];
-    let mut answer = call(&mut words);
-    if answer.refusal() == SHORT_BUFFER {
-        words = vec![0; need(&answer) as usize];
-        answer = call(&mut words);
-    }
-    Ok((answer.given()?, words))
 }
 
 /// What was done, or the number of the refusal.
@@ -159,7 +173,6 @@ pub fn by_sequence(dump: &[u8], layout: u32) -> Runs {
 #[cfg(test)]
 mod tests {
     use super::*;
-    use crate::refusal::INDEX_DAMAGED;
 
     const W: Geometry = Geometry {
         layout: 6,
@@ -167,17 +180,33 @@ mod tests {
     };
 
     /// The link below the newest header of W's file leads outside: the size is
-    /// known, and the table is refused.
+    /// known, and table and copies are refused.
     #[test]
     fn a_table_of_damaged_cells_is_refused() {
         let dump = include_bytes!("../tests/data/W");
         let mut objects = Objects::of(dump, W).unwrap();
         let chunks = |objects: &Objects| objects.table(257).map(|table| table.rows().count());
-        assert_eq!(chunks(&objects), Ok(3));
+        let copies = |objects: &Objects| objects.copies(257, &mut Vec::new()).map(<[u64]>::len);
+        assert_eq!((chunks(&objects), copies(&objects)), (Ok(3), Ok(2)));
         let link_of_page_4 = ffi::cells(4);
         objects.cells[link_of_page_4] = u32::MAX;
         assert_eq!(objects.size(257).size, 1034);
         assert_eq!(chunks(&objects), Err(INDEX_DAMAGED));
+        assert_eq!(copies(&objects), Err(INDEX_DAMAGED));
+    }
+
+    /// Memory that served a file before serves another one.
+    #[test]
+    fn copies_are_written_over_others() {
+        let dump = include_bytes!("../tests/data/W");
+        let objects = Objects::of(dump, W).unwrap();
+        let mut memory = vec![u64::MAX; 100];
+        for _ in 0..2 {
+            let rows = objects.copies(257, &mut memory).unwrap();
+            let copies = rows.iter().map(|&row| ffi::copy(row));
+            let copies: Vec<_> = copies.map(|c| (c.chunk, c.page, c.valid)).collect();
+            assert_eq!(copies, [(1, 5, 300), (3, 6, 10)]);
+        }
     }
 
     /// W with its second block first, in one block of 8 pages: the older records

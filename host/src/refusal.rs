@@ -1,5 +1,7 @@
 //! The names of the refusals, and what each means for whoever asked.
 
+use std::ops::RangeInclusive;
+
 use crate::ffi::{self, Answer as _, Geometry, KindAnswer, LayoutAnswer};
 use crate::looks;
 use crate::typed::Typed;
@@ -29,6 +31,9 @@ pub const NOT_A_FILE: u32 = 9;
 pub const SHORT_BUFFER: u32 = 11;
 pub const INDEX_DAMAGED: u32 = 13;
 
+/// NoObject to PastEnd: what is refused by the records of an object.
+const OF_RECORDS: RangeInclusive<u32> = 6..=10;
+
 /// The name of a refusal.
 pub fn name(refusal: u32) -> &'static str {
     let name = NAMES.get((refusal as usize).wrapping_sub(1));
@@ -36,7 +41,8 @@ pub fn name(refusal: u32) -> &'static str {
 }
 
 /// What was asked, as far as a refusal may speak of it. `layout` is the one
-/// that was taken, once there is one.
+/// that was taken, once there is one; `end` is where the object's file ends, and
+/// `before` the page of the record before which the dump is read.
 #[derive(Clone, Copy)]
 pub struct Asked<'a> {
     pub dump: &'a [u8],
@@ -46,6 +52,8 @@ pub struct Asked<'a> {
     pub page: &'a Typed,
     pub object: &'a Typed,
     pub chunk: &'a Typed,
+    pub end: u64,
+    pub before: Option<&'a Typed>,
 }
 
 impl<'a> Asked<'a> {
@@ -59,6 +67,8 @@ impl<'a> Asked<'a> {
             page: Typed::NOTHING,
             object: Typed::NOTHING,
             chunk: Typed::NOTHING,
+            end: 0,
+            before: None,
         }
     }
 
@@ -82,9 +92,10 @@ pub fn meaning(refusal: u32, asked: Asked<'_>) -> String {
         page,
         object,
         chunk,
+        end,
         ..
     } = asked;
-    match name(refusal) {
+    let sentence = match name(refusal) {
         "BadLayout" => bad_layout(asked),
         "BadLength" => bad_length(asked),
         "NoLayout" => no_layout(asked),
@@ -94,10 +105,14 @@ pub fn meaning(refusal: u32, asked: Asked<'_>) -> String {
         "NoHeader" => format!("object {object} has data pages and no header"),
         "Deleted" => format!("the newest header of object {object} says that it is deleted"),
         "NotAFile" => format!("object {object} is no file"),
-        "PastEnd" => past_end(asked),
+        "PastEnd" => format!("object {object} ends at byte {end}, before chunk {chunk}"),
         "BadPage" => bad_page(asked),
         "NotHeader" => format!("page {page} is no header: it is {}", kind_of(asked)),
         _ => "see the table of refusals in the README".to_string(),
+    };
+    match asked.before.filter(|_| OF_RECORDS.contains(&refusal)) {
+        Some(before) => format!("{sentence}, as the dump stood before page {before}"),
+        None => sentence,
     }
 }
 
@@ -162,12 +177,6 @@ fn bad_length(asked: Asked<'_>) -> String {
         Some(layout) => format!("{len} bytes are no whole blocks of {block} pages of {layout}"),
         None => format!("{len} bytes are no whole blocks of {block} pages"),
     }
-}
-
-fn past_end(asked: Asked<'_>) -> String {
-    let Asked { object, chunk, .. } = asked;
-    let size = ffi::dump_size(asked.dump, asked.geometry(), object.number).size;
-    format!("object {object} ends at byte {size}, before chunk {chunk}")
 }
 
 fn bad_page(asked: Asked<'_>) -> String {

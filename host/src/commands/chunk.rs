@@ -15,6 +15,7 @@ pub fn chunk(
     let (objects, asked) = opened.objects()?;
     let asked = Asked {
         chunk: n,
+        end: objects.size(object.number).size,
         ..asked.of(object)
     };
     let chunk = opened.given(objects.chunk(object.number, n.number), asked)?;

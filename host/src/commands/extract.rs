@@ -2,9 +2,9 @@
 
 use super::Opened;
 use crate::failure::Failure;
+use crate::ffi;
 use crate::fields::Printer;
 use crate::refusal::NOT_A_FILE;
-use crate::table::Table;
 use crate::typed::Typed;
 
 pub fn extract(
@@ -13,32 +13,33 @@ pub fn extract(
     out: &mut Printer<'_>,
 ) -> Result<(), Failure> {
     let (objects, asked) = opened.objects()?;
+    let mut memory = Vec::new();
     if let Some(object) = object {
-        let table = opened.done(objects.table(object.number), asked.of(object))?;
-        return copies(&table, object.number, out);
+        let rows = objects.copies(object.number, &mut memory);
+        let rows = opened.done(rows, asked.of(object))?;
+        return copies(rows, object.number, out);
     }
     for object in opened.done(objects.list(), asked)? {
-        let table = objects.table(object);
-        if table.as_ref().is_err_and(|&refusal| refusal == NOT_A_FILE) {
+        let rows = objects.copies(object, &mut memory);
+        if rows == Err(NOT_A_FILE) {
             continue;
         }
-        let table = opened.done(table, asked.of(&object.into()))?;
-        copies(&table, object, out)?;
+        let rows = opened.done(rows, asked.of(&object.into()))?;
+        copies(rows, object, out)?;
     }
     Ok(())
 }
 
 /// The four lines of each shown copy of a live file.
-fn copies(table: &Table, object: u32, out: &mut Printer<'_>) -> Result<(), Failure> {
-    for row in table.rows() {
-        if let Some(page) = row.page() {
-            out.lines(&[
-                ("object", object.into()),
-                ("chunk", row.n.into()),
-                ("page", page.into()),
-                ("valid", row.valid.into()),
-            ])?;
-        }
+fn copies(rows: &[u64], object: u32, out: &mut Printer<'_>) -> Result<(), Failure> {
+    for &row in rows {
+        let copy = ffi::copy(row);
+        out.lines(&[
+            ("object", object.into()),
+            ("chunk", copy.chunk.into()),
+            ("page", copy.page.into()),
+            ("valid", copy.valid.into()),
+        ])?;
     }
     Ok(())
 }

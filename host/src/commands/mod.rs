@@ -29,11 +29,13 @@ pub fn run(arguments: &Arguments, out: &mut dyn Write) -> Result<(), Failure> {
         Command::Find { source, block, .. } => find::find(&Opened::open(source, None, block)?, out),
         Command::Pages { on } => pages::pages(&Opened::on(on)?, out),
         Command::Header { on, page } => header::header(&Opened::on(on)?, page, out),
-        Command::List { on } => list::list(&Opened::on(on)?, out),
-        Command::Size { on, of } => size::size(&Opened::on(on)?, &of.object, out),
-        Command::Chunk { on, of, n } => chunk::chunk(&Opened::on(on)?, &of.object, n, out),
+        Command::List { on } => list::list(&Opened::past(on)?, out),
+        Command::Size { on, of } => size::size(&Opened::past(on)?, &of.object, out),
+        Command::Chunk { on, of, n } => chunk::chunk(&Opened::past(on)?, &of.object, n, out),
         Command::Read { on, of, out: name } => read::read(on, &of.object, name.as_deref(), out),
-        Command::Extract { on, object } => extract::extract(&Opened::on(on)?, object.as_ref(), out),
+        Command::Extract { on, object } => {
+            extract::extract(&Opened::past(on)?, object.as_ref(), out)
+        }
         Command::Script { source, script } => script::script(source, script, out),
         Command::Completions { shell } => completions::completions(*shell, out),
     }

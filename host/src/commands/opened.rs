@@ -2,14 +2,14 @@
 
 use std::cell::Cell;
 
-use crate::arguments::{Block, On, Source};
+use crate::arguments::{Block, On, Past, Source};
 use crate::block::Fitting;
 use crate::dump::Dump;
 use crate::failure::Failure;
-use crate::ffi::{self, Answer as _, Geometry, LayoutAnswer};
+use crate::ffi::{self, Answer as _, Geometry, KindAnswer, LayoutAnswer};
 use crate::objects::{by_sequence, Objects, Started};
 use crate::progress::Progress;
-use crate::refusal::{meaning, Asked};
+use crate::refusal::{kind_name, meaning, Asked};
 use crate::standard::say;
 use crate::typed::Typed;
 
@@ -21,6 +21,8 @@ pub struct Opened {
     pub layout: LayoutAnswer,
     pub block: Typed,
     pub pages: u32,
+    /// The page of the record before which the dump is read.
+    before: Option<Typed>,
     named: Option<Typed>,
     started: Cell<Option<Started>>,
 }
@@ -28,6 +30,16 @@ pub struct Opened {
 impl Opened {
     pub fn on(on: &On) -> Result<Opened, Failure> {
         Opened::open(&on.source, on.layout.as_ref(), &on.block)
+    }
+
+    /// Fails where the dump is to be read before what is no record.
+    pub fn past(past: &Past) -> Result<Opened, Failure> {
+        let mut opened = Opened::on(&past.on)?;
+        if let Some(page) = &past.before {
+            opened.check_record(page)?;
+            opened.before = Some(page.clone());
+        }
+        Ok(opened)
     }
 
     /// Where K is not named, the layout is found with K = 1, and then K; what was
@@ -50,6 +62,7 @@ impl Opened {
             layout,
             block: fitting.as_ref().map_or(first, |f| f.taken().into()),
             pages: 0,
+            before: None,
             named: named.cloned(),
             started: Cell::new(started),
         };
@@ -69,6 +82,22 @@ impl Opened {
         }
     }
 
+    fn check_record(&self, page: &Typed) -> Result<(), Failure> {
+        let asked = Asked {
+            page,
+            ..self.asked()
+        };
+        let kind = ffi::kind(&self.dump, self.geometry(), page.number);
+        match self.given(kind, asked)?.kind {
+            KindAnswer::HEADER | KindAnswer::DATA => Ok(()),
+            kind => {
+                let kind = kind_name(kind);
+                let no_record = format!("--before is the page of a record; page {page} is {kind}");
+                Err(Failure::Usage(no_record))
+            }
+        }
+    }
+
     /// The objects, and what is asked of this dump.
     pub fn objects(&self) -> Result<(Objects<'_>, Asked<'_>), Failure> {
         let asked = self.asked();
@@ -79,7 +108,8 @@ impl Opened {
             Some(started) => Ok(started),
             None => Started::of(&self.dump, on, by_sequence(&self.dump, on.layout)),
         };
-        let objects = started.and_then(|s| Objects::telling(&self.dump, on, s, told));
+        let before = self.before.as_ref().map(|page| page.number);
+        let objects = started.and_then(|s| Objects::telling(&self.dump, on, s, before, told));
         Ok((self.done(objects, asked)?, asked))
     }
 
@@ -87,6 +117,7 @@ impl Opened {
     pub fn asked(&self) -> Asked<'_> {
         Asked {
             layout: Some(self.layout),
+            before: self.before.as_ref(),
             ..Asked::dump(&self.dump, self.named.as_ref(), &self.block)
         }
     }

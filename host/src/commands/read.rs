@@ -7,7 +7,7 @@ use std::io::{self, ErrorKind, IoSlice, Seek, SeekFrom, Write};
 use sha2::{Digest, Sha256};
 
 use super::Opened;
-use crate::arguments::On;
+use crate::arguments::Past;
 use crate::failure::Failure;
 use crate::fields::{hex, Printer};
 use crate::new_file::NewFile;
@@ -23,7 +23,7 @@ const AT_ONCE: usize = 1024;
 const HOLE: u64 = 4096;
 
 pub fn read(
-    on: &On,
+    on: &Past,
     object: &Typed,
     name: Option<&OsStr>,
     out: &mut Printer<'_>,
@@ -33,7 +33,7 @@ pub fn read(
         let alone = "--json goes with read where --out names a file";
         return Err(Failure::Usage(alone.to_string()));
     }
-    let opened = Opened::on(on)?;
+    let opened = Opened::past(on)?;
     let (objects, asked) = opened.objects()?;
     let table = opened.done(objects.table(object.number), asked.of(object))?;
     let Some(name) = name else {

@@ -3,8 +3,8 @@
 use crc32fast::hash as crc32;
 
 use crate::ffi::{
-    ChunkAnswer, CountsAnswer, KindAnswer, ListAnswer, PlaceAnswer, SizeAnswer, TableAnswer,
-    TallyAnswer,
+    self, ChunkAnswer, CopiesAnswer, CopyAnswer, CountsAnswer, KindAnswer, ListAnswer, PlaceAnswer,
+    RunAnswer, SizeAnswer, TableAnswer, TallyAnswer,
 };
 use crate::fields;
 use crate::refusal::{kind_name, SHORT_BUFFER};
@@ -76,15 +76,32 @@ pub fn part(place: PlaceAnswer, dump: &[u8]) -> String {
     format!("part={offset}+{length}/{:08x}", crc32(place.of(dump)))
 }
 
+/// How a run of additions ended: with the page whose addition was refused.
+pub fn run(answer: RunAnswer) -> String {
+    match answer.refusal {
+        0 => done(0),
+        number => format!("{} page={}", done(number), answer.page),
+    }
+}
+
 /// The ids that a listing wrote in front of the words, and how many words it
 /// was lent.
 pub fn list(answer: ListAnswer, words: &[u32]) -> String {
+    listed("ids", answer, words)
+}
+
+/// The same of the pages of an object's records.
+pub fn records(answer: ListAnswer, words: &[u32]) -> String {
+    listed("records", answer, words)
+}
+
+fn listed(name: &str, answer: ListAnswer, words: &[u32]) -> String {
     if answer.refusal != 0 {
         return refused(answer.refusal, 0, answer.need);
     }
-    let ids = words.iter().take(answer.count as usize);
-    let ids: Vec<String> = ids.map(u32::to_string).collect();
-    format!("ids={} words={}", ids.join(","), words.len())
+    let listed = words.iter().take(answer.count as usize);
+    let listed: Vec<String> = listed.map(u32::to_string).collect();
+    format!("{name}={} words={}", listed.join(","), words.len())
 }
 
 pub fn objects(answer: TallyAnswer) -> String {
@@ -104,4 +121,25 @@ pub fn table(answer: TableAnswer, words: &[u32]) -> String {
     let rows: Vec<String> = rows.map(|row| format!("{}:{}", row[0], row[1])).collect();
     let (size, length) = (answer.size, words.len());
     format!("size={size} rows={} words={length}", rows.join(","))
+}
+
+/// The copies that were written in front of the rows, and how many rows were lent.
+pub fn copies(answer: CopiesAnswer, rows: &[u64]) -> String {
+    if answer.refusal != 0 {
+        return refused(answer.refusal, 0, answer.need);
+    }
+    let copies = rows.iter().take(answer.count as usize);
+    let copies = copies.map(|&row| ffi::copy(row));
+    let copies: Vec<String> = copies
+        .map(|copy| format!("{}:{}:{}", copy.chunk, copy.page, copy.valid))
+        .collect();
+    let CopiesAnswer { size, damaged, .. } = answer;
+    let (copies, length) = (copies.join(","), rows.len());
+    format!("size={size} copies={copies} damaged={damaged} rows={length}")
+}
+
+/// What a row says.
+pub fn copy(copy: CopyAnswer) -> String {
+    let CopyAnswer { chunk, page, valid } = copy;
+    format!("chunk={chunk} page={page} valid={valid}")
 }

@@ -9,16 +9,18 @@ The requests of a script, one a line; # starts a comment:
 
   find K            pages L K         counts L K        kind L K PAGE
   header L K PAGE   dsize L K OBJ     dchunk L K OBJ N  dpart L K OBJ N
-  dlist L K WORDS   dobjects L K      dread L K OBJ N BUFLEN
+  dlist L K WORDS   dobjects L K      copy ROW          dread L K OBJ N BUFLEN
   row L PLACE VALID
 
   start L K WORDS   add PAGE          size OBJ          chunk OBJ N
   part OBJ N        list WORDS        objects           read OBJ N BUFLEN
-  table OBJ WORDS   fill X            poke I X          peek I
+  table OBJ WORDS   copies OBJ ROWS   fill X            records OBJ WORDS
+  poke I X          peek I            older FROM TO PAGE
 
 L is P/S/T or a layout's number. The first ask the dump alone, the others an
 index: under the layout and K of the last accepted start, with as many words.
-k=, words= and layout= behind the arguments of such a call give it others.
+k=, words= and layout= behind the arguments of such a call give it others, and
+seed= behind those of a start gives it a seed, which is 0 if left out.
 ";
 
 /// What a call on the index is given by options of its own: layout, K and how
@@ -46,23 +48,27 @@ pub enum Request {
     Counts { on: Geometry },
     Kind { on: Geometry, page: u32 },
     Header { on: Geometry, page: u32 },
-    Start { on: Geometry, words: usize },
+    Start { on: Geometry, words: usize, seed: u32 },
     Add { lent: Lent, page: u32 },
+    Older { lent: Lent, from: u32, to: u32, before: u32 },
     Size { over: Over, object: u32 },
     Chunk { over: Over, object: u32, n: u32 },
     Read { over: Over, object: u32, n: u32, length: usize },
     Part { over: Over, object: u32, n: u32 },
     List { over: Over, length: usize },
     Objects { over: Over },
+    Records { lent: Lent, object: u32, length: usize },
     Table { lent: Lent, object: u32, length: usize },
     Row { layout: u32, place: u32, valid: u32 },
+    Copies { lent: Lent, object: u32, length: usize },
+    Copy { row: u64 },
     Fill { word: u32 },
     Poke { at: usize, word: u32 },
     Peek { at: usize },
 }
 
 impl Request {
-    /// How many words the request names, for the index, a list or a table.
+    /// How many words the request names, for the index or for what it lists.
     pub fn words(&self) -> Option<usize> {
         let over = |over: Over| match over {
             Over::Index(lent) => lent.words,
@@ -70,14 +76,18 @@ impl Request {
         };
         match *self {
             Request::Start { words, .. } => Some(words),
-            Request::Add { lent, .. } => lent.words,
+            Request::Add { lent, .. }
+            | Request::Older { lent, .. }
+            | Request::Copies { lent, .. } => lent.words,
             Request::Size { over: o, .. }
             | Request::Chunk { over: o, .. }
             | Request::Read { over: o, .. }
             | Request::Part { over: o, .. }
             | Request::Objects { over: o } => over(o),
             Request::List { over: o, length } => over(o).max(Some(length)),
-            Request::Table { lent, length, .. } => lent.words.max(Some(length)),
+            Request::Table { lent, length, .. } | Request::Records { lent, length, .. } => {
+                lent.words.max(Some(length))
+            }
             _ => None,
         }
     }
@@ -127,15 +137,23 @@ impl Words<'_> {
                 on: self.on()?,
                 page: self.number("PAGE")?,
             },
-            "start" => Request::Start {
-                on: self.on()?,
-                words: self.length("WORDS")?,
-            },
+            "start" => {
+                let seed = self.seed()?;
+                let on = self.on()?;
+                let words = self.length("WORDS")?;
+                Request::Start { on, words, seed }
+            }
             "add" => {
                 let lent = self.lent()?;
                 let page = self.number("PAGE")?;
                 Request::Add { lent, page }
             }
+            "older" => Request::Older {
+                lent: self.lent()?,
+                from: self.number("FROM")?,
+                to: self.number("TO")?,
+                before: self.number("PAGE")?,
+            },
             "fill" => Request::Fill { word: self.word()? },
             "poke" => Request::Poke {
                 at: self.length("I")?,
@@ -144,16 +162,24 @@ impl Words<'_> {
             "peek" => Request::Peek {
                 at: self.length("I")?,
             },
-            "table" => {
-                let lent = self.lent()?;
-                let object = self.number("OBJ")?;
-                let length = self.length("WORDS")?;
-                Request::Table {
-                    lent,
-                    object,
-                    length,
-                }
-            }
+            "table" => Request::Table {
+                lent: self.lent()?,
+                object: self.number("OBJ")?,
+                length: self.length("WORDS")?,
+            },
+            "records" => Request::Records {
+                lent: self.lent()?,
+                object: self.number("OBJ")?,
+                length: self.length("WORDS")?,
+            },
+            "copies" => Request::Copies {
+                lent: self.lent()?,
+                object: self.number("OBJ")?,
+                length: self.length("ROWS")?,
+            },
+            "copy" => Request::Copy {
+                row: self.next("ROW", long)?,
+            },
             "row" => Request::Row {
                 layout: self.next("L", layout)?,
                 place: self.number("PLACE")?,
@@ -218,7 +244,17 @@ impl Words<'_> {
 
     /// A word of the index, which has 32 bits.
     fn word(&mut self) -> Result<u32, String> {
-        self.next("X", |word| u32::try_from(long(word)?).ok())
+        self.next("X", word)
+    }
+
+    /// The seed, which may stand behind the arguments of a start.
+    fn seed(&mut self) -> Result<u32, String> {
+        let Some(value) = self.0.last().and_then(|word| word.strip_prefix("seed=")) else {
+            return Ok(0);
+        };
+        let seed = word(value).ok_or_else(|| format!("seed cannot be {value}"))?;
+        self.0.pop();
+        Ok(seed)
     }
 
     fn on(&mut self) -> Result<Geometry, String> {
@@ -249,6 +285,11 @@ fn length(word: &str) -> Option<usize> {
     usize::try_from(long(word)?).ok()
 }
 
+/// A number of 32 bits and no more.
+fn word(word: &str) -> Option<u32> {
+    u32::try_from(long(word)?).ok()
+}
+
 #[cfg(test)]
 mod tests {
     use super::*;
@@ -262,7 +303,35 @@ mod tests {
         let lines = [
             ("find 0x4 # K", Request::Find { k: 4 }),
             ("kind 512/16/0 4 3", Request::Kind { on, page: 3 }),
-            ("start 6 4 48", Request::Start { on, words: 48 }),
+            (
+                "start 6 4 48",
+                Request::Start {
+                    on,
+                    words: 48,
+                    seed: 0,
+                },
+            ),
+            (
+                "start 6 4 48 seed=0x10",
+                Request::Start {
+                    on,
+                    words: 48,
+                    seed: 16,
+                },
+            ),
+            (
+                "older 0 8 4 k=4",
+                Request::Older {
+                    lent: Lent {
+                        k: Some(4),
+                        ..Lent::default()
+                    },
+                    from: 0,
+                    to: 8,
+                    before: 4,
+                },
+            ),
+            ("copy 0x100000000", Request::Copy { row: 1 << 32 }),
             (
                 "  dread 6 4 257 1 512",
                 Request::Read {
@@ -332,7 +401,7 @@ mod tests {
             assert!(request(&format!("{line} 1")).is_err(), "{form}");
             count += 1;
         }
-        assert_eq!(count, 24);
+        assert_eq!(count, 28);
     }
 
     #[test]
@@ -349,6 +418,11 @@ mod tests {
             ("objects 257", "objects does not take 257"),
             ("fill 0x100000000", "X cannot be 0x100000000"),
             ("size 257 k=", "k cannot be "),
+            (
+                "start 6 4 48 seed=0x100000000",
+                "seed cannot be 0x100000000",
+            ),
+            ("size 257 seed=1", "there is no option seed="),
         ];
         for (line, said) in wrong {
             assert_eq!(request(line), Err(said.to_string()), "{line}");

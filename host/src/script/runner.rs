@@ -10,6 +10,7 @@ use crate::ffi::{self, Answer as _, Geometry};
 /// What a buffer holds before a call, and the index words before the first.
 const BYTE: u8 = 0xA5;
 const WORD: u32 = 0xA5A5_A5A5;
+const ROW: u64 = 0xA5A5_A5A5_A5A5_A5A5;
 
 /// The dump, the index words, and what the last accepted start was given.
 pub struct Runner<'d> {
@@ -24,6 +25,7 @@ pub struct Answer {
     pub line: String,
     pub bytes: Vec<u8>,
     pub words: Vec<u32>,
+    pub rows: Vec<u64>,
 }
 
 /// A layout and a K that every call refuses: those of no start.
@@ -56,8 +58,18 @@ impl<'d> Runner<'d> {
                 line::done(0)
             }
             Request::Peek { at } => format!("word={}", self.cell(at)?),
-            Request::Start { on, words } => self.start(on, words),
+            Request::Start { on, words, seed } => self.start(on, words, seed),
             Request::Add { lent, page } => self.add(lent, page),
+            Request::Older {
+                lent,
+                from,
+                to,
+                before,
+            } => {
+                let (on, words) = self.given(lent);
+                let cells = &mut self.index[..words];
+                line::run(ffi::add_older(self.dump, on, cells, from..to, before))
+            }
             Request::Size { over, object } => self.size(over, object),
             Request::Chunk { over, object, n } => self.chunk(over, object, n),
             Request::Read {
@@ -75,6 +87,14 @@ impl<'d> Runner<'d> {
                 self.list(over, &mut answer.words)
             }
             Request::Objects { over } => self.objects(over),
+            Request::Records {
+                lent,
+                object,
+                length,
+            } => {
+                answer.words = filled(length, WORD)?;
+                self.records(lent, object, &mut answer.words)
+            }
             Request::Table {
                 lent,
                 object,
@@ -83,6 +103,15 @@ impl<'d> Runner<'d> {
                 answer.words = filled(length, WORD)?;
                 self.table(lent, object, &mut answer.words)
             }
+            Request::Copies {
+                lent,
+                object,
+                length,
+            } => {
+                answer.rows = filled(length, ROW)?;
+                self.copies(lent, object, &mut answer.rows)
+            }
+            Request::Copy { row } => line::copy(ffi::copy(row)),
             Request::Row {
                 layout,
                 place,
@@ -126,9 +155,9 @@ impl<'d> Runner<'d> {
         (Geometry { layout, block }, lent.words.unwrap_or(words))
     }
 
-    fn start(&mut self, on: Geometry, words: usize) -> String {
+    fn start(&mut self, on: Geometry, words: usize, seed: u32) -> String {
         let cells = &mut self.index[..words];
-        let refusal = ffi::start(self.dump, on, cells, 0);
+        let refusal = ffi::start(self.dump, on, cells, seed);
         if refusal == 0 {
             self.started = Some((on, words));
         }
@@ -203,6 +232,20 @@ impl<'d> Runner<'d> {
                 ffi::objects(self.dump, on, &self.index[..words])
             }
         })
+    }
+
+    fn records(&self, lent: Lent, object: u32, words: &mut [u32]) -> String {
+        let (on, count) = self.given(lent);
+        let cells = &self.index[..count];
+        let answer = ffi::records(self.dump, on, cells, object, words);
+        line::records(answer, words)
+    }
+
+    fn copies(&self, lent: Lent, object: u32, rows: &mut [u64]) -> String {
+        let (on, count) = self.given(lent);
+        let cells = &self.index[..count];
+        let answer = ffi::copies(self.dump, on, cells, object, rows);
+        line::copies(answer, rows)
     }
 
     fn table(&self, lent: Lent, object: u32, words: &mut [u32]) -> String {

@@ -2,6 +2,7 @@
 //!
 //! - `dumps`: W, and dumps made of it.
 //! - `transcript`: every command on W, every refusal and every habit, with stored output.
+//! - `before`: dumps as they once stood.
 //! - `found`: K where it is not named.
 //! - `inputs`: dumps and scripts that are no plain files.
 //! - `spread`: dumps that are long enough for a second thread.
@@ -10,6 +11,7 @@
 //! - `out`: files that `read --out` writes.
 //! - `progress`: what is shown of long work.
 
+mod before;
 mod dumps;
 mod found;
 mod inputs;

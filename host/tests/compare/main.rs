@@ -48,6 +48,7 @@ fn the_library_and_the_second_reader_agree() {
             assert_eq!(answer.line, expected.line, "{}", place());
             assert!(answer.bytes == expected.bytes, "{}: the buffer", place());
             assert!(answer.words == expected.words, "{}: the words", place());
+            assert!(answer.rows == expected.rows, "{}: the rows", place());
             assert!(library.index() == index, "{}: the index", place());
             answers += 1;
         }

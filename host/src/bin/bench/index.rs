@@ -4,6 +4,7 @@
 use std::ops::Range;
 
 use lohenarr::ffi::{self, Geometry};
+use lohenarr::objects::drawn;
 
 use super::plain::{bad_type, claim_of, word, Claim, LAYOUTS};
 
@@ -25,9 +26,10 @@ pub struct Index<'d> {
     cells: Vec<u32>,
 }
 
-/// The words for the whole index, and those of each page and of the slot with its
-/// number.
+/// The words for the whole index, of which one is the seed, and those of each page:
+/// its link, and three of the table of objects.
 const SHARED: usize = 16;
+const SEED: usize = 0;
 const PER_PAGE: usize = 4;
 
 /// Where a page's link stands, a slot's object and its first link.
@@ -36,11 +38,27 @@ fn link_of(page: usize) -> usize {
 }
 
 fn key_of(slot: usize) -> usize {
-    link_of(slot) + 1
+    of_table(2 * slot)
 }
 
 fn first_of(slot: usize) -> usize {
-    link_of(slot) + 2
+    of_table(2 * slot + 1)
+}
+
+fn of_table(number: usize) -> usize {
+    SHARED + 1 + number + number / (PER_PAGE - 1)
+}
+
+/// How many slots there are for so many pages.
+fn slots(pages: usize) -> usize {
+    pages + pages / 2
+}
+
+/// An object's id mixed with a seed.
+fn mixed(seed: u32, object: u32) -> u64 {
+    let (seed, id) = (u64::from(seed), u64::from(object));
+    let middle = u64::from(((id * seed) >> 14) as u32);
+    id + u64::from(((middle * middle) >> 16) as u32)
 }
 
 impl<'d> Index<'d> {
@@ -49,8 +67,9 @@ impl<'d> Index<'d> {
         let (data, spare, tag) = LAYOUTS[on.layout as usize];
         let page = data + spare;
         let pages = dump.len() / page;
-        let cells = vec![0; ffi::cells(pages as u32)];
+        let mut cells = vec![0; ffi::cells(pages as u32)];
         assert_eq!(cells.len(), link_of(pages), "the library's words");
+        cells[SEED] = drawn();
         let mut index = Index {
             dump,
             data,
@@ -92,13 +111,14 @@ impl<'d> Index<'d> {
 
     /// The slot of an object: its own, or else a free one.
     fn slot(&self, object: u32) -> usize {
-        let home = object as usize % self.pages;
+        let slots = slots(self.pages);
+        let home = (mixed(self.cells[SEED], object) % slots as u64) as usize;
         let serves = |&s: &usize| {
             let key = self.cells[key_of(s)];
             key == 0 || key == object
         };
         let near = (0..=home).rev().find(serves);
-        near.unwrap_or_else(|| (0..self.pages).rev().find(serves).unwrap_or(home))
+        near.unwrap_or_else(|| (0..slots).rev().find(serves).unwrap_or(home))
     }
 
     fn add(&mut self, page: usize) {
@@ -172,10 +192,15 @@ impl<'d> Index<'d> {
         (valid > 0).then_some((page as u32, valid as u32))
     }
 
+    /// The keys of the slots that are used.
+    fn keys(&self) -> impl Iterator<Item = u32> + '_ {
+        let keys = (0..slots(self.pages)).map(|slot| self.cells[key_of(slot)]);
+        keys.filter(|&key| key != 0)
+    }
+
     /// The ids of the live objects, ascending.
     pub fn list(&self) -> Vec<u32> {
-        let keys = (0..self.pages).map(|slot| self.cells[key_of(slot)]);
-        let mut ids: Vec<u32> = keys.filter(|&key| key != 0 && self.is_live(key)).collect();
+        let mut ids: Vec<u32> = self.keys().filter(|&key| self.is_live(key)).collect();
         ids.sort_unstable();
         ids
     }
@@ -193,9 +218,8 @@ impl<'d> Index<'d> {
 
     /// How many objects have a record. The links met are those of a listing.
     pub fn objects(&self) -> u32 {
-        let keys = (0..self.pages).map(|slot| self.cells[key_of(slot)]);
         let mut count = 0;
-        for object in keys.filter(|&key| key != 0) {
+        for object in self.keys() {
             let mut walk = self.walk(object, self.slot(object));
             let Some((_, mut chunk)) = walk.next(self) else {
                 continue;
@@ -231,6 +255,36 @@ impl<'d> Index<'d> {
             }
         }
         Some((size, rows))
+    }
+
+    /// The shown copies of a live file, ascending by chunk: chunk, page and valid
+    /// length. One walk notes every copy that no newer header hides, and of those of
+    /// one chunk the first one met stays.
+    pub fn copies(&self, object: u32) -> Option<Vec<(u32, u32, u32)>> {
+        let size = self.size(object)?;
+        let mut met = Vec::new();
+        let (mut newest, mut cut) = (true, size);
+        let mut walk = self.walk(object, self.slot(object));
+        while let Some((page, chunk)) = walk.next(self) {
+            if chunk == 0 {
+                cut = cut.min(self.cut(page, newest));
+                newest = false;
+                continue;
+            }
+            let left = cut.saturating_sub(self.end(chunk, 0));
+            if left > 0 {
+                let count = u64::from(word(self.tags(page), 12));
+                met.push((chunk, met.len(), page as u32, left.min(count) as u32));
+            }
+        }
+        met.sort_unstable();
+        met.dedup_by_key(|copy| copy.0);
+        let copies = met.into_iter();
+        Some(
+            copies
+                .map(|(chunk, _, page, valid)| (chunk, page, valid))
+                .collect(),
+        )
     }
 
     /// Hands on the bytes of a live file by its table: of each chunk the valid

@@ -16,12 +16,16 @@
 //!
 //! Plain Rust has the same index words, filled in the same order, and tries
 //! each link that it meets. `table` is the rows of the long file, by one walk on
-//! both sides; `read` is every short file and `long` the long one, each by its
-//! table, and both sides copy each piece of the dump to the same buffer.
+//! both sides, and `copies` its shown copies; `read` is every short file and
+//! `long` the long one, each by its table, and both sides copy each piece of the
+//! dump to the same buffer.
+//!
+//! `bench hostile` measures the commands on dumps that are made to be slow.
 
 mod dump;
 mod find;
 mod find_rows;
+mod hostile;
 mod index;
 mod plain;
 mod sleuthkit;
@@ -32,7 +36,7 @@ use std::convert::Infallible;
 use std::env;
 use std::fs;
 use std::hint::black_box;
-use std::path::PathBuf;
+use std::path::{Path, PathBuf};
 use std::process::{self, ExitCode};
 
 use lohenarr::dump::Dump;
@@ -48,14 +52,21 @@ const BLOCK: u32 = 64;
 const TIMES: usize = 10;
 
 fn main() -> ExitCode {
+    if env::args_os().nth(1).is_some_and(|word| word == "hostile") {
+        return ended(hostile::measure(env::args_os().skip(2)));
+    }
     let mut numbers = env::args().skip(1).map(|word| word.parse::<usize>());
     let mib = numbers.next().unwrap_or(Ok(256));
     let rounds = numbers.next().unwrap_or(Ok(15));
     let (Ok(mib @ 1..=1024), Ok(rounds @ 1..)) = (mib, rounds) else {
-        eprintln!("usage: bench [MIB, at most 1024] [ROUNDS]");
+        eprintln!("usage: bench [MIB, at most 1024] [ROUNDS], or bench hostile [FOLDER] [PROGRAM]");
         return ExitCode::from(2);
     };
-    match measure(mib, rounds) {
+    ended(measure(mib, rounds))
+}
+
+fn ended(measured: Result<(), String>) -> ExitCode {
+    match measured {
         Ok(()) => ExitCode::SUCCESS,
         Err(error) => {
             eprintln!("{error}");
@@ -174,6 +185,18 @@ fn contents(library: &Objects<'_>, plain: &Index<'_>, rounds: usize) {
         || library.table(LONG).ok().map(|table| table.size),
         || plain.table(LONG).map(|(size, _)| size),
     );
+    let memory = RefCell::new(Vec::new());
+    timing::compare(
+        "copies",
+        rounds,
+        || {
+            let mut memory = memory.borrow_mut();
+            let rows = library.copies(LONG, &mut memory).ok()?;
+            let copies = rows.iter().map(|&row| ffi::copy(row));
+            Some(copies.map(|c| (c.chunk, c.page, c.valid)).collect())
+        },
+        || plain.copies(LONG),
+    );
     let buffer = RefCell::new(vec![0; 1 << 16]);
     let put = |piece: &[u8]| {
         let mut buffer = buffer.borrow_mut();
@@ -225,7 +248,11 @@ struct Temporary(PathBuf);
 
 impl Temporary {
     fn new(name: &str) -> Temporary {
-        Temporary(env::temp_dir().join(format!("lohenarr-bench-{}-{name}", process::id())))
+        Temporary::within(&env::temp_dir(), name)
+    }
+
+    fn within(folder: &Path, name: &str) -> Temporary {
+        Temporary(folder.join(format!("lohenarr-bench-{}-{name}", process::id())))
     }
 }
 

@@ -4,6 +4,7 @@
 use super::dump::Dump;
 use super::rng::Rng;
 use crate::second::cells::need;
+use crate::second::copies::packed;
 use crate::second::index::{Lent, Over, Reader};
 use crate::second::layout::{opened, table, Layout, Named};
 use crate::second::page::{LAST_CHUNK, LAST_OBJECT};
@@ -22,6 +23,8 @@ pub struct Asker<'a> {
     pub dump: &'a Dump,
     /// Layout and page count of the last accepted start.
     pub started: Option<(Layout, usize)>,
+    /// The seed that the index has.
+    pub seed: u32,
     pub list: Vec<Request>,
 }
 
@@ -156,6 +159,43 @@ impl Asker<'_> {
             (need, _) => need + self.rng.between(1, 5),
         };
         words as usize
+    }
+
+    /// Rows for the copies of an object: those that it needs when every page is
+    /// added, about as many, or any few.
+    pub fn copies_rows(&mut self, object: u64) -> usize {
+        let reader = Reader::new(&self.dump.bytes, Wrong::None);
+        let over = Over::Dump(self.dump.layout.into(), self.dump.k);
+        let need = 2 * reader.met(over, object) as u64;
+        let any = self.rng.below(2 * self.dump.span + 6);
+        let rows = match self.rng.below(10) {
+            0 => any,
+            1 => need / 2,
+            2 | 3 => need.saturating_sub(1),
+            4 | 5 => need,
+            _ => need + self.rng.between(1, 5),
+        };
+        rows as usize
+    }
+
+    /// A row of a copy: of numbers that are mostly in range.
+    pub fn copy(&mut self) -> Request {
+        let (chunk, page) = (self.chunk(), self.page());
+        let valid = self.rng.pick(&self.dump.lengths_or_one());
+        let [any, high] = [self.rng.word(), self.rng.word()].map(u64::from);
+        let row = match self.rng.below(4) {
+            0 => high << 32 | any,
+            1 => self.rng.pick(&[0, 1, u64::MAX, 1 << 15, 1 << 36, 1 << 35]),
+            _ => packed([chunk % (1 << 20), page % (1 << 21), valid], Wrong::None),
+        };
+        Request::Copy { row }
+    }
+
+    /// A seed: none, any, or one of few bits.
+    pub fn any_seed(&mut self) -> u32 {
+        let any = self.rng.word();
+        self.rng
+            .pick(&[0, 0, 0, any, any, any, 1, u32::MAX, 1 << 31, any & 0xFFFF])
     }
 
     /// A row's words: of a page and a length, each mostly in range.

@@ -23,6 +23,16 @@ pub struct Dump {
     pub lengths: Vec<u64>,
 }
 
+impl Dump {
+    /// The lengths, or 1 where there are none.
+    pub fn lengths_or_one(&self) -> Vec<u64> {
+        match self.lengths.is_empty() {
+            true => vec![1],
+            false => self.lengths.clone(),
+        }
+    }
+}
+
 /// How many out of a hundred pages are data, header, blank, foreign, noise.
 const MIXES: [[u64; 5]; 10] = [
     [58, 34, 4, 2, 2],

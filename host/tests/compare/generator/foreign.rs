@@ -2,7 +2,7 @@
 //! and single words poked after additions.
 
 use super::arguments::Asker;
-use crate::second::cells::{first_of, key_of, link_of, link_to, need};
+use crate::second::cells::{first_of, key_of, link_of, link_to, mixed, need, slots, SEED};
 use crate::second::index::{Lent, Over};
 use crate::second::layout::Layout;
 use crate::second::page::LAST_OBJECT;
@@ -74,20 +74,25 @@ impl Asker<'_> {
             k: self.k(),
             words,
         };
-        match self.rng.chance(30) {
-            true => {
+        match self.rng.below(100) {
+            0..=29 => {
                 let page = self.page();
                 self.list.push(Request::Add { lent, page });
             }
-            false => self.lookup(Over::Index(lent)),
+            30..=34 => self.older(lent),
+            _ => self.lookup(Over::Index(lent)),
         }
     }
 
-    fn fill(&mut self, word: u32) {
+    pub fn fill(&mut self, word: u32) {
+        self.seed = word;
         self.list.push(Request::Fill { word });
     }
 
     fn poke(&mut self, at: usize, word: u32) {
+        if at == SEED {
+            self.seed = word;
+        }
         self.list.push(Request::Poke { at, word });
     }
 
@@ -129,18 +134,22 @@ impl Asker<'_> {
     fn poke_somewhere(&mut self, pages: usize) {
         let page = self.rng.below(pages as u64) as usize;
         let slot = self.slot_of_some_object(pages);
-        match self.rng.below(10) {
-            0..=3 => {
+        match self.rng.below(40) {
+            0 => {
+                let seed = self.any_seed();
+                self.poke(SEED, seed);
+            }
+            1..=15 => {
                 let link = self.any_link(pages);
                 self.poke(link_of(page), link);
             }
-            4 => self.poke(link_of(page), link_to(page)),
-            5 => self.poke(link_of(page), 0),
-            6 | 7 => {
+            16..=19 => self.poke(link_of(page), link_to(page)),
+            20..=23 => self.poke(link_of(page), 0),
+            24..=31 => {
                 let link = self.any_link(pages);
                 self.poke(first_of(slot), link);
             }
-            8 => {
+            32..=35 => {
                 let key = self.any_key();
                 self.poke(key_of(slot), key);
             }
@@ -153,8 +162,15 @@ impl Asker<'_> {
 
     /// The home of an object of the dump, or a slot close by.
     fn slot_of_some_object(&mut self, pages: usize) -> usize {
-        let home = self.rng.pick(&self.dump.ids) as usize + pages;
-        (home - self.rng.pick(&[0, 0, 0, 1]).min(pages)) % pages
+        let id = self.rng.pick(&self.dump.ids);
+        let home = self.home(id, pages) + slots(pages);
+        (home - self.rng.pick(&[0, 0, 0, 1])) % slots(pages)
+    }
+
+    /// The home of an object.
+    fn home(&self, id: u64, pages: usize) -> usize {
+        let number = mixed(self.seed, id as u32, Wrong::None);
+        (number % slots(pages) as u64) as usize
     }
 
     /// Chains of some objects as nobody added them: part of the records, now
@@ -173,7 +189,7 @@ impl Asker<'_> {
                 let place = self.rng.below(chain.len() as u64 - 1) as usize;
                 chain.swap(place, place + 1);
             }
-            let slot = id as usize % pages;
+            let slot = self.home(id, pages);
             self.poke(key_of(slot), id as u32);
             let mut at = first_of(slot);
             for page in chain {

@@ -16,6 +16,7 @@ pub fn requests(rng: &mut Rng, dump: &Dump) -> Vec<Request> {
         rng,
         dump,
         started: None,
+        seed: 0,
         list,
     };
     asker.whole_dump();
@@ -63,8 +64,11 @@ impl Asker<'_> {
         let n = self.chunk();
         let ids = self.dump.ids.len();
         if let Over::Index(lent) = over {
-            if self.rng.chance(15) {
-                return self.table(lent, object);
+            match self.rng.below(100) {
+                0..=14 => return self.table(lent, object),
+                15..=29 => return self.copies(lent, object),
+                30..=36 => return self.records(lent, object),
+                _ => {}
             }
         }
         let lookup = match self.rng.below(21) {
@@ -100,6 +104,51 @@ impl Asker<'_> {
         }
     }
 
+    /// The shown copies of a file, and what some row says.
+    fn copies(&mut self, lent: Lent, object: u64) {
+        let buffer = self.copies_rows(object);
+        self.list.push(Request::Copies {
+            lent,
+            object,
+            buffer,
+        });
+        if self.rng.chance(30) {
+            let copy = self.copy();
+            self.list.push(copy);
+        }
+    }
+
+    /// The records of an object, in words that are mostly enough.
+    fn records(&mut self, lent: Lent, object: u64) {
+        let pages = self.pages() as usize;
+        let few = self.rng.below(8) as usize;
+        let buffer = self.rng.pick(&[pages, pages, pages + 1, few, pages / 2]);
+        self.list.push(Request::Records {
+            lent,
+            object,
+            buffer,
+        });
+    }
+
+    /// Additions of the older records of some pages, mostly of all.
+    pub fn older(&mut self, lent: Lent) {
+        let pages = self.pages();
+        let (from, to) = match self.rng.chance(60) {
+            true => (0, pages),
+            // the page where a run begins is told, in 32 bits
+            false => (self.page().min(0xFFFF_FFFF), self.page()),
+        };
+        // pages that the dump lacks are gone over one by one
+        let to = to.min(pages + self.rng.pick(&[0, 1, 100]));
+        let before = self.page();
+        self.list.push(Request::Older {
+            lent,
+            from,
+            to,
+            before,
+        });
+    }
+
     /// A start that may be refused.
     fn start(&mut self) {
         let layout = self.any_layout();
@@ -109,11 +158,13 @@ impl Asker<'_> {
     }
 
     pub fn start_with(&mut self, lent: Lent) {
+        let seed = self.any_seed();
         if !self.refused(lent) {
             let layout = lent.layout.layout();
             self.started = layout.map(|l| (l, self.dump.bytes.len() / l.page()));
+            self.seed = seed;
         }
-        self.list.push(Request::Start { lent });
+        self.list.push(Request::Start { lent, seed });
     }
 
     /// What a call on the started index is lent; a layout other than the
@@ -158,7 +209,7 @@ impl Asker<'_> {
         }
         if self.rng.chance(10) {
             let word = self.rng.pick(&[0, 1, 0xFFFF_FFFF, 0x0101_0101]);
-            self.list.push(Request::Fill { word });
+            self.fill(word);
             self.started = None;
         }
         let layout = self.named(self.dump.layout);
@@ -174,6 +225,15 @@ impl Asker<'_> {
             self.list.push(Request::Add { lent, page: 0 });
             return;
         };
+        if self.rng.chance(25) {
+            for _ in 0..self.rng.between(1, 3) {
+                let lent = self.lent(layout);
+                self.older(lent);
+                for _ in 0..self.rng.between(2, 6) {
+                    self.index_lookup(layout);
+                }
+            }
+        }
         self.additions(layout, pages);
         for _ in 0..self.rng.between(10, 20) {
             self.index_lookup(layout);
@@ -217,6 +277,10 @@ impl Asker<'_> {
             }
             if self.rng.chance(2) {
                 self.refused_start(layout);
+            }
+            if self.rng.chance(1) {
+                let lent = self.lent(layout);
+                self.older(lent);
             }
             let asked = if 3 * done < order.len() {
                 most / 4

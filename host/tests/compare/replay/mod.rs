@@ -6,7 +6,7 @@ mod vectors;
 
 use std::{env, fs};
 
-use crate::second::cells::{first_of, key_of, link_of};
+use crate::second::cells::link_of;
 use crate::second::index::{Lent, Over, Reader};
 use crate::second::layout::Layout;
 use crate::second::page::LAST_CHUNK;
@@ -66,7 +66,7 @@ fn lines(vector: &Vector) -> String {
     let (layout, words) = (found.into(), INDEX);
     let lent = Lent { layout, k, words };
     let over = Over::Index(lent);
-    reader.start(lent).unwrap();
+    reader.start(lent, 0).unwrap();
     let pages = vector.dump.len() / found.page();
     for page in (0..pages).rev() {
         reader.add(lent, page as u64).unwrap();
@@ -85,9 +85,9 @@ fn lines(vector: &Vector) -> String {
     lines
 }
 
-/// The line of what an index holds for a page and the slot of its number.
+/// The line of a page's link and of two words behind it.
 fn cell(words: &[u32], page: usize) -> String {
-    let [link, key, first] = [link_of(page), key_of(page), first_of(page)].map(|at| words[at]);
+    let [link, key, first] = [0, 1, 2].map(|behind| words[link_of(page) + behind]);
     format!("link={link} key={key} first={first}\n")
 }
 

@@ -10,32 +10,60 @@ use super::wrong::Wrong;
 const SHARED: usize = 16;
 const PER_PAGE: usize = 4;
 
-/// What stands among the words of a page and of the slot with its number.
-const LINK: usize = 0;
-const KEY: usize = 1;
-const FIRST: usize = 2;
-const UNUSED: usize = 3;
+/// Where the seed stands.
+pub const SEED: usize = 0;
 
 /// How many words so many pages need.
 pub fn need(pages: usize) -> usize {
     SHARED + PER_PAGE * pages
 }
 
+/// The link of a page: the first of its words.
 pub fn link_of(page: usize) -> usize {
-    need(page) + LINK
+    need(page)
+}
+
+/// How many slots there are for so many pages.
+pub fn slots(pages: usize) -> usize {
+    pages + pages / 2
+}
+
+/// The slots lie one behind the other, two words each, in the words of the pages
+/// that are no links.
+fn of_slots(number: usize) -> usize {
+    let (page, place) = (number / (PER_PAGE - 1), number % (PER_PAGE - 1));
+    link_of(page) + 1 + place
 }
 
 pub fn key_of(slot: usize) -> usize {
-    need(slot) + KEY
+    of_slots(2 * slot)
 }
 
 pub fn first_of(slot: usize) -> usize {
-    need(slot) + FIRST
+    of_slots(2 * slot + 1)
 }
 
-/// Whether a word of the index is read by no rule.
-pub fn unused(at: usize) -> bool {
-    at < SHARED || (at - SHARED) % PER_PAGE == UNUSED
+/// Whether a word of the index of so many pages is read by no rule.
+pub fn unused(at: usize, pages: usize) -> bool {
+    let links = (0..pages).map(link_of);
+    let of_slots = (0..2 * slots(pages)).map(of_slots);
+    !links.chain(of_slots).chain([SEED]).any(|used| used == at)
+}
+
+/// The number by which the home of an object is told among the slots: its id, to
+/// which a seed that is not 0 adds what nobody can foresee.
+pub fn mixed(seed: u32, id: u32, wrong: Wrong) -> u64 {
+    let word = |number: u64| u64::from(number as u32);
+    let (seed, id) = (u64::from(seed), u64::from(id));
+    let middle = word((seed * id) >> 14);
+    let square = word((middle * middle) >> 16);
+    match wrong {
+        Wrong::SeedIgnored => id,
+        Wrong::SeedAdded => id + seed,
+        Wrong::MixedWithoutSquare => id + middle,
+        Wrong::MixedWithoutId => square,
+        _ => id + square,
+    }
 }
 
 /// The link to a page; 0 and 1 lead nowhere.
@@ -85,13 +113,22 @@ impl Cells<'_> {
         self.words[key_of(slot)]
     }
 
+    /// How many slots there are.
+    fn slots(&self) -> usize {
+        match self.wrong {
+            Wrong::SlotForEachPage => self.pages,
+            _ => slots(self.pages),
+        }
+    }
+
     /// The slot of an object: free or its own, from its home down, then from
     /// the last one down; its home where none is.
     fn slot(&self, id: u32) -> usize {
-        let home = id as usize % self.pages;
-        let mut slots: Vec<usize> = (0..self.pages).collect();
+        let count = self.slots();
+        let home = (mixed(self.words[SEED], id, self.wrong) % count as u64) as usize;
+        let mut slots: Vec<usize> = (0..count).collect();
         slots.reverse();
-        slots.rotate_left(self.pages - 1 - home);
+        slots.rotate_left(count - 1 - home);
         if self.wrong == Wrong::SlotsSearchedUpwards {
             slots[1..].reverse();
         }
@@ -115,7 +152,7 @@ impl Cells<'_> {
                 _ => key != 0 && self.slot(key) == *slot,
             }
         };
-        let slots = (0..self.pages).filter(own);
+        let slots = (0..self.slots()).filter(own);
         slots.map(|slot| self.key(slot)).collect()
     }
 

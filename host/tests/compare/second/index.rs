@@ -2,10 +2,12 @@
 //! and listings go by the set of pages added since the start, as if all others
 //! were blank; on other cells, by what the words say.
 
-use super::cells::{need, unused, Cells};
+use std::ops::Range;
+
+use super::cells::{need, unused, Cells, SEED};
 use super::layout::{opened, Layout, Named};
-use super::page::{kind, Kind};
-use super::records::{ids, records};
+use super::page::{kind, Kind, Record};
+use super::records::{age, ids, records};
 use super::refusal::{refuse, Refusal};
 use super::rules::Object;
 use super::wrong::Wrong;
@@ -106,7 +108,7 @@ impl<'d> Reader<'d> {
     }
 
     /// Start: no page is added any more. A refused start changes nothing.
-    pub fn start(&mut self, lent: Lent) -> Result<(), Refusal> {
+    pub fn start(&mut self, lent: Lent, seed: u32) -> Result<(), Refusal> {
         let tests = self.opened(lent.layout, lent.k).and_then(|opened| {
             let short = self.short_index(lent.words, opened.1);
             refuse(&[(Refusal::ShortIndex, short)], self.wrong).map(|()| opened)
@@ -129,21 +131,73 @@ impl<'d> Reader<'d> {
             _ => need(pages),
         };
         for (at, word) in self.words.iter_mut().enumerate().take(end) {
-            if self.wrong != Wrong::StartLeavesUnused || !unused(at) {
+            if self.wrong != Wrong::StartLeavesUnused || !unused(at, pages) {
                 *word = 0;
             }
+        }
+        if self.wrong != Wrong::SeedNotKept {
+            self.words[SEED] = seed;
         }
         Ok(())
     }
 
-    /// Add a page, record or not.
-    pub fn add(&mut self, lent: Lent, page: u64) -> Result<(), Refusal> {
+    /// The layout of a call that is lent the index and names a page.
+    fn paged(&self, lent: Lent, page: u64) -> Result<(Layout, usize), Refusal> {
         let (layout, pages) = self.opened(lent.layout, lent.k)?;
         let tests = [
             (Refusal::ShortIndex, self.short_index(lent.words, pages)),
             (Refusal::BadPage, page >= pages as u64),
         ];
-        refuse(&tests, self.wrong)?;
+        refuse(&tests, self.wrong).map(|()| (layout, pages))
+    }
+
+    /// Add those of a run of pages that are records older than the one on page
+    /// `before`, until one is refused: then this page is given too.
+    pub fn add_older(
+        &mut self,
+        lent: Lent,
+        run: Range<u64>,
+        before: u64,
+    ) -> Result<(), (Refusal, u64)> {
+        let paged = self.paged(lent, before);
+        let (layout, pages) = paged.map_err(|refusal| (refusal, run.start))?;
+        let sees = |page: usize| match kind(self.dump, layout, page, self.wrong) {
+            Kind::Record(record) => Some(record),
+            _ => None,
+        };
+        // nothing is older than what is no record
+        let Some(before) = sees(before as usize) else {
+            return Ok(());
+        };
+        let older = |record: &Record| {
+            let (one, other) = (age(record, self.wrong), age(&before, self.wrong));
+            match self.wrong {
+                Wrong::OlderWithItself => one <= other,
+                Wrong::OlderByPage => record.page < before.page,
+                Wrong::OlderBySequenceAlone => record.sequence < before.sequence,
+                Wrong::OlderOfOneObject => one < other && record.object == before.object,
+                Wrong::EveryPageOlder => true,
+                _ => one < other,
+            }
+        };
+        let run = run.start..run.end.min(pages as u64);
+        let pages = run.filter(|&page| match sees(page as usize) {
+            Some(record) => older(&record),
+            None => self.wrong == Wrong::OlderWithoutRecords,
+        });
+        let pages: Vec<u64> = pages.collect();
+        pages.into_iter().try_for_each(|page| {
+            let added = self.add(lent, page);
+            match self.wrong {
+                Wrong::RunPassesRefused => Ok(()),
+                _ => added.map_err(|refusal| (refusal, page)),
+            }
+        })
+    }
+
+    /// Add a page, record or not.
+    pub fn add(&mut self, lent: Lent, page: u64) -> Result<(), Refusal> {
+        let (layout, pages) = self.paged(lent, page)?;
         let page = page as usize;
         let mut addition = self.cells(layout, pages).add(page);
         let kind = kind(self.dump, layout, page, self.wrong);

@@ -11,6 +11,8 @@
 //! - `refusal`: the numbers and the order among several.
 //! - `cells`: the words of an index on any cells.
 //! - `index`: the added pages, and the calls start, add, list and objects.
+//! - `recorded`: the records of an object.
+//! - `copies`: the shown copies of a file.
 //! - `lookup`: size, chunk, read and part.
 //! - `table`: the chunks of a file, by the lookup of each.
 //! - `whole`: the calls that read the dump whatever was added.
@@ -19,11 +21,13 @@
 //! - `wrong`: rules made wrong on purpose, one at a time.
 
 pub mod cells;
+pub mod copies;
 pub mod find;
 pub mod index;
 pub mod layout;
 pub mod lookup;
 pub mod page;
+pub mod recorded;
 pub mod records;
 pub mod refusal;
 pub mod report;

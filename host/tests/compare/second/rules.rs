@@ -166,7 +166,7 @@ impl Object {
     }
 
     /// Whether a later cut hides the copy of chunk n at this place.
-    fn hidden(&self, place: usize, n: u64) -> bool {
+    pub fn hidden(&self, place: usize, n: u64) -> bool {
         let start = self.start(n);
         self.later_cuts(place).iter().any(|&cut| match self.wrong {
             Wrong::HiddenOnlyBelow => cut < start,

@@ -4,6 +4,7 @@ use std::fmt;
 
 use crc32fast::hash as crc32;
 
+use super::copies::{unpacked, Copies, Copy};
 use super::index::{Lent, Over, Reader, Refused};
 use super::layout::{Layout, Named};
 use super::lookup::Chunk;
@@ -11,8 +12,8 @@ use super::page::{Body, Field, Kind};
 use super::refusal::Refusal;
 
 /// One request with everything that its call is given. Lookups are over the
-/// dump alone or over the index; `buffer` counts bytes for a read and words
-/// for a list or a table.
+/// dump alone or over the index; `buffer` counts bytes for a read, rows for copies
+/// and else words.
 #[derive(Clone, Copy, Debug, PartialEq, Eq)]
 pub enum Request {
     Find {
@@ -38,10 +39,17 @@ pub enum Request {
     },
     Start {
         lent: Lent,
+        seed: u32,
     },
     Add {
         lent: Lent,
         page: u64,
+    },
+    Older {
+        lent: Lent,
+        from: u64,
+        to: u64,
+        before: u64,
     },
     Size {
         over: Over,
@@ -80,6 +88,19 @@ pub enum Request {
         place: u64,
         valid: u64,
     },
+    Copies {
+        lent: Lent,
+        object: u64,
+        buffer: usize,
+    },
+    Copy {
+        row: u64,
+    },
+    Records {
+        lent: Lent,
+        object: u64,
+        buffer: usize,
+    },
     Fill {
         word: u32,
     },
@@ -95,25 +116,31 @@ pub struct Answer {
     pub line: String,
     pub bytes: Vec<u8>,
     pub words: Vec<u32>,
+    pub rows: Vec<u64>,
 }
 
 impl Request {
     /// The words that the request names: those of the index that its call is
-    /// lent, and those of a list's or a table's buffer.
+    /// lent, and those of a buffer for words.
     pub fn words(&self) -> u64 {
         let lent = |over| match over {
             Over::Index(lent) => lent.words,
             Over::Dump(..) => 0,
         };
         match *self {
-            Request::Start { lent } | Request::Add { lent, .. } => lent.words,
+            Request::Start { lent, .. }
+            | Request::Add { lent, .. }
+            | Request::Older { lent, .. }
+            | Request::Copies { lent, .. } => lent.words,
             Request::Size { over, .. }
             | Request::Chunk { over, .. }
             | Request::Read { over, .. }
             | Request::Part { over, .. }
             | Request::Objects { over } => lent(over),
             Request::List { over, buffer } => lent(over).max(buffer as u64),
-            Request::Table { lent, buffer, .. } => lent.words.max(buffer as u64),
+            Request::Table { lent, buffer, .. } | Request::Records { lent, buffer, .. } => {
+                lent.words.max(buffer as u64)
+            }
             _ => 0,
         }
     }
@@ -161,10 +188,20 @@ impl fmt::Display for Request {
             Request::Counts { layout, k } => write!(f, "counts {layout} {k}"),
             Request::Kind { layout, k, page } => write!(f, "kind {layout} {k} {page}"),
             Request::Header { layout, k, page } => write!(f, "header {layout} {k} {page}"),
-            Request::Start { lent } => {
-                write!(f, "start {} {} {}", lent.layout, lent.k, lent.words)
+            Request::Start { lent, seed } => {
+                write!(f, "start {} {} {}", lent.layout, lent.k, lent.words)?;
+                match seed {
+                    0 => Ok(()),
+                    _ => write!(f, " seed={seed:#x}"),
+                }
             }
             Request::Add { lent, page } => write!(f, "add {page} {}", options(lent)),
+            Request::Older {
+                lent,
+                from,
+                to,
+                before,
+            } => write!(f, "older {from} {to} {before} {}", options(lent)),
             Request::Size { over, object } => lookup(f, "size", over, &object.to_string()),
             Request::Chunk { over, object, n } => {
                 lookup(f, "chunk", over, &format!("{object} {n}"))
@@ -193,6 +230,17 @@ impl fmt::Display for Request {
                 place,
                 valid,
             } => write!(f, "row {layout} {place} {valid}"),
+            Request::Copies {
+                lent,
+                object,
+                buffer,
+            } => write!(f, "copies {object} {buffer} {}", options(lent)),
+            Request::Copy { row } => write!(f, "copy {row:#x}"),
+            Request::Records {
+                lent,
+                object,
+                buffer,
+            } => write!(f, "records {object} {buffer} {}", options(lent)),
             Request::Fill { word } => write!(f, "fill {word:#x}"),
             Request::Poke { at, word } => write!(f, "poke {at} {word:#x}"),
         }
@@ -220,8 +268,14 @@ pub fn answer(reader: &mut Reader<'_>, request: &Request) -> Answer {
             .header(layout, k, page)
             .map(|fields| header_line(&fields))
             .map_err(Refused::from),
-        Request::Start { lent } => done(reader.start(lent)),
+        Request::Start { lent, seed } => done(reader.start(lent, seed)),
         Request::Add { lent, page } => done(reader.add(lent, page)),
+        Request::Older {
+            lent,
+            from,
+            to,
+            before,
+        } => Ok(run_line(reader.add_older(lent, from..to, before))),
         Request::Size { over, object } => reader
             .size(over, object)
             .map(|(size, visits)| format!("size={size} visits={visits}")),
@@ -241,10 +295,7 @@ pub fn answer(reader: &mut Reader<'_>, request: &Request) -> Answer {
         Request::List { over, buffer } => {
             answer.words = vec![0xA5A5_A5A5; buffer];
             let list = reader.list(over, &mut answer.words);
-            list.map(|ids| {
-                let ids: Vec<String> = ids.iter().map(u32::to_string).collect();
-                format!("ids={} words={buffer}", ids.join(","))
-            })
+            list.map(|ids| format!("ids={} words={buffer}", joined(&ids)))
         }
         Request::Objects { over } => reader
             .objects(over)
@@ -267,6 +318,28 @@ pub fn answer(reader: &mut Reader<'_>, request: &Request) -> Answer {
             place,
             valid,
         } => Ok(part_line(reader.row(layout, place, valid))),
+        Request::Copies {
+            lent,
+            object,
+            buffer,
+        } => {
+            answer.rows = vec![0xA5A5_A5A5_A5A5_A5A5; buffer];
+            let copies = reader.copies(lent, object, &mut answer.rows);
+            copies.map(|copies| copies_line(&copies, buffer))
+        }
+        Request::Copy { row } => {
+            let [chunk, page, valid] = unpacked(row, reader.wrong);
+            Ok(format!("chunk={chunk} page={page} valid={valid}"))
+        }
+        Request::Records {
+            lent,
+            object,
+            buffer,
+        } => {
+            answer.words = vec![0xA5A5_A5A5; buffer];
+            let records = reader.records(lent, object, &mut answer.words);
+            records.map(|pages| format!("records={} words={buffer}", joined(&pages)))
+        }
         Request::Fill { word } => {
             reader.fill(word);
             done(Ok(()))
@@ -278,6 +351,27 @@ pub fn answer(reader: &mut Reader<'_>, request: &Request) -> Answer {
     };
     answer.line = line.unwrap_or_else(refusal_line);
     answer
+}
+
+/// Numbers with commas between them.
+fn joined(numbers: &[u32]) -> String {
+    let numbers: Vec<String> = numbers.iter().map(u32::to_string).collect();
+    numbers.join(",")
+}
+
+fn run_line(run: Result<(), (Refusal, u64)>) -> String {
+    match run {
+        Ok(()) => "done".to_string(),
+        Err((refusal, page)) => format!("{} page={page}", refusal_line(refusal.into())),
+    }
+}
+
+fn copies_line(copies: &Copies, buffer: usize) -> String {
+    let copy = |[chunk, page, valid]: &Copy| format!("{chunk}:{page}:{valid}");
+    let all: Vec<String> = copies.copies.iter().map(copy).collect();
+    let (size, damaged) = (copies.size, u8::from(copies.damaged));
+    let all = all.join(",");
+    format!("size={size} copies={all} damaged={damaged} rows={buffer}")
 }
 
 fn done(result: Result<(), Refusal>) -> Result<String, Refused> {

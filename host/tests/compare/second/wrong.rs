@@ -179,7 +179,34 @@ wrong_rules! {
     /// A start leaves the words that no rule reads.
     StartLeavesUnused,
 
+    /// A run of older records takes the record itself too.
+    OlderWithItself,
+    /// A run of older records takes those on lower pages.
+    OlderByPage,
+    /// A run of older records leaves out those of the same sequence.
+    OlderBySequenceAlone,
+    /// A run of older records takes those of the record's object alone.
+    OlderOfOneObject,
+    /// A run of older records takes every record.
+    EveryPageOlder,
+    /// A run of older records takes pages that are none.
+    OlderWithoutRecords,
+    /// A refused addition does not end a run.
+    RunPassesRefused,
+
     // What the words say.
+    /// A start keeps no seed.
+    SeedNotKept,
+    /// The seed moves no home.
+    SeedIgnored,
+    /// The seed is added to the id.
+    SeedAdded,
+    /// What is added to the id is not squared.
+    MixedWithoutSquare,
+    /// The id itself is left out of the home.
+    MixedWithoutId,
+    /// There are as many slots as pages.
+    SlotForEachPage,
     /// Slots are searched from the object's home upwards.
     SlotsSearchedUpwards,
     /// A free slot does not end the search.
@@ -256,6 +283,42 @@ wrong_rules! {
     RowOfPage,
     /// The bytes of a row may reach into the spare.
     RowReachesSpare,
+
+    // Copies and records.
+    /// A copy that a newer one supersedes is listed.
+    CopiesWithOlder,
+    /// A copy that a cut hides is listed.
+    CopiesWithHidden,
+    /// A copy behind the file's end is listed.
+    CopiesPastEnd,
+    /// Copies are listed in the order of their pages.
+    CopiesByPage,
+    /// Copies are listed as the chain has them.
+    CopiesAsMet,
+    /// A copy is listed with its shown length.
+    CopiesHaveShown,
+    /// What copies need is given as one row each.
+    CopiesNeedOneEach,
+    /// Rows that are needed beyond the copies are left as they were.
+    CopiesLeaveRoom,
+    /// Rows that are not needed are cleared.
+    CopiesClearAll,
+    /// A damaged link at the end of the chain is told, though every chunk has a copy.
+    BrokenIsDamaged,
+    /// No damaged link is told.
+    NeverDamaged,
+    /// A row has its page above its chunk.
+    RowByPage,
+    /// A row's page has one bit fewer.
+    PageOfRowCut,
+    /// Records are listed in the order of their pages.
+    RecordsByPage,
+    /// Records are listed from the oldest on.
+    RecordsOldestFirst,
+    /// Records below the newest header are not listed.
+    RecordsFromHeader,
+    /// A damaged link ends the records like any other end.
+    RecordsPassDamage,
 
     // Counting.
     /// Only live objects are counted.

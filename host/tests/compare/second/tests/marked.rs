@@ -92,7 +92,7 @@ fn cases_on_an_index() {
     let lent = Lent { layout, k, words };
     let (over, object) = (Over::Index(lent), OBJECT);
     let mut ask = |request: Request| answer(&mut reader, &request).line;
-    assert_eq!(ask(Request::Start { lent }), "done");
+    assert_eq!(ask(Request::Start { lent, seed: 0 }), "done");
     for page in [7, 3, 0, 4, 2, 1] {
         assert_eq!(ask(Request::Add { lent, page }), "done");
         assert_eq!(ask(Request::Add { lent, page }), "refusal=15 visits=0");
@@ -106,6 +106,47 @@ fn cases_on_an_index() {
     assert_eq!(ask(Request::List { over, buffer: 2 }), "ids=257 words=2");
     let short = Request::List { over, buffer: 0 };
     assert_eq!(ask(short), "refusal=11 visits=0 need=1");
+    let copies = |buffer| Request::Copies {
+        lent,
+        object,
+        buffer,
+    };
+    // page 1 is met too, below the newer copy of its chunk, and page 2 is hidden
+    assert_eq!(ask(copies(5)), "refusal=11 visits=0 need=6");
+    let shown = "size=1034 copies=1:5:300,3:6:10 damaged=0 rows=7";
+    assert_eq!(ask(copies(7)), shown);
+    let records = |buffer| Request::Records {
+        lent,
+        object,
+        buffer,
+    };
+    assert_eq!(ask(records(6)), "refusal=11 visits=0 need=7");
+    assert_eq!(ask(records(7)), "records=6,5,4,3,2,1,0 words=7");
+}
+
+/// An index of the records that are older than one.
+#[test]
+fn records_older_than_one() {
+    let w = shelf();
+    let (layout, k, words) = (named(), BLOCK, need(8) as u64);
+    let mut reader = Reader::lent(&w.bytes, words, Wrong::None);
+    let lent = Lent { layout, k, words };
+    let (over, object) = (Over::Index(lent), OBJECT);
+    let mut ask = |request: Request| answer(&mut reader, &request).line;
+    let older = |before| Request::Older {
+        lent,
+        from: 0,
+        to: 8,
+        before,
+    };
+    assert_eq!(ask(Request::Start { lent, seed: 7 }), "done");
+    assert_eq!(ask(older(8)), "refusal=14 visits=0 page=0");
+    assert_eq!(ask(older(7)), "done", "nothing is older than a blank page");
+    assert_eq!(ask(Request::Size { over, object }), "refusal=6 visits=0");
+    assert_eq!(ask(older(4)), "done");
+    assert_eq!(ask(Request::Size { over, object }), "size=612 visits=1");
+    assert_eq!(ask(older(5)), "refusal=15 visits=0 page=0");
+    assert_eq!(ask(Request::Objects { over }), "objects=1");
 }
 
 /// K decides the refusals of its own call and nothing else.

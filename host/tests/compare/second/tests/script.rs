@@ -28,7 +28,34 @@ fn requests_as_lines() {
         (Request::Find { k }, "find 4"),
         (Request::Counts { layout, k }, "counts 512/16/0 4"),
         (Request::Kind { layout, k, page }, "kind 512/16/0 4 3"),
-        (Request::Start { lent }, "start 6 4 48"),
+        (Request::Start { lent, seed: 0 }, "start 6 4 48"),
+        (Request::Start { lent, seed: 16 }, "start 6 4 48 seed=0x10"),
+        (
+            Request::Older {
+                lent,
+                from: 0,
+                to: 8,
+                before: 4,
+            },
+            "older 0 8 4 k=4 words=48 layout=6",
+        ),
+        (
+            Request::Copies {
+                lent,
+                object,
+                buffer: 8,
+            },
+            "copies 257 8 k=4 words=48 layout=6",
+        ),
+        (Request::Copy { row: 16 }, "copy 0x10"),
+        (
+            Request::Records {
+                lent,
+                object,
+                buffer: 7,
+            },
+            "records 257 7 k=4 words=48 layout=6",
+        ),
         (Request::Add { lent, page }, "add 3 k=4 words=48 layout=6"),
         (Request::Size { over: dump, object }, "dsize 512/16/0 4 257"),
         (read(dump), "dread 512/16/0 4 257 1 512"),
@@ -135,8 +162,8 @@ fn cells_of_no_start() {
     assert_eq!(ask(list), "refusal=13 visits=0");
     ask(Request::Fill { word: 0 });
     assert_eq!(ask(list), "ids= words=1");
-    // slot 1 of 8: key 257, first page 6; its link leads to page 5, and that of 5 to itself
-    for (at, word) in [(21, 257), (22, 8), (40, 7), (36, 7)] {
+    // slot 5 of 12: key 257, first page 6; its link leads to page 5, and that of 5 to itself
+    for (at, word) in [(30, 257), (31, 8), (40, 7), (36, 7)] {
         ask(Request::Poke { at, word });
     }
     let chunk = |n| Request::Chunk {

@@ -1,0 +1,196 @@
+//! Dumps that are made to be slow, of 512/16/0 in blocks of `BLOCK` pages: what
+//! each page says, by its number.
+
+use std::collections::HashSet;
+use std::fs::File;
+use std::io::{self, BufWriter, Write};
+use std::path::Path;
+
+use super::super::BLOCK;
+
+const DATA: usize = 512;
+pub const PAGE: usize = DATA + 16;
+
+/// The lowest sequence, and the highest id.
+const LOWEST: u32 = 0x1000;
+const LAST_OBJECT: u32 = 0x0FFF_FFFF;
+
+/// The object of dumps that have but one, and the first of those that count up.
+const ONE: u32 = 300;
+const FIRST: u32 = 257;
+
+/// What a page says of its object: a file's size, or a full chunk.
+#[derive(Clone, Copy)]
+enum Says {
+    Header { size: u32 },
+    Data { chunk: u32 },
+}
+
+/// A record: its sequence, its object, and what it says.
+type Record = (u32, u32, Says);
+
+/// A kind of dump: its name, and the records of so many pages.
+pub struct Kind {
+    pub name: &'static str,
+    records: fn(u32) -> Box<dyn Iterator<Item = Record>>,
+}
+
+pub const KINDS: [Kind; 7] = [
+    Kind {
+        name: "claims",
+        records: claims,
+    },
+    Kind {
+        name: "far",
+        records: far,
+    },
+    Kind {
+        name: "falling",
+        records: falling,
+    },
+    Kind {
+        name: "colliding",
+        records: colliding,
+    },
+    Kind {
+        name: "descending",
+        records: descending,
+    },
+    Kind {
+        name: "onechunk",
+        records: one_chunk,
+    },
+    Kind {
+        name: "scattered",
+        records: scattered,
+    },
+];
+
+impl Kind {
+    /// Writes the dump of so many pages.
+    pub fn write(&self, path: &Path, pages: u32) -> io::Result<()> {
+        let mut file = BufWriter::new(File::create(path)?);
+        for record in (self.records)(pages) {
+            file.write_all(&bytes(record))?;
+        }
+        file.flush()
+    }
+
+    /// The object of the last page, for which a search has the most to pass.
+    pub fn object(&self, pages: u32) -> u32 {
+        let last = (self.records)(pages).last();
+        last.map_or(0, |(_, object, _)| object)
+    }
+}
+
+/// The pages of a dump of at most so many MiB, in whole blocks.
+pub fn pages(mib: usize) -> u32 {
+    ((mib << 20) / PAGE) as u32 / BLOCK * BLOCK
+}
+
+/// A page of 0xFF but for what it says; a header is of a file below the root.
+fn bytes((sequence, object, says): Record) -> [u8; PAGE] {
+    let mut page = [0xFF; PAGE];
+    let mut put = |at: usize, word: u32| page[at..at + 4].copy_from_slice(&word.to_le_bytes());
+    let tags = match says {
+        Says::Header { size } => {
+            for (at, word) in [(0, 1), (4, 1), (0x124, size), (0x1FC, 0)] {
+                put(at, word);
+            }
+            [sequence, object | 1 << 28, 1 << 31 | 1, 0]
+        }
+        Says::Data { chunk } => [sequence, object, chunk, DATA as u32],
+    };
+    for (i, word) in tags.into_iter().enumerate() {
+        put(DATA + 4 * i, word);
+    }
+    page
+}
+
+/// A sequence for each block, rising.
+fn rising(page: u32) -> u32 {
+    LOWEST + page / BLOCK
+}
+
+/// Each page is the header of an object of its own that claims 4 GiB.
+fn claims(pages: u32) -> Box<dyn Iterator<Item = Record>> {
+    let header = |p| (rising(p), FIRST + p, Says::Header { size: u32::MAX });
+    Box::new((0..pages).map(header))
+}
+
+/// Objects of two pages: a header, and one chunk as far out as can be.
+fn far(pages: u32) -> Box<dyn Iterator<Item = Record>> {
+    let says = |p| match p % 2 {
+        0 => Says::Header { size: 0 },
+        _ => Says::Data { chunk: 0xF_FFFF },
+    };
+    Box::new((0..pages).map(move |p| (rising(p), FIRST + p / 2, says(p))))
+}
+
+/// One object; half of each block bears one sequence, and those of the other
+/// halves fall over the whole dump.
+fn falling(pages: u32) -> Box<dyn Iterator<Item = Record>> {
+    let sequence = move |p| match p % BLOCK < BLOCK / 2 {
+        true => LOWEST + 2 * pages,
+        false => LOWEST + pages - p,
+    };
+    let says = |p| match p {
+        0 => Says::Header { size: DATA as u32 },
+        _ => Says::Data {
+            chunk: 1 + p % 1000,
+        },
+    };
+    Box::new((0..pages).map(move |p| (sequence(p), ONE, says(p))))
+}
+
+/// An empty file for each page, by their ids.
+fn empty(pages: u32, id: impl FnMut(u32) -> u32 + 'static) -> Box<dyn Iterator<Item = Record>> {
+    let ids = (0..pages).map(id);
+    Box::new((0..).zip(ids).map(|(p, id)| {
+        let size = 0;
+        (rising(p), id.max(1), Says::Header { size })
+    }))
+}
+
+/// How many ids there are of each remainder by the number of pages, less one.
+fn of_one_remainder(pages: u32) -> u32 {
+    LAST_OBJECT / pages - 1
+}
+
+/// Ids of few remainders by the number of pages: an index that goes by that
+/// alone begins to search for all of them at one place.
+fn colliding(pages: u32) -> Box<dyn Iterator<Item = Record>> {
+    let most = of_one_remainder(pages);
+    empty(pages, move |p| pages - 1 - p / most + pages * (p % most))
+}
+
+/// Ids that come in falling order, slot by slot.
+fn descending(pages: u32) -> Box<dyn Iterator<Item = Record>> {
+    let most = of_one_remainder(pages);
+    empty(pages, move |p| p + pages * (most - p * most / pages))
+}
+
+/// One object, of which every page but its header is a copy of chunk 1.
+fn one_chunk(pages: u32) -> Box<dyn Iterator<Item = Record>> {
+    let says = |p| match p {
+        0 => Says::Header { size: DATA as u32 },
+        _ => Says::Data { chunk: 1 },
+    };
+    Box::new((0..pages).map(move |p| (rising(p), ONE, says(p))))
+}
+
+/// Ids as by chance, no two alike.
+fn scattered(pages: u32) -> Box<dyn Iterator<Item = Record>> {
+    let mut seed: u64 = 1;
+    let mut seen = HashSet::new();
+    empty(pages, move |_| loop {
+        // xorshift64
+        seed ^= seed << 13;
+        seed ^= seed >> 7;
+        seed ^= seed << 17;
+        let id = (seed >> 32) as u32 & LAST_OBJECT;
+        if id > 0 && seen.insert(id) {
+            return id;
+        }
+    })
+}
