@@ -85,10 +85,10 @@ fn lines(vector: &Vector) -> String {
     lines
 }
 
-/// The line of a page's link and of two words behind it.
+/// The line of a page's link and of the three words of the table behind it.
 fn cell(words: &[u32], page: usize) -> String {
-    let [link, key, first] = [0, 1, 2].map(|behind| words[link_of(page) + behind]);
-    format!("link={link} key={key} first={first}\n")
+    let [link, a, b, c] = [0, 1, 2, 3].map(|behind| words[link_of(page) + behind]);
+    format!("link={link} table={a}/{b}/{c}\n")
 }
 
 /// The lines of a file's table: a row for each chunk, by its lookup.
