@@ -14,15 +14,17 @@ use Rattle.page.specs.Lengths.{openedOf}
 use Rattle.page.specs.Records.{recordAt}
 use Rattle.page.specs.declared.geometry.Geometry.{Geometry}
 use Rattle.page.specs.declared.geometry.Opened.the-variants as opened
-use Rattle.page.specs.declared.refusal.Refusal.the-variants.{ShortBuffer}
+use Rattle.page.specs.declared.refusal.Refusal.the-variants.{ShortBuffer, IndexDamaged}
 use Rattle.page.proofs.Layouts.{roomy-facts, listed-data}
 use Rattle.page.proofs.Lengths.{opened-facts, opened-some, length-most}
 use Rattle.chunk.specs.declared.answer.Looked.{Looked}
+use Rattle.chunk.specs.declared.answer.Looked.the-variants as looked
 use Rattle.chunk.specs.declared.answer.Sized.the-variants as sized
 use Rattle.chunk.specs.declared.cut.Cut.the-variants.{Nowhere}
 use Rattle.index.specs.Slots.{firstLink}
 use Rattle.index.specs.Chains.{Trace, top, chain}
 use Rattle.index.specs.Walks.{under, sizeFrom, chunkFrom}
+use Rattle.index.specs.Ahead.{unvisited}
 use Rattle.index.proofs.Slot.Search.{first-link}
 use Rattle.index.proofs.Walk.Ahead.{is-sized, chunk-ahead}
 use Rattle.file.specs.Table.{chunksIn, allAhead}
@@ -30,7 +32,7 @@ use Rattle.index.specs.Recorded.{isBroken}
 use Rattle.file.specs.Copies.{pageValues, validValues, packedCopy, copyIn, isRefused, copiesTo, anyRefused, met, roomFor, inRoom, copiedBy, rowsBy, metFrom, copiedFrom, rowsFrom}
 use Rattle.file.specs.declared.copies.Copied.the-variants as copied
 use Rattle.file.proofs.Chunks.{chunk-before}
-use Rattle.file.proofs.Shown.{copies-same, refused-same, copy-unvisited, refused-unvisited, ahead-refused}
+use Rattle.file.proofs.Shown.{copies-same, refused-same, copy-unvisited, refused-unvisited, ahead-damaged, ahead-refused}
 
 module _ (g : Geometry) (l n : ℕ) (e : openedOf g l ≡ opened.Pages n) where
   pub opened-pages : n ≤ pageValues
@@ -84,6 +86,13 @@ module _
         (λ c h i.
         let b = chunk-before P z c h i in
         ap isRefused (chunk-ahead g dump cells o z v n e s c (b .0) (b .1)) ∙ refused-unvisited (look c))
+
+    -- a lookup of one of the chunks is refused for a damaged link alone
+    pub refused-damaged : (c : ℕ) → 0 < c → c ≤ m → isRefused (look c) ≡ true → unvisited (look c) ≡ looked.Refused IndexDamaged 0 0
+    refused-damaged c h i r =
+        let b = chunk-before P z c h i in
+        let same : ahead c ≡ unvisited (look c) = chunk-ahead g dump cells o z v n e s c (b .0) (b .1) in
+        sym same ∙ ahead-damaged (recordAt g dump) P m z c links true Nowhere (ap isRefused same ∙ refused-unvisited (look c) ∙ r)
 
     -- a walk that met so many copies from the first link on
     module _

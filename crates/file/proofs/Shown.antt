@@ -10,6 +10,7 @@ use lib.ListN.{length, length-append}
 use borrow.Author.Tests.{eqb-true, eqb-false, eq-eqb, ltb-true, ltb-false, lt-ltb, le-ltb, not-true}
 use Rattle.page.specs.declared.record.Record.{Record}
 use Rattle.page.specs.declared.record.Record.the-variants as said
+use Rattle.page.specs.declared.refusal.Refusal.the-variants.{IndexDamaged}
 use Rattle.page.proofs.Layouts.{and-left, and-right}
 use Rattle.page.proofs.Searching.{by-test}
 use Rattle.chunk.specs.Records.{chunkOf, isCopy, baseOf}
@@ -129,10 +130,10 @@ module _ (a b : ℕ → Looked) where
       ∙ sym (over-front x (copiesTo b m) (copyIn (suc m) (b (suc m))) (in-chunk (λ c. x .chunk < c) (suc m) (b (suc m)) (omega arith))))
 
 -- whether a lookup is refused, where none is, and where all are that find no copy
-refused-none : (look : ℕ → Looked) (m : ℕ) → ((c : ℕ) → isRefused (look c) ≡ false) → anyRefused look m ≡ false
+pub refused-none : (look : ℕ → Looked) (m : ℕ) → ((c : ℕ) → 0 < c → c ≤ m → isRefused (look c) ≡ false) → anyRefused look m ≡ false
 unfolding anyRefused
 refused-none look zero h = refl
-refused-none look (suc m) h = rw (h (suc m)) (refused-none look m h)
+refused-none look (suc m) h = rw (h (suc m) (omega arith) (omega arith)) (refused-none look m (λ c i j. h c i (omega arith)))
 
 refused-missing : (look : ℕ → Looked) (m : ℕ) → ((c : ℕ) → isRefused (look c) ≡ eqb (length (copyIn c (look c))) 0) → anyRefused look m ≡ ltb (length (copiesTo look m)) m
 unfolding anyRefused copiesTo
@@ -265,10 +266,20 @@ module _ (says : ℕ → Record) (P m size : ℕ) where
   all-refused c (rec q t) newest cut e =
       by-test (isShown says P c cut q) _ (λ h. rw h refl) (λ h. rw h (all-refused c t (stillNewest says newest q) (cutBy says newest q cut) e))
 
+  -- and for no other reason
+  pub ahead-damaged : (c : ℕ) (t : Trace) (newest : Bool) (cut : Cut) → isRefused (aheadOf newest cut t c) ≡ true → aheadOf newest cut t c ≡ looked.Refused IndexDamaged 0 0
+  unfolding ahead
+  ahead-damaged c clean newest cut e = never e
+  ahead-damaged c broken newest cut e = refl
+  ahead-damaged c (rec q t) newest cut e =
+      by-test (isShown says P c cut q) _
+      (λ h. never (rw h at e))
+      (λ h. rw h (ahead-damaged c t (stillNewest says newest q) (cutBy says newest q cut) (rw h at e)))
+
   pub ahead-refused :
       (t : Trace) (newest : Bool) (cut : Cut) →
       anyRefused (aheadOf newest cut t) m ≡ isBroken t && ltb (length (copiesTo (aheadOf newest cut t) m)) m
   ahead-refused t newest cut =
       by-test (isBroken t) _
       (λ b. rw b (refused-missing (aheadOf newest cut t) m (λ c. all-refused c t newest cut b)))
-      (λ b. rw b (refused-none (aheadOf newest cut t) m (λ c. none-refused c t newest cut b)))
+      (λ b. rw b (refused-none (aheadOf newest cut t) m (λ c i j. none-refused c t newest cut b)))

@@ -1,9 +1,9 @@
 -- Every row tells its copy: the chunk is one of the file's, no link leads outside the dump, and no more bytes are valid than a page has data. So what
 -- was packed comes out again.
 use Prim.Native.Nat.{ℕ, zero, suc, _≤_, _<_}
-use mathlib.Core.Bool.{Bool, true}
+use mathlib.Core.Bool.{Bool, true, false}
 use mathlib.Core.List.{List, [], _∷_, map}
-use mathlib.Core.Path.{_≡_, refl, ap₂, _∙_}
+use mathlib.Core.Path.{_≡_, refl, sym, ap₂, _∙_}
 use native.Mathlib.Omega.{arith}
 use lib.Dec.{eqb, ltb}
 use lib.ListN.{length}
@@ -13,30 +13,34 @@ use Rattle.page.specs.Lengths.{openedOf}
 use Rattle.page.specs.declared.geometry.Geometry.{Geometry}
 use Rattle.page.specs.declared.geometry.Opened.the-variants as opened
 use Rattle.page.specs.declared.record.Record.{Record}
-use Rattle.page.proofs.Searching.{by-test}
+use Rattle.page.specs.declared.refusal.Refusal.the-variants.{IndexDamaged}
+use Rattle.page.proofs.Searching.{by-test, clash}
 use Rattle.chunk.specs.Records.{ageOf, chunkOf}
 use Rattle.chunk.specs.Lookups.{lookedOf}
 use Rattle.chunk.specs.declared.cut.Cut.{Cut}
 use Rattle.chunk.specs.declared.cut.Cut.the-variants.{Nowhere}
+use Rattle.chunk.specs.declared.answer.Looked.{Looked}
+use Rattle.chunk.specs.declared.answer.Looked.the-variants as looked
 use Rattle.chunk.specs.declared.answer.Sized.the-variants as sized
+use Rattle.chunk.proofs.Undamaged.{chunk-undamaged}
 use Rattle.index.specs.Cells.{word, linkAt}
 use Rattle.index.specs.Slots.{firstLink}
 use Rattle.index.specs.Chains.{objects, Lead, End, Damaged, To, Trace, clean, broken, rec, by, leadOf, traceBy, trace, top}
 use Rattle.index.specs.Held.{Held}
 use Rattle.index.specs.Walks.{seenSays, cutBy, under, sizeFrom, chunkFrom}
-use Rattle.index.specs.Ahead.{stillNewest}
+use Rattle.index.specs.Ahead.{unvisited, stillNewest}
 use Rattle.index.proofs.Answer.Lookups.{chunk-from-held}
 use Rattle.index.proofs.Chain.Links.{Known, known}
 use Rattle.file.specs.Table.{chunksIn}
 use Rattle.file.specs.Shows.{isMet}
-use Rattle.file.specs.Copies.{chunkValues, pageValues, validValues, Fits, packedCopy, copyOf, copiesTo, anyRefused, met}
+use Rattle.file.specs.Copies.{chunkValues, pageValues, validValues, Fits, packedCopy, copyOf, isRefused, copiesTo, anyRefused, met}
 use Rattle.file.specs.declared.copy.Copy.{Copy}
 use Rattle.file.proofs.Chunks.{chunks-most}
 use Rattle.file.proofs.Meeting.{valid-most}
 use Rattle.file.proofs.IsMet.{met-in}
 use Rattle.file.proofs.Newest.{EveryCopy, over, over-none, over-behind, over-same, over-before, newestOf}
-use Rattle.file.proofs.Shown.{copies-same, refused-same, met-shown}
-use Rattle.file.proofs.Copying.{opened-pages, opened-data, copies-looked}
+use Rattle.file.proofs.Shown.{copies-same, refused-none, met-shown}
+use Rattle.file.proofs.Copying.{opened-pages, opened-data, copies-looked, refused-damaged}
 
 -- no chain leads outside the dump
 abbrev Inside : ℕ → Trace → Type 0
@@ -137,5 +141,19 @@ module _
     pub copies-held : copiesTo (chunkFrom g dump cells o) m ≡ copiesTo (lookedOf (seenSays (recordAt g dump) added) o n (g .layout .«data»)) m
     copies-held = copies-same _ _ m (λ c h i. rw (chunk-from-held g dump n e added cells held o c .0) refl)
 
-    pub refused-held : anyRefused (chunkFrom g dump cells o) m ≡ anyRefused (lookedOf (seenSays (recordAt g dump) added) o n (g .layout .«data»)) m
-    refused-held = refused-same _ _ m (λ c h i. rw (chunk-from-held g dump n e added cells held o c .0) refl)
+    -- and no link of theirs is damaged
+    bare-damaged : (l : Looked) → unvisited l ≡ looked.Refused IndexDamaged 0 0 → ((v k : ℕ) → l ≡ looked.Refused IndexDamaged v k → ⊥) → ⊥
+    bare-damaged (looked.Copy p a s v) q never = clash (cc)
+    bare-damaged (looked.Hole s v) q never = clash (cc)
+    bare-damaged (looked.Refused r v k) q never = let same : r ≡ IndexDamaged = cc in never v k (rw same)
+
+    pub held-undamaged : (z v : ℕ) → sizeFrom g dump cells o ≡ sized.Size z v → anyRefused (chunkFrom g dump cells o) (chunksIn (g .layout .«data») z) ≡ false
+    held-undamaged z v s =
+        refused-none (chunkFrom g dump cells o) _
+        (λ c h i.
+        by-test (isRefused (chunkFrom g dump cells o c)) _
+        (λ r.
+        absurd
+        (bare-damaged (chunkFrom g dump cells o c) (refused-damaged g dump cells o z v n e s c h i r)
+        (λ w k q. chunk-undamaged (seenSays (recordAt g dump) added) o n (g .layout .«data») c w k (sym (chunk-from-held g dump n e added cells held o c .0) ∙ q))))
+        (λ r. r))

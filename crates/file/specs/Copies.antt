@@ -72,12 +72,13 @@ module _ (look : ℕ → Looked) where
   copiesTo zero = []
   copiesTo (suc c) = copiesTo c ++ copyIn (suc c) (look (suc c))
 
-  -- whether the lookup of one of these chunks is refused
+  -- whether the lookup of one of these chunks is refused; a file that has a size refuses them for a damaged link alone
   unfoldable pub anyRefused : (chunks : ℕ) → Bool
   anyRefused zero = false
   anyRefused (suc c) = isRefused (look (suc c)) || anyRefused c
 
 -- The room that is asked for: a walk down the whole chain meets copies from the newest on, and of each chunk it may meet older ones too.
+
 -- page q, which says k, as a copy, if it is met as one
 abbrev pub metOf : (P chunks size : ℕ) → Cut → (page : ℕ) → Record → List Copy
 metOf P chunks size cut q k =
@@ -124,10 +125,10 @@ module _ (g : Geometry) (dump cells : List ℕ) (o : ℕ) where
 
   -- what is answered, in so many words, and what these are then
   unfoldable pub copiedFrom : (words : ℕ) → Copied
-  copiedFrom words = copiedBy (chunkFrom g dump cells o) (metFrom) (g .layout .«data») words (sizeFrom g dump cells o)
+  copiedFrom words = copiedBy (chunkFrom g dump cells o) metFrom (g .layout .«data») words (sizeFrom g dump cells o)
 
   unfoldable pub rowsFrom : (words : List ℕ) → Copied → List ℕ
-  rowsFrom words r = rowsBy (chunkFrom g dump cells o) (metFrom) (g .layout .«data») words r
+  rowsFrom words r = rowsBy (chunkFrom g dump cells o) metFrom (g .layout .«data») words r
 
 -- How they come into order. Copy i of those met puts the key of its chunk and of i into word i, and its row into word n + i, where i is below n.
 module _ (n : ℕ) where
