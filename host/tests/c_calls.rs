@@ -105,6 +105,10 @@ table 0: size 1034, rows 3: 3 300 0 0 8 10 7
 row 3168+10
 copies 11: need 4, 7
 copies 0: size 1034, damaged 0: 1/1/300 3/6/10 7
+records 11: need 6
+records 0: 6, 6 to 0
+older 14: 0
+older 0, size 612
 ";
     let shelf = File::open(Path::new(HOST).join("tests/data/W")).unwrap();
     let output = Command::new(compiled()).stdin(shelf).output().unwrap();

@@ -64,6 +64,16 @@ int main(void) {
         printf(" %u/%u/%u", copy.chunk, copy.page, copy.valid);
     }
     printf(" %llu\n", (unsigned long long)shown[8]);
+    live = lohenarr_records(dump, len, geometry, cells, 48, 257, table, 5);
+    printf("records %u: need %u\n", live.refusal, live.need);
+    live = lohenarr_records(dump, len, geometry, cells, 48, 257, table, 7);
+    printf("records %u: %u, %u to %u\n", live.refusal, live.count, table[0], table[live.count - 1]);
+    lohenarr_start(dump, len, geometry, cells, 48, 7);
+    run = lohenarr_add_older(dump, len, geometry, cells, 48, 0, 8, 8);
+    printf("older %u: %u\n", run.refusal, run.page);
+    run = lohenarr_add_older(dump, len, geometry, cells, 48, 0, 8, 4);
+    size = lohenarr_size(dump, len, geometry, cells, 48, 257);
+    printf("older %u, size %llu\n", run.refusal, (unsigned long long)size.size);
     FIELD(lohenarr_geometry, block);
     FIELD(lohenarr_layout_answer, tag);
     FIELD(lohenarr_kind_answer, count);

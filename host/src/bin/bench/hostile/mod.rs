@@ -1,13 +1,15 @@
 //! The commands on dumps that are made to be slow, each kind at four lengths:
-//! marked is what grows by more than pages × log pages as the pages double, and
-//! what is cut off.
+//! marked is what grows by more than pages × log pages as the pages double twice,
+//! and what is cut off.
 //!
 //!     cargo run --release --bin bench -- hostile [FOLDER] [PROGRAM]
 //!
 //! The dumps of a kind are written to the folder, or to the system's temporary
 //! one, and go when the next kind is written. The program is the `lohenarr` that
 //! was built beside this one. Lengths and commands take turns; shown are the
-//! best times, and the growth from each length to the next.
+//! best times, and the growth from each length to the next. That is judged over
+//! two doublings, since a dump that no longer fits into the memory close by makes
+//! one of them larger.
 
 mod kinds;
 mod runs;
@@ -24,20 +26,23 @@ use kinds::{Kind, KINDS};
 const MIB: [usize; 4] = [8, 16, 32, 64];
 
 /// How often each command is run, and from which time on once is enough.
-const ROUNDS: usize = 9;
+const ROUNDS: usize = 15;
 const LONG: Duration = Duration::from_secs(2);
 
-/// What grows from a shorter time is not judged, and a growth may be so much larger
-/// than that of pages × log pages: the memory of a larger dump is slower to reach.
+/// What grows to a shorter time is not judged, and a growth may be so much larger
+/// than that of pages × log pages: memory that is not close by is slower, the more
+/// so beside other programs.
 const SHORT: Duration = Duration::from_millis(20);
-const NOISE: f64 = 1.3;
+const NOISE: f64 = 1.5;
 
-/// The commands, with what stands behind the dump: `OBJECT` is one of its own.
-const COMMANDS: [&[&str]; 8] = [
+/// The commands, with what stands behind the dump: `OBJECT` is that of its last
+/// page, which is `LAST`.
+const COMMANDS: [&[&str]; 9] = [
     &["report"],
     &["find"],
     &["pages"],
     &["list"],
+    &["list", "--before", "LAST"],
     &["size", "OBJECT"],
     &["chunk", "OBJECT", "1"],
     &["read", "OBJECT"],
@@ -49,6 +54,7 @@ struct Made {
     file: Temporary,
     pages: u32,
     object: String,
+    last: String,
 }
 
 /// What a command took on a dump.
@@ -77,7 +83,7 @@ pub fn measure(mut words: impl Iterator<Item = OsString>) -> Result<(), String> 
             .map(|mib| make(kind, mib, &folder))
             .collect::<Result<_, _>>()?;
         for (command, took) in COMMANDS.into_iter().zip(turns(&program, &made)?) {
-            marked += usize::from(row(kind, command[0], &made, &took));
+            marked += usize::from(row(kind, &command.join(" "), &made, &took));
         }
     }
     println!("{marked} lines are marked: more than pages x log pages, or cut off");
@@ -95,11 +101,11 @@ fn make(kind: &Kind, mib: usize, folder: &Path) -> Result<Made, String> {
     let pages = kinds::pages(mib);
     let unwritten = |error| format!("cannot write {}: {error}", file.0.display());
     kind.write(&file.0, pages).map_err(unwritten)?;
-    let object = kind.object(pages).to_string();
     Ok(Made {
         file,
         pages,
-        object,
+        object: kind.object(pages).to_string(),
+        last: (pages - 1).to_string(),
     })
 }
 
@@ -130,6 +136,7 @@ fn again(
         (Took::Time(best, runs), _) if runs == 0 || best < LONG => {
             let behind = command[1..].iter().map(|&word| match word {
                 "OBJECT" => OsStr::new(&made.object),
+                "LAST" => OsStr::new(&made.last),
                 word => OsStr::new(word),
             });
             let mut words = vec![OsStr::new(command[0]), made.file.0.as_os_str()];
@@ -145,12 +152,12 @@ fn again(
 
 fn head() {
     let lengths = MIB.map(|mib| format!("{:>12}", format!("{mib} MiB")));
-    println!("{:24}{}   growth", "", lengths.concat());
+    println!("{:32}{}   growth", "", lengths.concat());
 }
 
 /// Prints a line of times and growths, and says whether one of these is marked.
 fn row(kind: &Kind, command: &str, made: &[Made], took: &[Took]) -> bool {
-    let mut line = format!("{:12}{command:12}", kind.name);
+    let mut line = format!("{:12}{command:20}", kind.name);
     let mut marked = false;
     for took in took {
         line += &match took {
@@ -161,27 +168,36 @@ fn row(kind: &Kind, command: &str, made: &[Made], took: &[Took]) -> bool {
         marked |= matches!(took, Took::TooLong);
     }
     line += "  ";
-    for (took, made) in took.windows(2).zip(made.windows(2)) {
-        let [Took::Time(one, _), Took::Time(other, _)] = *took else {
+    for i in 1..took.len() {
+        let Some(last) = growth(took[i - 1], took[i]) else {
             break;
         };
-        let growth = other.as_secs_f64() / one.as_secs_f64();
-        let most = NOISE * most(made[0].pages, made[1].pages);
-        let is_marked = one >= SHORT && growth > most;
+        let is_marked = i > 1 && is_too_much([&made[i - 2], &made[i]], [took[i - 2], took[i]]);
         let mark = if is_marked { "*" } else { " " };
-        line += &format!(" {growth:5.2}{mark}");
+        line += &format!(" {last:5.2}{mark}");
         marked |= is_marked;
     }
     println!("{line}");
     marked
 }
 
-fn millis(time: Duration) -> String {
-    format!("{:.1} ms", time.as_secs_f64() * 1000.0)
+/// How many times as long one took, where both ended.
+fn growth(one: Took, other: Took) -> Option<f64> {
+    match (one, other) {
+        (Took::Time(one, _), Took::Time(other, _)) => Some(other.as_secs_f64() / one.as_secs_f64()),
+        _ => None,
+    }
 }
 
-/// The growth of pages × log pages.
-fn most(one: u32, other: u32) -> f64 {
-    let cost = |pages: u32| f64::from(pages) * f64::from(pages).log2();
-    cost(other) / cost(one)
+/// Whether what a command took on two dumps is judged, and grows by more than it
+/// may.
+fn is_too_much(made: [&Made; 2], took: [Took; 2]) -> bool {
+    let cost = |made: &Made| f64::from(made.pages) * f64::from(made.pages).log2();
+    let most = NOISE * cost(made[1]) / cost(made[0]);
+    let is_long = matches!(took[1], Took::Time(time, _) if time >= SHORT);
+    is_long && growth(took[0], took[1]).is_some_and(|growth| growth > most)
+}
+
+fn millis(time: Duration) -> String {
+    format!("{:.1} ms", time.as_secs_f64() * 1000.0)
 }
