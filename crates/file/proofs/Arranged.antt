@@ -7,7 +7,7 @@ use lib.ListN.{length, take, drop, getD, length-append, length-drop, List·getD-
 use lib.Seq.{take-at, drop-at, drop-drop, getD-append-add}
 use Rattle.sort.specs.Arranged.{arranged, Every}
 use Rattle.sort.specs.Packed.{wordValues, valueOf}
-use Rattle.sort.proofs.Arranging.{arranged-length, every-arranged, every-weaker}
+use Rattle.sort.proofs.Arranging.{arranged-length, arranged-backwards, every-arranged, every-weaker}
 use Rattle.sort.proofs.Packing.{packed-value}
 use Rattle.file.specs.Copies.{packedCopy, putFrom, roomFor, firsts, inRoom}
 use Rattle.file.specs.declared.copy.Copy.{Copy}
@@ -34,7 +34,8 @@ module _ (w : List ℕ) (n : ℕ) (L : List Copy) (all : length L ≡ n) (room :
   behind = map packedCopy L ++ drop (roomFor n) w
 
   parts : sorted ≡ keys ++ behind
-  parts = ap₂ {C = List ℕ} (λ u v. u ++ v) (ap arranged (keys-first n w L all room)) (rows-behind n w L all room)
+  parts =
+      ap₂ {C = List ℕ} (λ u v. u ++ v) (ap arranged (keys-first n w L all room) ∙ arranged-backwards (keysFrom 0 L)) (rows-behind n w L all room)
 
   keys-long : length keys ≡ n
   keys-long = arranged-length (keysFrom 0 L) ∙ keys-length 0 L ∙ all

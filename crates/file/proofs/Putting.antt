@@ -1,5 +1,5 @@
--- The words of copies, one store at a time: what a walk puts, what a gathering keeps of it, and what is cleared. Where n copies are put from the
--- front on, the first n words are their keys, the next n their rows, and all behind those is as it was.
+-- The words of copies, one store at a time: what a walk puts, what a gathering keeps of it, and what is cleared. Where n copies are put, the first n
+-- words are their keys, from the last to the first, the next n their rows, and all behind those is as it was.
 use Prim.Native.Nat.{ℕ, suc, _+_, _-_, _≤_, _<_, zero-le}
 use mathlib.Core.Bool.{Bool, true, false}
 use mathlib.Core.List.{List, [], _∷_, _++_, map, append-assoc, append-nil}
@@ -8,9 +8,10 @@ use native.Mathlib.Numerals.{add-one}
 use native.Mathlib.Omega.{arith}
 use lib.Dec.{ltb}
 use lib.ListN.{length, take, drop, set, getD, replicate, length-set, length-append, length-replicate, length-drop, take-append-drop, drop-of-length-le, replicate-append-replicate}
-use lib.Seq.{sets, sets-eq, take-set-le, take-set-lt, drop-set-add, drop-set-lt, length-take-le, drop-cons, drop-drop, set-at, append-snoc}
+use lib.Seq.{sets, sets-eq, take-set-le, take-set-lt, drop-set-add, drop-set-lt, length-take-le, drop-cons, drop-drop, drop-at, set-split, set-at, append-snoc}
 use borrow.Author.Tests.{lt-ltb, le-ltb}
 use Rattle.sort.specs.Packed.{packed}
+use Rattle.sort.proofs.Arranging.{backwards}
 use Rattle.file.specs.Copies.{packedCopy, putCopy, putFrom, roomFor, inRoom}
 use Rattle.file.specs.declared.copy.Copy.{Copy}
 
@@ -30,8 +31,8 @@ module _ (n : ℕ) where
   put-on w i (x ∷ L) M = let e : i + suc (length L) ≡ suc i + length L = omega arith in rw e (put-on (putCopy n w i x) (suc i) L M)
 
   -- copies put leave the length
-  one-length : (w : List ℕ) (i : ℕ) (x : Copy) (t : Bool) → ltb i n ≡ t → length (putCopy n w i x) ≡ length w
-  one-length w i x true e = rw e (length-set (set w i _) _ _ ∙ length-set w i _)
+  pub one-length : (w : List ℕ) (i : ℕ) (x : Copy) (t : Bool) → ltb i n ≡ t → length (putCopy n w i x) ≡ length w
+  one-length w i x true e = rw e (length-set (set w (n - 1 - i) _) _ _ ∙ length-set w (n - 1 - i) _)
   one-length w i x false e = rw e
 
   pub put-length : (w : List ℕ) (i : ℕ) (L : List Copy) → length (putFrom n w i L) ≡ length w
@@ -58,16 +59,33 @@ pub rows-length : (L : List Copy) → length (map packedCopy L) ≡ length L
 rows-length [] = refl
 rows-length (x ∷ L) = ap suc (rows-length L)
 
+-- what stands from a word on once it is stored
+drop-set-at : (l : List ℕ) (j a : ℕ) → j < length l → drop j (set l j a) ≡ a ∷ drop (suc j) l
+drop-set-at l j a h =
+    ap (λ (r : List ℕ). drop j r) (set-split l j a h) ∙ drop-at (take j l) (a ∷ drop (suc j) l) j (length-take-le j l (omega arith))
+
 module _ (n : ℕ) where
-  -- below n, the keys come into the first n words and the rows into those behind
-  keys-put : (w : List ℕ) (i : ℕ) (L : List Copy) → i + length L ≡ n → take n (putFrom n w i L) ≡ sets (take n w) i (keysFrom i L)
+  -- below n, the keys come into the first n words, from the last of these on, and the rows into those behind
+  keys-put :
+      (w : List ℕ) (i : ℕ) (L : List Copy) → i + length L ≡ n → n ≤ length w →
+      take n (putFrom n w i L) ≡ backwards (keysFrom i L) ++ drop (n - i) (take n w)
   unfolding putFrom
-  keys-put w i [] e = refl
-  keys-put w i (x ∷ L) e =
+  keys-put w i [] e h = let k : n - i ≡ 0 = omega arith in rw k
+  keys-put w i (x ∷ L) e h =
       let t = lt-ltb i n (omega arith) in
-      rw t
-      (keys-put _ (suc i) L (omega arith)
-      ∙ rw (take-set-le n (set w i (packed (x .chunk) i)) (n + i) (packedCopy x) (omega arith), take-set-lt n w i (packed (x .chunk) i) (omega arith)))
+      let j = n - 1 - i in
+      let k = packed (x .chunk) i in
+      let u : take n (putCopy n w i x) ≡ set (take n w) j k =
+      rw t (take-set-le n (set w j k) (n + i) (packedCopy x) (omega arith) ∙ take-set-lt n w j k (omega arith)) in
+      let f : n - suc i ≡ j = omega arith in
+      let g : suc j ≡ n - i = omega arith in
+      let long = length-take-le n w h in
+      keys-put (putCopy n w i x) (suc i) L (omega arith) (omega (arith, one-length n w i x _ refl))
+      ∙ ap (λ (r : List ℕ). backwards (keysFrom (suc i) L) ++ drop (n - suc i) r) u
+      ∙ ap (λ (m : ℕ). backwards (keysFrom (suc i) L) ++ drop m (set (take n w) j k)) f
+      ∙ ap (λ (r : List ℕ). backwards (keysFrom (suc i) L) ++ r) (drop-set-at (take n w) j k (omega arith))
+      ∙ ap (λ (m : ℕ). backwards (keysFrom (suc i) L) ++ k ∷ drop m (take n w)) g
+      ∙ sym (append-assoc (backwards (keysFrom (suc i) L)) (k ∷ []) (drop (n - i) (take n w)))
 
   rows-put : (w : List ℕ) (i : ℕ) (L : List Copy) → i + length L ≡ n → drop n (putFrom n w i L) ≡ sets (drop n w) i (map packedCopy L)
   unfolding putFrom
@@ -76,15 +94,13 @@ module _ (n : ℕ) where
       let t = lt-ltb i n (omega arith) in
       rw t
       (rows-put _ (suc i) L (omega arith)
-      ∙ rw (drop-set-add n (set w i (packed (x .chunk) i)) i (packedCopy x), drop-set-lt n w i (packed (x .chunk) i) (omega arith)))
+      ∙ rw (drop-set-add n (set w (n - 1 - i) (packed (x .chunk) i)) i (packedCopy x), drop-set-lt n w (n - 1 - i) (packed (x .chunk) i) (omega arith)))
 
   module _ (w : List ℕ) (L : List Copy) (all : length L ≡ n) (room : roomFor n ≤ length w) where
-    pub keys-first : take n (putFrom n w 0 L) ≡ keysFrom 0 L
+    pub keys-first : take n (putFrom n w 0 L) ≡ backwards (keysFrom 0 L)
     keys-first =
-        let k = keys-length 0 L in
-        keys-put w 0 L (omega arith)
-        ∙ sets-eq (keysFrom 0 L) (take n w) 0 (omega (arith, length-take-le n w (omega arith)))
-        ∙ rw (drop-of-length-le (take n w) {i = 0 + length (keysFrom 0 L)} (omega (arith, length-take-le n w (omega arith)))) (append-nil (keysFrom 0 L))
+        keys-put w 0 L (omega arith) (omega arith)
+        ∙ rw (drop-of-length-le (take n w) {i = n - 0} (omega (arith, length-take-le n w (omega arith)))) (append-nil (backwards (keysFrom 0 L)))
 
     pub rows-behind : drop n (putFrom n w 0 L) ≡ map packedCopy L ++ drop (roomFor n) w
     rows-behind =

@@ -130,10 +130,11 @@ module _ (g : Geometry) (dump cells : List ℕ) (o : ℕ) where
   unfoldable pub rowsFrom : (words : List ℕ) → Copied → List ℕ
   rowsFrom words r = rowsBy (chunkFrom g dump cells o) metFrom (g .layout .«data») words r
 
--- How they come into order. Copy i of those met puts the key of its chunk and of i into word i, and its row into word n + i, where i is below n.
+-- How they come into order. Copy i of those met puts the key of its chunk and of i into the first n words, from the last of these on, and its row into
+-- word n + i, where i is below n. A file that was written in order is met from its last chunk on, so that its keys then stand in order.
 module _ (n : ℕ) where
   abbrev pub putCopy : (words : List ℕ) (i : ℕ) → Copy → List ℕ
-  putCopy w i x = pick (ltb i n) (set (set w i (packed (x .chunk) i)) (n + i) (packedCopy x)) w
+  putCopy w i x = pick (ltb i n) (set (set w (n - 1 - i) (packed (x .chunk) i)) (n + i) (packedCopy x)) w
 
   unfoldable pub putFrom : (words : List ℕ) (i : ℕ) → List Copy → List ℕ
   putFrom w i [] = w

@@ -66,7 +66,8 @@ fn room_for(n: usize) -> usize
     2 * n
 }
 
-// Puts copy i of n: the key that sorts it, and its row; where i is not below n, nothing.
+// Puts copy i of n: the key that sorts it, and its row; where i is not below n, nothing. Keys come from the back on: a file that was written in order
+// is met from its last chunk on, and keys in order need no sorting.
 fn put(rows: &mut [u64], n: usize, i: u32, x: Copy)
     requires { ⌜ roomFor n ≤ length (now rows) ⌝ }
     requires { ⌜ Fits x ⌝ }
@@ -76,7 +77,7 @@ fn put(rows: &mut [u64], n: usize, i: u32, x: Copy)
     if n <= at {
         return;
     }
-    rows[at] = pack(x.chunk, i);
+    rows[n - 1 - at] = pack(x.chunk, i);
     rows[n + at] = x.packed();
 }
 

@@ -18,6 +18,8 @@ put-spec =
     (search needs)
     (search needs)
     (search needs)
+    (λ c. omega (arith, c .before .before .before .pre .0, c .before .if1 .left))
+    (search needs)
     (search needs)
     (search needs)
     (λ c. rw (length-set) (omega (arith, c .before .before .before .before .pre .0, c .before .before .if1 .left)))
