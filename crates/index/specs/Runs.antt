@@ -65,7 +65,7 @@ takenOf t g dump c from to = runIn t (openedOf g (length dump)) (recordAt g dump
 abbrev pub runOf : Geometry → (dump cells : List ℕ) (from to : ℕ) → Ran
 runOf = takenOf Every
 
--- a page that the dump does not have, where it and the words would be taken
+-- a page that the dump does not have as the one before which it is read, where dump and words would be taken
 abbrev pub onOlder : Opened → (cells : List ℕ) (before : ℕ) → (bad run : Ran) → Ran
 onOlder (opened.Refused r) c b bad run = run
 onOlder (opened.Pages n) c b bad run = pick (leb (cellsFor n) (length c) && leb n b) bad run

@@ -24,10 +24,17 @@ abbrev pub foundOr : Found → ℕ → ℕ
 foundOr Nothing s = s
 foundOr (Slot j) s = j
 
+-- what lies below the middle of a product of an id and a seed, and below that of a square
+abbrev pub belowProduct : ℕ
+belowProduct = 0x4000
+
+abbrev pub belowSquare : ℕ
+belowSquare = 0x10000
+
 -- an id mixed with a seed, so that who does not know the seed cannot choose ids that meet: the middle of their product, squared, whose middle is
 -- added to the id; with the seed 0 it is the id
 unfoldable pub mixed : (seed object : ℕ) → ℕ
-mixed w o = let t = o * w / 16384 % wordValues in o + t * t / 65536 % wordValues
+mixed w o = let t = o * w / belowProduct % wordValues in o + t * t / belowSquare % wordValues
 
 -- the home of object o among m slots
 abbrev pub homeOf : (slots seed object : ℕ) → ℕ

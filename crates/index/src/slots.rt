@@ -10,10 +10,9 @@ use crate::cells::key_at;
 use crate::cells::seed_of;
 use crate::cells::slots_for;
 use page::number::ObjectId;
+use sort::rows::WORD_VALUES;
 
-// How many values a word tells apart.
-const WORD_VALUES: u64 = 0x1_0000_0000;
-// What lies below the middle of a product of two words and of a square, as it is mixed.
+// What lies below the middle of a product of an id and a seed, and below that of a square.
 const BELOW_PRODUCT: u64 = 0x4000;
 
 const BELOW_SQUARE: u64 = 0x1_0000;

@@ -5,7 +5,8 @@ use native.Mathlib.Nat.{mod-lt}
 use native.Mathlib.Omega.{arith}
 use borrow.Author.Needs.{needs}
 use Rattle.page.proofs.Layouts.{product-le}
-use Rattle.index.specs.Slots.{mixed}
+use Rattle.sort.specs.Packed.{wordValues}
+use Rattle.index.specs.Slots.{belowProduct, mixed}
 use Rattle.index.proofs.slots.mix.Statement.{statement}
 use Rattle.index.proofs.slots.mix.Tie as tie
 
@@ -14,10 +15,10 @@ mul-t c = omega (arith, product-le {a = c .before .args .o .0} {b = c .before .a
 
 -- the middle of the product
 abbrev middle : tie.After-struct-known → ℕ
-middle c = c .before .args .o .0 * c .before .args .seed / 16384 % 4294967296
+middle c = c .before .args .o .0 * c .before .args .seed / belowProduct % wordValues
 
 middle-most : (c : tie.After-struct-known) → middle c ≤ 4294967295
-middle-most c = omega (arith, mod-lt (c .before .args .o .0 * c .before .args .seed / 16384) {m = 4294967296} (omega arith))
+middle-most c = omega (arith, mod-lt (c .before .args .o .0 * c .before .args .seed / belowProduct) {m = wordValues} (omega arith))
 
 mul-result : tie.Need-mul-result
 mul-result c = let t = middle c in omega (arith, product-le {a = t} {b = t} {m = 4294967295} {n = 4294967295} (middle-most c) (middle-most c))
