@@ -1,6 +1,6 @@
 -- Adding a run of pages: one addition after the other, until one is refused. It is a list of additions in one call; those before the refused one
 -- stand, and the refused one changes nothing. A run takes every page, or only the records that are older than a given one.
-use Prim.Native.Nat.{ℕ, zero, suc, _+_, _-_}
+use Prim.Native.Nat.{ℕ, zero, suc, _+_, _-_, min}
 use mathlib.Core.Bool.{Bool, true, not, _&&_}
 use mathlib.Core.List.{List, [], _∷_}
 use lib.ListN.{length}
@@ -65,16 +65,16 @@ takenOf t g dump c from to = runIn t (openedOf g (length dump)) (recordAt g dump
 abbrev pub runOf : Geometry → (dump cells : List ℕ) (from to : ℕ) → Ran
 runOf = takenOf Every
 
--- a page that the dump does not have as the one before which it is read, where dump and words would be taken
-abbrev pub onOlder : Opened → (cells : List ℕ) (before : ℕ) → (bad run : Ran) → Ran
-onOlder (opened.Refused r) c b bad run = run
-onOlder (opened.Pages n) c b bad run = pick (leb (cellsFor n) (length c) && leb n b) bad run
+-- of the dump's pages from one to before another, the records older than page b, which the dump must have. A page that is no record has none that
+-- are older
+unfoldable pub olderIn : Opened → (says : ℕ → Record) (from to before : ℕ) (cells : List ℕ) → Ran
+olderIn (opened.Refused r) says from to b c = ran (Stopped (record { 0 = from }) r) c
+olderIn (opened.Pages n) says from to b c =
+    pick (leb (cellsFor n) (length c) && leb n b) (ran (Stopped (record { 0 = from }) BadPage) c)
+    (runIn (Older (ageOf says b)) (opened.Pages n) says from (min to n) c)
 
--- of these, the records older than page b. A page that is no record has none that are older
 unfoldable pub olderOf : Geometry → (dump cells : List ℕ) (from to before : ℕ) → Ran
-olderOf g dump c from to b =
-    onOlder (openedOf g (length dump)) c b (ran (Stopped (record { 0 = from }) BadPage) c)
-    (takenOf (Older (ageOf (recordAt g dump) b)) g dump c from to)
+olderOf g dump c from to b = olderIn (openedOf g (length dump)) (recordAt g dump) from to b c
 
 -- the additions of a run as a list of requests: of so many pages from page p on those taken, each lent w words
 unfoldable pub adds : (taken : ℕ → Bool) (k words count from : ℕ) → List Request

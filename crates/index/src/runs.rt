@@ -1,7 +1,7 @@
 // Adding a run of pages in one call, so that a dump is opened once for all of them; every page, or only the records older than a given one, for
 // what the dump held before that was written.
 ghost use mathlib.Core.Path.{_≡_};
-ghost use Prim.Native.Nat.{_-_, _≤_, _^_};
+ghost use Prim.Native.Nat.{_-_, _≤_, _^_, min};
 ghost use Rattle.page.specs.Records.{recordAt};
 ghost use Rattle.chunk.specs.Records.{ageOf};
 ghost use Rattle.index.specs.Chains.{objects};
@@ -110,6 +110,16 @@ pub fn add_run(dump: &[u8], g: Geometry, cells: &mut [u32], from: PageNumber, to
     }
 }
 
+// A page, or the one behind the last of so many where it is not among them.
+fn at_most(p: PageNumber, pages: u32) -> PageNumber
+    ensures { λ r. ⌜ r .0 ≡ min (p .0) pages ⌝ }
+{
+    if p.0 < pages {
+        return p;
+    }
+    PageNumber(pages)
+}
+
 // Adds of the pages of a dump from one to before another the records that are older than page `before` to its index, until one is refused. A
 // page `before` that the dump does not have is refused, and one that is no record has none that are older.
 pub fn add_older(
@@ -133,7 +143,7 @@ pub fn add_older(
                 return Run::Stopped(from, Refusal::BadPage);
             }
             let takes = Takes::Older(age_at(dump, g, before));
-            run_pages(dump, g, pages, cells, from, to, takes)
+            run_pages(dump, g, pages, cells, from, at_most(to, pages), takes)
         }
     }
 }

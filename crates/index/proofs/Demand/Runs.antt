@@ -1,6 +1,6 @@
 -- A run of additions, one at a time: none left, one that was done, or one that was refused. However it ends, a run leaves the words that the list
 -- of the additions it asked for leaves, so that demand 3 speaks of it too.
-use Prim.Native.Nat.{ℕ, zero, suc, _+_, _-_, _≤_, _<_}
+use Prim.Native.Nat.{ℕ, zero, suc, _+_, _-_, _≤_, _<_, min}
 use mathlib.Core.Bool.{Bool, true, false}
 use mathlib.Core.List.{List, [], _++_, append-nil}
 use mathlib.Core.Path.{_≡_, refl, sym, ap, _∙_}
@@ -24,7 +24,7 @@ use Rattle.index.specs.Cells.{cellsFor}
 use Rattle.index.specs.Chains.{objects}
 use Rattle.index.specs.Additions.{Outcome, outcome, addTo, addIn, addOf}
 use Rattle.index.specs.Requests.{add, wordsAfter, wordsOf}
-use Rattle.index.specs.Runs.{Ran, ran, takenBy, onward, runBy, runIn, takenOf, olderOf, adds, asked}
+use Rattle.index.specs.Runs.{Ran, ran, takenBy, onward, runBy, runIn, takenOf, olderIn, olderOf, adds, asked}
 use Rattle.index.specs.declared.additions.Added.{Added}
 use Rattle.index.specs.declared.additions.Added.the-variants as added
 use Rattle.index.specs.declared.runs.Run.the-variants.{Done, Stopped}
@@ -69,7 +69,7 @@ module _ (takes : Takes) (n : ℕ) (says : ℕ → Record) (from end : ℕ) (c :
 -- a run of the records older than page b
 module _ (g : Geometry) (dump : List ℕ) (from end b : ℕ) (c : List ℕ) where
   pub older-refused : (r : Refusal) → openedOf g (length dump) ≡ opened.Refused r → olderOf g dump c from end b ≡ ran (Stopped (record { 0 = from }) r) c
-  unfolding olderOf takenOf runIn
+  unfolding olderOf olderIn
   older-refused r e = rw e refl
 
   module _ (n : ℕ) (e : openedOf g (length dump) ≡ opened.Pages n) where
@@ -77,22 +77,23 @@ module _ (g : Geometry) (dump : List ℕ) (from end b : ℕ) (c : List ℕ) wher
     says = recordAt g dump
 
     pub older-short : length c < cellsFor n → olderOf g dump c from end b ≡ ran (Stopped (record { 0 = from }) ShortIndex) c
-    unfolding olderOf takenOf
-    older-short h = rw (e, lt-leb (cellsFor n) (length c) h) (run-short (Older (ageOf says b)) n says from end c h)
+    unfolding olderOf olderIn
+    older-short h = rw (e, lt-leb (cellsFor n) (length c) h) (run-short (Older (ageOf says b)) n says from (min end n) c h)
 
     pub older-far : cellsFor n ≤ length c → n ≤ b → olderOf g dump c from end b ≡ ran (Stopped (record { 0 = from }) BadPage) c
-    unfolding olderOf
+    unfolding olderOf olderIn
     older-far h k = rw (e, le-leb (cellsFor n) (length c) h, le-leb n b k) refl
 
     -- it takes those below the age of page b, if the dump has that page
-    pub older-taken : b < n → olderOf g dump c from end b ≡ takenOf (Older (ageOf says b)) g dump c from end
-    unfolding olderOf
+    pub older-taken : b < n → olderOf g dump c from end b ≡ takenOf (Older (ageOf says b)) g dump c from (min end n)
+    unfolding olderOf olderIn takenOf
     older-taken k = rw (e, lt-leb n b k) (by-test (leb (cellsFor n) (length c)) _ (λ t. rw t) (λ t. rw t))
 
     pub older-room :
-        cellsFor n ≤ length c → b < n → olderOf g dump c from end b ≡ runBy (takenBy (Older (ageOf says b)) says) n (objects says) (ageOf says) (end - from) from c
+        cellsFor n ≤ length c → b < n →
+        olderOf g dump c from end b ≡ runBy (takenBy (Older (ageOf says b)) says) n (objects says) (ageOf says) (min end n - from) from c
     unfolding takenOf
-    older-room h k = older-taken k ∙ rw e (run-room (Older (ageOf says b)) n says from end c h)
+    older-room h k = older-taken k ∙ rw e (run-room (Older (ageOf says b)) n says from (min end n) c h)
 
 -- a run that goes on after page p went over one page more from p on
 module _ (taken : ℕ → Bool) (n : ℕ) (obj age : ℕ → ℕ) (end p : ℕ) (h : p < end) where

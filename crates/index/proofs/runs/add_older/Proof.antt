@@ -18,7 +18,7 @@ use Rattle.index.proofs.runs.add_older.Tie as tie
 
 run-pages-requires : tie.Need-run-pages-requires
 run-pages-requires c κs =
-    let k = c .before .before .before .before .before .before .before in
+    let k = c .before .before .before .before .before .before .before .before in
     let o = k .before .before in
     let a = o .before .before .before .args in
     omega (arith, opened-most (a .g) (length (a .dump .now)) _ (sym (o .opened .ensures) ∙ k .o2 .given .1))
@@ -48,15 +48,20 @@ returns-3 c = sym (older-refused _ _ _ _ _ _ _ (sym (c .before .before .before .
 returns-4 : tie.Need-returns-4
 returns-4 c =
     let r = c .before .before in
-    let g = r .before .before in
+    let m = r .before in
+    let g = m .before .before in
     let u = g .before in
     let t = u .before .before in
     let f = t .before in
     let k = f .before .before in
     let s = a k .args in
     let says = recordAt (s .g) (s .dump .now) in
+    let n = k .o2 .given .0 .0 in
     r .run-pages .ensures
-    ∙ ap (λ (x : ℕ). runBy (takenBy (Older x) says) (k .o2 .given .0 .0) (objects says) (ageOf says) (s .to .0 - s .from .0) (s .from .0) (s .cells .now)) (g .age-at .ensures)
+    ∙ ap (λ (x : ℕ). runBy (takenBy (Older x) says) n (objects says) (ageOf says) (m .at-most .result .0 - s .from .0) (s .from .0) (s .cells .now)) (g .age-at .ensures)
+    ∙ ap
+    (λ (end : ℕ). runBy (takenBy (Older (ageOf says (s .before .0))) says) n (objects says) (ageOf says) (end - s .from .0) (s .from .0) (s .cells .now))
+    (m .at-most .ensures)
     ∙ sym (older-room _ _ _ _ _ _ _ (pages-are (f .before .before)) (rw (f .cells-for .ensures) at (t .if1 .left)) (u .if2 .left))
 
 pub add-older-spec : {M : Type 1} → statement M
@@ -69,6 +74,7 @@ add-older-spec =
     (search needs)
     returns
     returns-2
+    (search needs)
     (search needs)
     run-pages-requires
     returns-3
