@@ -138,8 +138,6 @@ impl Asker<'_> {
             // the page where a run begins is told, in 32 bits
             false => (self.page().min(0xFFFF_FFFF), self.page()),
         };
-        // pages that the dump lacks are gone over one by one
-        let to = to.min(pages + self.rng.pick(&[0, 1, 100]));
         let before = self.page();
         self.list.push(Request::Older {
             lent,
