@@ -13,7 +13,7 @@ use Rattle.page.specs.declared.record.Record.{Record}
 use Rattle.page.specs.declared.number.PageNumber.{PageNumber}
 use Rattle.chunk.specs.Gather.{gather}
 use Rattle.chunk.specs.Records.{ageOf, isOf, headerOf, dataOf}
-use Rattle.chunk.specs.Newest.{later, newest, since}
+use Rattle.chunk.specs.Newest.{later, newestWhere, since}
 use Rattle.chunk.specs.Cuts.{cutOf, lower, lowestCut}
 use Rattle.chunk.specs.Sizes.{endOf, dataEnd}
 use Rattle.chunk.specs.declared.cut.Cut.the-variants.{Nowhere}
@@ -35,23 +35,23 @@ at-age : (p q : PageNumber) (a b : ℕ) → At p a ≡ At q b → a ≡ b
 at-age p q a b e = cc
 
 module _ (says : ℕ → Record) where
-  pub newest-none : (test : Record → Bool) → newest says test 0 ≡ none
-  unfolding newest gather
-  newest-none test = refl
+  pub where-none : (test : ℕ → Bool) → newestWhere says test 0 ≡ none
+  unfolding newestWhere gather
+  where-none test = refl
 
-  pub newest-suc : (test : Record → Bool) (n : ℕ) → newest says test (suc n) ≡ pick (test (says n)) (later says n (newest says test n)) (newest says test n)
-  unfolding newest gather
-  newest-suc test n = refl
+  pub where-suc : (test : ℕ → Bool) (n : ℕ) → newestWhere says test (suc n) ≡ pick (test n) (later says n (newestWhere says test n)) (newestWhere says test n)
+  unfolding newestWhere gather
+  where-suc test n = refl
 
-  newest-step : (test : Record → Bool) (n : ℕ) → newest says test (n + 1) ≡ pick (test (says n)) (later says n (newest says test n)) (newest says test n)
-  newest-step test n = rw add-one (newest-suc test n)
+  where-step : (test : ℕ → Bool) (n : ℕ) → newestWhere says test (n + 1) ≡ pick (test n) (later says n (newestWhere says test n)) (newestWhere says test n)
+  where-step test n = rw add-one (where-suc test n)
 
   -- a page that does not pass is passed over
-  pub newest-skip : (test : Record → Bool) (n : ℕ) → test (says n) ≡ false → newest says test (n + 1) ≡ newest says test n
-  newest-skip test n t = newest-step test n ∙ rw t
+  pub where-skip : (test : ℕ → Bool) (n : ℕ) → test n ≡ false → newestWhere says test (n + 1) ≡ newestWhere says test n
+  where-skip test n t = where-step test n ∙ rw t
 
-  pub newest-take : (test : Record → Bool) (n : ℕ) → test (says n) ≡ true → newest says test (n + 1) ≡ later says n (newest says test n)
-  newest-take test n t = newest-step test n ∙ rw t
+  pub where-take : (test : ℕ → Bool) (n : ℕ) → test n ≡ true → newestWhere says test (n + 1) ≡ later says n (newestWhere says test n)
+  where-take test n t = where-step test n ∙ rw t
 
   -- the newer of two pages, kept with its age
   pub later-in : (p : ℕ) (r : Option ℕ) → laterIn (newestIn says r) p (ageOf says p) ≡ newestIn says (later says p r)

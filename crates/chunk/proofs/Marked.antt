@@ -13,7 +13,7 @@ use Rattle.page.specs.declared.geometry.Opened.the-variants.{Pages}
 use Rattle.page.proofs.Marked as pages
 use Rattle.page.proofs.Within.{object-good, chunk-good}
 use Rattle.chunk.specs.Gather.{gather}
-use Rattle.chunk.specs.Newest.{newest, since}
+use Rattle.chunk.specs.Newest.{newestWhere, since}
 use Rattle.chunk.specs.Cuts.{cutOf, lowestCut}
 use Rattle.chunk.specs.Sizes.{dataEnd, sizeOf}
 use Rattle.chunk.specs.Lookups.{fileAt, fileBy, fileOf, sizedBy, sizedOf, copyAt, copyBy, chunkBy, lookedBy, lookedOf}
@@ -36,7 +36,7 @@ number c h i = chunk-good c (record { least = h; most = omega arith })
 
 -- W's table is opened, being a closed example; no other definition of a crate below is
 pub marked-cases : answers ≡ expected
-unfolding answers expected sizeOn chunkOn sizedOf sizedBy lookedOf lookedBy chunkBy copyBy copyAt fileOf fileBy fileAt sizeOf dataEnd lowestCut cutOf since newest gather shelfKinds
+unfolding answers expected sizeOn chunkOn sizedOf sizedBy lookedOf lookedBy chunkBy copyBy copyAt fileOf fileBy fileAt sizeOf dataEnd lowestCut cutOf since newestWhere gather shelfKinds
 marked-cases =
     rw (
       opened,

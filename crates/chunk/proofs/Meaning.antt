@@ -3,9 +3,9 @@
 use Prim.Native.Nat.{ℕ, zero, suc, _-_, _≤_, _<_}
 use mathlib.Core.Bool.{Bool, true, false, _&&_}
 use mathlib.Core.Option.{Option, none, some}
-use mathlib.Core.Path.{_≡_, refl, sym, _∙_}
+use mathlib.Core.Path.{_≡_, refl, sym, ap, _∙_}
 use mathlib.Core.Logic.{_⊎_, ⊎-elim}
-use native.Mathlib.Nat.{not-suc-le-zero, le-of-suc-le-suc, eq-or-lt-of-le, le-refl, le-max-left, le-trans}
+use native.Mathlib.Nat.{not-suc-le-zero, le-of-suc-le-suc, eq-or-lt-of-le, le-refl, le-max-left, le-trans, le-antisymm}
 use native.Mathlib.Omega.{arith}
 use lib.Dec.{eqb, ltb, leb}
 use borrow.Author.Tests.{leb-true, leb-false, ltb-true, lt-ltb}
@@ -13,12 +13,12 @@ use Rattle.page.specs.declared.record.Record.{Record}
 use Rattle.page.proofs.Searching.{clash, by-test, pick-cases}
 use Rattle.page.proofs.Layouts.{and-left, and-right}
 use Rattle.chunk.specs.Records.{orderOf, ageOf, headerOf, fileSize, isGone, isFile}
-use Rattle.chunk.specs.Newest.{later, newest}
+use Rattle.chunk.specs.Newest.{later, newest, newestWhere}
 use Rattle.chunk.specs.Cuts.{isShrink, cutOf, lower, lowestCut, hides}
 use Rattle.chunk.specs.Sizes.{sizeOf, dataEnd}
 use Rattle.chunk.specs.declared.cut.Cut.the-variants.{At, Nowhere}
 use Rattle.chunk.proofs.Cuts.{lower-hides, lower-still, lower-leaves}
-use Rattle.chunk.proofs.Gathering.{newest-none, newest-suc, cut-none, cut-suc}
+use Rattle.chunk.proofs.Gathering.{where-none, where-suc, cut-none, cut-suc}
 
 -- a record of a lower sequence is older, on whatever page it stands; of one sequence the lower page is older
 pub order-by-sequence : (s t p q : ℕ) → s < t → p < 4294967296 → orderOf s p < orderOf t q
@@ -28,22 +28,22 @@ pub order-by-page : (s p q : ℕ) → p < q → orderOf s p < orderOf s q
 order-by-page s p q h = omega arith
 
 -- what a page is that a search for the newest found: it passes, and none that passes is newer
-pub record IsNewest (says : ℕ → Record) (test : Record → Bool) (n p : ℕ) : Type 0 where
+pub record IsNewest (says : ℕ → Record) (test : ℕ → Bool) (n p : ℕ) : Type 0 where
   pub below : p < n
-  pub passes : test (says p) ≡ true
-  pub newest : (q : ℕ) → q < n → test (says q) ≡ true → ageOf says q ≤ ageOf says p
+  pub passes : test p ≡ true
+  pub newest : (q : ℕ) → q < n → test q ≡ true → ageOf says q ≤ ageOf says p
 
-module _ (says : ℕ → Record) (test : Record → Bool) where
+module _ (says : ℕ → Record) (test : ℕ → Bool) where
   -- a search that finds nothing: no page passes
-  pub newest-missing : (n : ℕ) → newest says test n ≡ none → (q : ℕ) → q < n → test (says q) ≡ false
-  newest-missing zero e q h = absurd (not-suc-le-zero h)
-  newest-missing (suc n) e q h =
-      pick-cases (test (says n)) _ _ none _ (sym (newest-suc says test n) ∙ e)
-      (λ t k. absurd (no-later (newest says test n) k))
+  pub where-missing : (n : ℕ) → newestWhere says test n ≡ none → (q : ℕ) → q < n → test q ≡ false
+  where-missing zero e q h = absurd (not-suc-le-zero h)
+  where-missing (suc n) e q h =
+      pick-cases (test n) _ _ none _ (sym (where-suc says test n) ∙ e)
+      (λ t k. absurd (no-later (newestWhere says test n) k))
       (λ t k.
       ⊎-elim
       (λ (i : q ≡ n). rw i t)
-      (λ i. newest-missing n k q i)
+      (λ i. where-missing n k q i)
       (eq-or-lt-of-le (le-of-suc-le-suc h)))
     where
       no-later : (r : Option ℕ) → later says n r ≡ none → ⊥
@@ -51,26 +51,26 @@ module _ (says : ℕ → Record) (test : Record → Bool) where
       no-later (some x) k = pick-cases (leb (ageOf says x) (ageOf says n)) _ _ none _ k (λ _ j. clash (cc)) (λ _ j. clash (cc))
 
   -- a search that finds a page: the newest that passes
-  pub newest-found : (n p : ℕ) → newest says test n ≡ some p → IsNewest says test n p
-  newest-found zero p e = absurd (never (sym (newest-none says test) ∙ e))
+  pub where-found : (n p : ℕ) → newestWhere says test n ≡ some p → IsNewest says test n p
+  where-found zero p e = absurd (never (sym (where-none says test) ∙ e))
     where
       never : none ≡ some p → ⊥
       never k = clash (cc)
-  newest-found (suc n) p e =
-      pick-cases (test (says n)) _ _ (some p) _ (sym (newest-suc says test n) ∙ e)
-      (λ t k. taken t (newest says test n) refl k (λ x i. newest-found n x i))
+  where-found (suc n) p e =
+      pick-cases (test n) _ _ (some p) _ (sym (where-suc says test n) ∙ e)
+      (λ t k. taken t (newestWhere says test n) refl k (λ x i. where-found n x i))
       (λ t k.
-      let f = newest-found n p k in
+      let f = where-found n p k in
       record {
         below = omega (arith, f .below);
         passes = f .passes;
         newest = λ q h u. ⊎-elim (λ (i : q ≡ n). absurd (both t (rw i at u))) (λ i. f .newest q i u) (eq-or-lt-of-le (le-of-suc-le-suc h));
       })
     where
-      both : test (says n) ≡ false → test (says n) ≡ true → ⊥
+      both : test n ≡ false → test n ≡ true → ⊥
       both a b = clash (cc)
 
-      last : p ≡ n → test (says n) ≡ true → ((q : ℕ) → q < n → test (says q) ≡ true → ageOf says q ≤ ageOf says n) → IsNewest says test (suc n) p
+      last : p ≡ n → test n ≡ true → ((q : ℕ) → q < n → test q ≡ true → ageOf says q ≤ ageOf says n) → IsNewest says test (suc n) p
       last i t f =
           rw i record {
             below = le-refl _;
@@ -79,11 +79,11 @@ module _ (says : ℕ → Record) (test : Record → Bool) where
           }
 
       taken :
-          test (says n) ≡ true → (r : Option ℕ) → newest says test n ≡ r → later says n r ≡ some p →
-          ((x : ℕ) → newest says test n ≡ some x → IsNewest says test n x) → IsNewest says test (suc n) p
+          test n ≡ true → (r : Option ℕ) → newestWhere says test n ≡ r → later says n r ≡ some p →
+          ((x : ℕ) → newestWhere says test n ≡ some x → IsNewest says test n x) → IsNewest says test (suc n) p
       taken t none i k ih =
           let j : p ≡ n = cc in
-          last j t (λ q h u. let m = newest-missing n i q h in absurd (clash (cc)))
+          last j t (λ q h u. let m = where-missing n i q h in absurd (clash (cc)))
       taken t (some x) i k ih =
           let f = ih x i in
           pick-cases (leb (ageOf says x) (ageOf says n)) _ _ (some p) _ k
@@ -96,6 +96,44 @@ module _ (says : ℕ → Record) (test : Record → Bool) where
             passes = f .passes;
             newest = λ q h u. ⊎-elim (λ (y : q ≡ n). rw y (omega arith)) (λ y. f .newest q y u) (eq-or-lt-of-le (le-of-suc-le-suc h));
           })
+
+  -- ages of different pages below 2^32 differ, so that the newest is the only one
+  same-age : (p q : ℕ) → p < 4294967296 → q < 4294967296 → ageOf says p ≡ ageOf says q → p ≡ q
+  same-age p q h k e = omega arith
+
+  -- and so a search finds the page that is the newest
+  pub where-is : (n p : ℕ) → IsNewest says test n p → n ≤ 4294967296 → newestWhere says test n ≡ some p
+  where-is n p w h = found (newestWhere says test n) refl
+    where
+      found : (r : Option ℕ) → newestWhere says test n ≡ r → r ≡ some p
+      found none e = let m = where-missing n e p (w .below) in clash (cc (w .passes))
+      found (some q) e =
+          let f = where-found n q e in
+          ap some (same-age q p (omega (arith, f .below)) (omega (arith, w .below)) (le-antisymm (w .newest q (f .below) (f .passes)) (f .newest p (w .below) (w .passes))))
+
+  -- where no page passes, nothing is found
+  pub where-none-is : (n : ℕ) → ((q : ℕ) → q < n → test q ≡ false) → newestWhere says test n ≡ none
+  where-none-is n h = found (newestWhere says test n) refl
+    where
+      found : (r : Option ℕ) → newestWhere says test n ≡ r → r ≡ none
+      found none e = refl
+      found (some q) e = let f = where-found n q e in let u = h q (f .below) in clash (cc (f .passes))
+
+-- two tests that agree find the same
+pub where-same :
+    (says : ℕ → Record) (test other : ℕ → Bool) (n : ℕ) → ((q : ℕ) → q < n → test q ≡ other q) → newestWhere says test n ≡ newestWhere says other n
+where-same says test other zero h = where-none says test ∙ sym (where-none says other)
+where-same says test other (suc n) h =
+    where-suc says test n
+    ∙ rw (h n (le-refl _), where-same says test other n (λ q k. h q (omega (arith, k)))) (sym (where-suc says other n))
+
+-- the same of a test of records
+module _ (says : ℕ → Record) (test : Record → Bool) where
+  pub newest-missing : (n : ℕ) → newest says test n ≡ none → (q : ℕ) → q < n → test (says q) ≡ false
+  newest-missing = where-missing says (λ p. test (says p))
+
+  pub newest-found : (n p : ℕ) → newest says test n ≡ some p → IsNewest says (λ q. test (says q)) n p
+  newest-found = where-found says (λ p. test (says p))
 
 -- an old header of a plain file, neither shrink-marked nor deleted, cuts nowhere
 pub plain-header-cuts-nowhere : (k : Record) → isGone k ≡ false → isShrink k ≡ false → cutOf false k ≡ Nowhere

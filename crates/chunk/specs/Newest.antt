@@ -14,8 +14,12 @@ later says p none = some p
 later says p (some q) = pick (leb (ageOf says q) (ageOf says p)) (some p) (some q)
 
 -- the newest of the first n pages that pass a test
-unfoldable pub newest : (says : ℕ → Record) (test : Record → Bool) (pages : ℕ) → Option ℕ
-newest says test n = gather (λ p r. pick (test (says p)) (later says p r) r) none n
+unfoldable pub newestWhere : (says : ℕ → Record) (test : ℕ → Bool) (pages : ℕ) → Option ℕ
+newestWhere says test n = gather (λ p r. pick (test p) (later says p r) r) none n
+
+-- the newest of the first n pages whose records pass a test
+abbrev pub newest : (says : ℕ → Record) (test : Record → Bool) (pages : ℕ) → Option ℕ
+newest says test n = newestWhere says (λ p. test (says p)) n
 
 -- whether a page is a data page of object o with chunk number c
 abbrev pub copyOf : (object chunk : ℕ) → Record → Bool

@@ -12,7 +12,7 @@ use Rattle.page.proofs.Counting.{counted-pages}
 use Rattle.page.proofs.Marked as pages
 use Rattle.chunk.specs.Gather.{gather}
 use Rattle.chunk.specs.Live.{objectCount, liveCount}
-use Rattle.chunk.specs.Newest.{newest, since}
+use Rattle.chunk.specs.Newest.{newestWhere, since}
 use Rattle.text.specs.Decimal.{digits, decimal}
 use Rattle.text.specs.Lines.{fieldOf, lineOf}
 use Rattle.text.specs.Quoted.{bytesOf}
@@ -33,7 +33,7 @@ unfolding objectCount since gather count shelfKinds
 objects = rw says
 
 live : liveCount (recordAt shelfGeometry shelf) 8 ≡ 1
-unfolding liveCount newest gather count shelfKinds
+unfolding liveCount newestWhere gather count shelfKinds
 live = rw says
 
 pub shelf-report :

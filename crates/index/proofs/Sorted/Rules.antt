@@ -23,8 +23,7 @@ use Rattle.chunk.specs.declared.cut.Cut.{Cut}
 use Rattle.chunk.specs.declared.cut.Cut.the-variants.{Nowhere}
 use Rattle.chunk.proofs.Records.{of-object, object-of, other-object}
 use Rattle.chunk.proofs.Cuts.{lower-swap}
-use Rattle.chunk.proofs.Gathering.{and-true, newest-suc, since-none, since-suc, end-none, end-suc, cut-none, cut-suc}
-use Rattle.chunk.proofs.Gathering as gathering
+use Rattle.chunk.proofs.Gathering.{and-true, where-none, where-suc, since-none, since-suc, end-none, end-suc, cut-none, cut-suc}
 use Rattle.sort.proofs.Ascending.{In}
 use Rattle.index.specs.Chains.{objects}
 use Rattle.index.specs.Held.{recs}
@@ -127,7 +126,7 @@ module _ (says S : ℕ → Record) (age : ℕ → ℕ) (o n b : ℕ) (pos : 0 < 
     counts = λ x.
         along (λ p. isOf o (S p) && leb x (ageOf S p)) (λ p. suc) 0 (since S o x) (since-none S o x) (since-suc S o x) (λ p e. rw e) (λ p q d a. refl);
     newer = λ test.
-        along (λ p. isOf o (S p) && test (S p)) (later S) none (newest S (λ k. isOf o k && test k)) (gathering.newest-none S _) (newest-suc S _)
+        along (λ p. isOf o (S p) && test (S p)) (later S) none (newest S (λ k. isOf o k && test k)) (where-none S _) (where-suc S _)
         (λ p e. rw e) later-swap;
     ends = λ P x.
         along (λ p. dataOf o (S p) && ltb x (ageOf S p)) (λ p. max (endOf P (S p))) 0 (dataEnd S P o x) (end-none S P o x) (end-suc S P o x)

@@ -9,7 +9,7 @@ use Rattle.page.specs.Records.{recordAt}
 use Rattle.chunk.specs.Records.{ageOf}
 use Rattle.chunk.specs.Newest.{newest}
 use Rattle.chunk.specs.Scans.{wanted, newestIn}
-use Rattle.chunk.proofs.Gathering.{newest-none, newest-skip, newest-take, later-in}
+use Rattle.chunk.proofs.Gathering.{where-none, where-skip, where-take, later-in}
 use Rattle.chunk.proofs.scan.newest_page.Statement.{statement}
 use Rattle.chunk.proofs.scan.newest_page.Tie as tie
 
@@ -20,7 +20,7 @@ abbrev μ-loop : tie.MeasureT-loop
 μ-loop dump g pages o w best₀ i₀ best i = pages - i
 
 loop-holds : tie.Need-loop-holds Inv-loop μ-loop
-loop-holds c = (search needs, rw newest-none)
+loop-holds c = (search needs, rw where-none)
 
 loop-again : tie.Need-loop-again Inv-loop μ-loop
 loop-again c =
@@ -31,7 +31,7 @@ loop-again c =
     let t : wanted (a .o .0) (a .w) (says (q .i)) ≡ false =
     rw (← k .record-at .ensures, ← c .before .is-wanted .ensures) (not-true (c .before .is-wanted .result) (c .if1 .taken))
     in
-    (search needs, q .inv .1 ∙ ap (newestIn says) (sym (newest-skip says (wanted (a .o .0) (a .w)) (q .i) t)))
+    (search needs, q .inv .1 ∙ ap (newestIn says) (sym (where-skip says (λ p. wanted (a .o .0) (a .w) (says p)) (q .i) t)))
 
 loop-again-2 : tie.Need-loop-again-2 Inv-loop μ-loop
 loop-again-2 c =
@@ -48,7 +48,7 @@ loop-again-2 c =
       search needs,
       c .or-newer .ensures
           ∙ rw (q .inv .1, g) (later-in says (q .i) (newest says test (q .i)))
-          ∙ ap (newestIn says) (sym (newest-take says test (q .i) t)),
+          ∙ ap (newestIn says) (sym (where-take says (λ p. test (says p)) (q .i) t)),
     )
 
 returns : tie.Need-returns Inv-loop μ-loop
