@@ -9,7 +9,8 @@ use Rattle.sort.specs.Arranged.{arranged, Every}
 use Rattle.sort.specs.Packed.{wordValues, valueOf}
 use Rattle.sort.proofs.Arranging.{arranged-length, arranged-backwards, every-arranged, every-weaker}
 use Rattle.sort.proofs.Packing.{packed-value}
-use Rattle.file.specs.Copies.{packedCopy, putFrom, roomFor, firsts, inRoom}
+use Rattle.sort.specs.Room.{inRoom}
+use Rattle.file.specs.Copies.{packedCopy, putFrom, roomFor, firsts}
 use Rattle.file.specs.declared.copy.Copy.{Copy}
 use Rattle.file.proofs.Putting.{keysFrom, keys-length, rows-length, keys-first, rows-behind}
 use Rattle.file.proofs.Newest.{EveryCopy, newestOf, noCopy, newest-gathered, firsts-map}

@@ -1,22 +1,21 @@
--- What the call answers: the copies that lie ahead for the chunks of a file are those of the lookups, and an accepted dump has pages and valid
--- lengths that fit a row.
-use Prim.Native.Nat.{ℕ, _*_, _≤_, _<_}
+-- What the call answers: the copies that lie ahead for the chunks of a file are those of the lookups, and the valid lengths of
+-- an accepted dump fit a row.
+use Prim.Native.Nat.{ℕ, _≤_, _<_}
 use mathlib.Core.Bool.{Bool, true, _&&_}
 use mathlib.Core.List.{List, map}
 use mathlib.Core.Path.{_≡_, sym, ap, _∙_}
-use native.Mathlib.Nat.{mul-le-mul-left, div-mul-le-self}
 use native.Mathlib.Omega.{arith}
 use lib.Dec.{ltb}
 use lib.ListN.{length}
 use borrow.Author.Tests.{lt-ltb, le-ltb}
-use Rattle.page.specs.Layouts.{pageLen}
 use Rattle.page.specs.Lengths.{openedOf}
 use Rattle.page.specs.Records.{recordAt}
 use Rattle.page.specs.declared.geometry.Geometry.{Geometry}
 use Rattle.page.specs.declared.geometry.Opened.the-variants as opened
 use Rattle.page.specs.declared.refusal.Refusal.the-variants.{ShortBuffer, IndexDamaged}
-use Rattle.page.proofs.Layouts.{roomy-facts, listed-data}
-use Rattle.page.proofs.Lengths.{opened-facts, opened-some, length-most}
+use Rattle.page.proofs.Layouts.{listed-data}
+use Rattle.page.proofs.Lengths.{opened-facts, opened-some}
+use Rattle.sort.specs.Room.{inRoom}
 use Rattle.chunk.specs.declared.answer.Looked.{Looked}
 use Rattle.chunk.specs.declared.answer.Looked.the-variants as looked
 use Rattle.chunk.specs.declared.answer.Sized.the-variants as sized
@@ -29,21 +28,12 @@ use Rattle.index.proofs.Slot.Search.{first-link}
 use Rattle.index.proofs.Walk.Ahead.{is-sized, chunk-ahead}
 use Rattle.file.specs.Table.{chunksIn, allAhead}
 use Rattle.index.specs.Recorded.{isBroken}
-use Rattle.file.specs.Copies.{pageValues, validValues, packedCopy, copyIn, isRefused, copiesTo, anyRefused, met, roomFor, inRoom, copiedBy, rowsBy, metFrom, copiedFrom, rowsFrom}
+use Rattle.file.specs.Copies.{validValues, packedCopy, copyIn, isRefused, copiesTo, anyRefused, met, roomFor, copiedBy, rowsBy, metFrom, copiedFrom, rowsFrom}
 use Rattle.file.specs.declared.copies.Copied.the-variants as copied
 use Rattle.file.proofs.Chunks.{chunk-before}
 use Rattle.file.proofs.Shown.{copies-same, refused-same, copy-unvisited, refused-unvisited, ahead-damaged, ahead-refused}
 
 module _ (g : Geometry) (l n : ℕ) (e : openedOf g l ≡ opened.Pages n) where
-  pub opened-pages : n ≤ pageValues
-  opened-pages =
-      let f = opened-facts g l n e in
-      let r = roomy-facts (g .layout) (f .room) in
-      let a : n * 512 ≤ n * pageLen (g .layout) = mul-le-mul-left n (omega (arith, r .header)) in
-      let b = div-mul-le-self l (pageLen (g .layout)) in
-      let c : n * pageLen (g .layout) ≤ l = rw (f .pages) at b in
-      omega (arith, length-most l (f .long))
-
   pub opened-data : g .layout .«data» < validValues
   opened-data = omega (arith, listed-data (g .layout) (opened-facts g l n e .listed))
 

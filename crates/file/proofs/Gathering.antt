@@ -12,7 +12,8 @@ use lib.Seq.{sets, sets-eq, length-sets, drop-set-lt, length-take-le, take-at, d
 use Rattle.page.proofs.Searching.{by-test}
 use Rattle.sort.specs.Arranged.{Every}
 use Rattle.sort.specs.Packed.{keyOf, valueOf}
-use Rattle.file.specs.Copies.{roomFor, firstOf, firsts, inRoom}
+use Rattle.sort.specs.Room.{inRoom}
+use Rattle.file.specs.Copies.{roomFor, firstOf, firsts}
 
 -- a run of stores, and the words before and behind it
 take-sets : (w : List ℕ) (m : ℕ) (F : List ℕ) → m + length F ≤ length w → take (m + length F) (sets w m F) ≡ take m w ++ F

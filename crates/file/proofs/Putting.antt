@@ -1,18 +1,17 @@
--- The words of copies, one store at a time: what a walk puts, what a gathering keeps of it, and what is cleared. Where n copies are put, the first n
--- words are their keys, from the last to the first, the next n their rows, and all behind those is as it was.
+-- The words of copies, one store at a time: what a walk puts. Where n copies are put, the first n words are their keys, from the last to the
+-- first, the next n their rows, and all behind those is as it was.
 use Prim.Native.Nat.{ℕ, suc, _+_, _-_, _≤_, _<_, zero-le}
 use mathlib.Core.Bool.{Bool, true, false}
 use mathlib.Core.List.{List, [], _∷_, _++_, map, append-assoc, append-nil}
 use mathlib.Core.Path.{_≡_, refl, sym, ap, _∙_}
-use native.Mathlib.Numerals.{add-one}
 use native.Mathlib.Omega.{arith}
 use lib.Dec.{ltb}
-use lib.ListN.{length, take, drop, set, getD, replicate, length-set, length-append, length-replicate, length-drop, take-append-drop, drop-of-length-le, replicate-append-replicate}
-use lib.Seq.{sets, sets-eq, take-set-le, take-set-lt, drop-set-add, drop-set-lt, length-take-le, drop-cons, drop-drop, drop-at, set-split, set-at, append-snoc}
+use lib.ListN.{length, take, drop, set, length-set, length-drop, drop-of-length-le}
+use lib.Seq.{sets, sets-eq, take-set-le, take-set-lt, drop-set-add, drop-set-lt, length-take-le, drop-drop, drop-at, set-split}
 use borrow.Author.Tests.{lt-ltb, le-ltb}
 use Rattle.sort.specs.Packed.{packed}
 use Rattle.sort.proofs.Arranging.{backwards}
-use Rattle.file.specs.Copies.{packedCopy, putCopy, putFrom, roomFor, inRoom}
+use Rattle.file.specs.Copies.{packedCopy, putCopy, putFrom, roomFor}
 use Rattle.file.specs.declared.copy.Copy.{Copy}
 
 -- putting no copy, one, and some after others
@@ -109,25 +108,3 @@ module _ (n : ℕ) where
         rows-put w 0 L (omega arith)
         ∙ sets-eq (map packedCopy L) (drop n w) 0 (omega (arith, length-drop n w))
         ∙ rw (drop-drop (0 + length (map packedCopy L)) n w, e)
-
--- words cleared one after the other
-module _ (f : ℕ) (w : List ℕ) where
-  abbrev pub clearedTo : ℕ → List ℕ
-  clearedTo i = take f w ++ replicate (i - f) 0 ++ drop i w
-
-  pub clear-none : w ≡ clearedTo f
-  clear-none = let e : f - f ≡ 0 = omega arith in rw (e, append-nil (take f w)) (sym (take-append-drop f w))
-
-  pub clear-more : (i : ℕ) → f ≤ i → i < length w → set (clearedTo i) i 0 ≡ clearedTo (i + 1)
-  clear-more i h k =
-      let p = take f w ++ replicate (i - f) 0 in
-      let e : i + 1 - f ≡ i - f + 1 = omega arith in
-      let l : length p ≡ i = length-append (take f w) (replicate (i - f) 0) ∙ rw (length-take-le f w (omega arith), length-replicate {A = ℕ} (i - f) 0) (omega arith) in
-      ap (λ (r : List ℕ). set (p ++ r) i 0) (drop-cons w i 0 k)
-      ∙ set-at p (getD w i 0) (drop (suc i) w) 0 i l
-      ∙ sym (append-snoc p 0 (drop (suc i) w))
-      ∙ ap (λ (r : List ℕ). r ++ drop (suc i) w) (append-assoc (take f w) (replicate (i - f) 0) (0 ∷ []))
-      ∙ rw (e, ← replicate-append-replicate {A = ℕ} (i - f) 1 0, add-one i)
-
-  pub clear-all : (to : ℕ) → f ≤ length w → clearedTo to ≡ inRoom (take f w) to w
-  clear-all to h = rw (length-take-le f w h)

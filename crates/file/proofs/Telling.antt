@@ -10,10 +10,12 @@ use lib.ListN.{length}
 use borrow.Author.Tests.{eqb-true, eqb-false, ltb-true, ltb-false}
 use Rattle.page.specs.Records.{recordAt}
 use Rattle.page.specs.Lengths.{openedOf}
+use Rattle.page.specs.Numbers.{pageValues}
 use Rattle.page.specs.declared.geometry.Geometry.{Geometry}
 use Rattle.page.specs.declared.geometry.Opened.the-variants as opened
 use Rattle.page.specs.declared.record.Record.{Record}
 use Rattle.page.specs.declared.refusal.Refusal.the-variants.{IndexDamaged}
+use Rattle.page.proofs.Lengths.{opened-pages}
 use Rattle.page.proofs.Searching.{by-test, clash}
 use Rattle.chunk.specs.Records.{ageOf, chunkOf}
 use Rattle.chunk.specs.Lookups.{lookedOf}
@@ -33,14 +35,14 @@ use Rattle.index.proofs.Answer.Lookups.{chunk-from-held}
 use Rattle.index.proofs.Chain.Links.{Known, known}
 use Rattle.file.specs.Table.{chunksIn}
 use Rattle.file.specs.Shows.{isMet}
-use Rattle.file.specs.Copies.{chunkValues, pageValues, validValues, Fits, packedCopy, copyOf, isRefused, copiesTo, anyRefused, met}
+use Rattle.file.specs.Copies.{chunkValues, validValues, Fits, packedCopy, copyOf, isRefused, copiesTo, anyRefused, met}
 use Rattle.file.specs.declared.copy.Copy.{Copy}
 use Rattle.file.proofs.Chunks.{chunks-most}
 use Rattle.file.proofs.Meeting.{valid-most}
 use Rattle.file.proofs.IsMet.{met-in}
 use Rattle.file.proofs.Newest.{EveryCopy, over, over-none, over-behind, over-same, over-before, newestOf}
 use Rattle.file.proofs.Shown.{copies-same, refused-none, met-shown}
-use Rattle.file.proofs.Copying.{opened-pages, opened-data, copies-looked, refused-damaged}
+use Rattle.file.proofs.Copying.{opened-data, copies-looked, refused-damaged}
 
 -- no chain leads outside the dump
 abbrev Inside : ℕ → Trace → Type 0
@@ -87,7 +89,7 @@ module _ (Q : Copy → Type 0) where
   newest-every (x ∷ L) e = over-every x (newestOf L) (e .0) (newest-every L (e .1))
 
 -- all that is met fits
-module _ (says : ℕ → Record) (P m size n : ℕ) (h : m < chunkValues) (i : n ≤ pageValues) (j : P < validValues) where
+module _ (says : ℕ → Record) (P m size n : ℕ) (h : m < chunkValues) (i : n < pageValues) (j : P < validValues) where
   met-fits : (t : Trace) (newest : Bool) (cut : Cut) → Inside n t → EveryCopy Fits (met says P m size newest cut t)
   unfolding met
   met-fits clean newest cut k = tt

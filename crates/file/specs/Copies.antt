@@ -3,16 +3,17 @@
 use Prim.Native.Nat.{ℕ, zero, suc, _+_, _-_, _*_, _/_, _%_, _<_}
 use mathlib.Core.Bool.{Bool, true, false, _||_}
 use mathlib.Core.List.{List, [], _∷_, _++_, map}
-use lib.ListN.{length, set, drop, replicate}
+use lib.ListN.{length, set}
 use lib.Dec.{eqb, ltb}
 use Rattle.page.specs.Choice.{pick}
 use Rattle.page.specs.Records.{recordAt}
 use Rattle.page.specs.Lengths.{openedOf}
-use Rattle.page.specs.Numbers.{mostChunk}
+use Rattle.page.specs.Numbers.{mostChunk, pageValues}
 use Rattle.page.specs.declared.record.Record.{Record}
 use Rattle.page.specs.declared.geometry.Geometry.{Geometry}
 use Rattle.page.specs.declared.refusal.Refusal.the-variants.{ShortBuffer}
 use Rattle.sort.specs.Packed.{packed, keyOf, valueOf}
+use Rattle.sort.specs.Room.{inRoom}
 use Rattle.chunk.specs.Records.{chunkOf}
 use Rattle.chunk.specs.Answers.{onPages}
 use Rattle.chunk.specs.Lookups.{shownOf, validOf}
@@ -31,12 +32,9 @@ use Rattle.file.specs.declared.copy.Copy.{Copy}
 use Rattle.file.specs.declared.copies.Copied.{Copied}
 use Rattle.file.specs.declared.copies.Copied.the-variants.{Rows, Refused}
 
--- how many chunks, pages and valid lengths a row tells apart
+-- how many chunks and valid lengths a row tells apart; pages as many as there are numbers of them
 abbrev pub chunkValues : ℕ
 chunkValues = mostChunk + 1
-
-abbrev pub pageValues : ℕ
-pageValues = 0x200000
 
 abbrev pub validValues : ℕ
 validValues = 0x8000
@@ -97,10 +95,6 @@ module _ (says : ℕ → Record) (P chunks size : ℕ) where
 abbrev pub roomFor : ℕ → ℕ
 roomFor n = 2 * n
 
--- the words after the call: the rows, zeros in the rest of the room, and those behind it as they were
-abbrev pub inRoom : (rows : List ℕ) (room : ℕ) (words : List ℕ) → List ℕ
-inRoom rows room words = rows ++ replicate (room - length rows) 0 ++ drop room words
-
 -- by what the lookups answer, and by how many copies are met of a file of a size, with P data bytes to a page
 module _ (look : ℕ → Looked) (copiesMet : ℕ → ℕ) (P : ℕ) where
   -- the copies of a file that has a size or not, in so many words
@@ -110,7 +104,7 @@ module _ (look : ℕ → Looked) (copiesMet : ℕ → ℕ) (P : ℕ) where
       pick (ltb words (roomFor (copiesMet z))) (Refused ShortBuffer (roomFor (copiesMet z)))
       (Rows z (length (copiesTo look (chunksIn P z))) (anyRefused look (chunksIn P z)))
 
-  -- the words after the call; after a refusal all as they were
+  -- the words after the call: the rows in the room that was asked for; after a refusal all as they were
   unfoldable pub rowsBy : (words : List ℕ) → Copied → List ℕ
   rowsBy words (Refused r n) = words
   rowsBy words (Rows z m d) = inRoom (map packedCopy (copiesTo look (chunksIn P z))) (roomFor (copiesMet z)) words

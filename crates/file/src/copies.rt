@@ -9,17 +9,19 @@ ghost use lib.ListN.{length, take, getD};
 ghost use lib.Seq.{sets};
 ghost use Rattle.page.specs.Records.{recordAt};
 ghost use Rattle.page.specs.Lengths.{openedOf};
+ghost use Rattle.page.specs.Numbers.{pageValues};
 ghost use Rattle.page.specs.declared.geometry.Opened.the-variants as opened;
 ghost use Rattle.page.specs.declared.record.Record.the-variants as said;
 ghost use Rattle.sort.specs.Packed.{valueOf};
 ghost use Rattle.sort.specs.Arranged.{Every};
+ghost use Rattle.sort.specs.Room.{inRoom};
 ghost use Rattle.chunk.specs.declared.cut.Cut.the-variants.{Nowhere};
 ghost use Rattle.index.specs.Cells.{cellsFor};
 ghost use Rattle.index.specs.Chains.{top};
 ghost use Rattle.index.specs.Walks.{under};
 ghost use Rattle.file.specs.Table.{allAhead};
 ghost use Rattle.index.specs.Recorded.{isBroken};
-ghost use Rattle.file.specs.Copies.{copiesTo, packedCopy, chunkValues, pageValues, validValues, Fits, putCopy, putFrom, roomFor, metOf, met, firstOf, firsts, inRoom, copiedFrom, rowsFrom};
+ghost use Rattle.file.specs.Copies.{copiesTo, packedCopy, chunkValues, validValues, Fits, putCopy, putFrom, roomFor, metOf, met, firstOf, firsts, copiedFrom, rowsFrom};
 use crate::copy::Copy;
 use crate::shows::is_met;
 use crate::shows::valid_in;
@@ -41,6 +43,7 @@ use page::number::PageNumber;
 use page::record::Data;
 use page::refusal::Refusal;
 use sort::keys::sort;
+use sort::room::clear;
 use sort::rows::key_of;
 use sort::rows::pack;
 use sort::rows::value_of;
@@ -126,7 +129,7 @@ fn walk(
     n: usize,
     rows: &mut [u64],
 ) -> Walked
-    requires { ⌜ pages ≤ pageValues ⌝ }
+    requires { ⌜ pages < pageValues ⌝ }
     requires { ⌜ cellsFor pages ≤ length (now cells) ⌝ }
     requires { ⌜ chunks < chunkValues ⌝ }
     requires { ⌜ g .layout .«data» < validValues ⌝ }
@@ -186,19 +189,6 @@ fn take_first(rows: &mut [u64], n: usize, m: usize, last: u32, key: u64) -> usiz
     m + 1
 }
 
-// Clears the words from one to before another.
-fn clear(rows: &mut [u64], from: usize, to: usize)
-    requires { ⌜ from ≤ to ⌝ }
-    requires { ⌜ to ≤ length (now rows) ⌝ }
-    ensures { λ _. ⌜ now (rows .exit) ≡ inRoom (take from (now (rows .entry))) to (now (rows .entry)) ⌝ }
-{
-    let mut i = from;
-    while i < to {
-        rows[i] = 0;
-        i += 1;
-    }
-}
-
 // Of n keys in ascending order and n rows behind them, keeps the row of each chunk's first key, and clears the rest of their room.
 fn gather(rows: &mut [u64], n: usize) -> usize
     requires { ⌜ roomFor n ≤ length (now rows) ⌝ }
@@ -234,7 +224,7 @@ fn fill(
     n: usize,
     rows: &mut [u64],
 ) -> u32
-    requires { ⌜ pages ≤ pageValues ⌝ }
+    requires { ⌜ pages < pageValues ⌝ }
     requires { ⌜ cellsFor pages ≤ length (now cells) ⌝ }
     requires { ⌜ chunks < chunkValues ⌝ }
     requires { ⌜ g .layout .«data» < validValues ⌝ }

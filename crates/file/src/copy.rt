@@ -1,6 +1,7 @@
 // A copy of a chunk that a file shows, packed into one number of 64 bits: first by its chunk, then by its page, then by its valid length.
 ghost use mathlib.Core.Path.{_≡_};
 ghost use Rattle.file.specs.Copies.{Fits, packedCopy, copyOf};
+use page::number::PAGE_VALUES;
 
 // The chunk, the page that holds its copy, and how many bytes of that are valid.
 pub struct Copy {
@@ -11,8 +12,6 @@ pub struct Copy {
 
 // How many valid lengths a row tells apart.
 const VALID_VALUES: u64 = 0x8000;
-// How many pages a row tells apart.
-const PAGE_VALUES: u64 = 0x20_0000;
 
 impl Copy {
     // The number of a copy.

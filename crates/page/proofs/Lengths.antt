@@ -3,11 +3,12 @@ use Prim.Native.Nat.{ℕ, suc, _+_, _*_, _/_, _%_, _<_, _≤_}
 use mathlib.Core.Bool.{true, not}
 use mathlib.Core.Path.{_≡_}
 use mathlib.Core.Logic.{_↔_}
-use native.Mathlib.Nat.{suc-mul, mul-le-mul-right, div-lt-iff-lt-mul, div-le-self, le-div-iff-mul-le, mod-eq-of-lt}
+use native.Mathlib.Nat.{suc-mul, mul-le-mul-right, mul-le-mul-left, div-mul-le-self, div-lt-iff-lt-mul, div-le-self, le-div-iff-mul-le, mod-eq-of-lt}
 use native.Mathlib.Decide.{decLt}
 use native.Mathlib.Omega.{arith}
 use lib.Dec.{leb, ltb, eqb}
 use borrow.Author.Tests.{leb-true, leb-false, ltb-true, ltb-false, le-leb, lt-leb, eqb-true, eqb-false, not-true, not-false}
+use Rattle.page.specs.Numbers.{pageValues}
 use Rattle.page.specs.Layouts.{mostBytes, pageLen, roomy, numberOf}
 use Rattle.page.specs.Lengths.{blockFits, lengthFits, wholeBlocks, pageCount, pageIn, openedOf}
 use Rattle.page.specs.declared.geometry.Geometry.{Geometry}
@@ -88,6 +89,15 @@ pub opened-most : (g : Geometry) (n m : ℕ) → openedOf g n ≡ Pages m → m 
 opened-most g n m e =
     let f = opened-facts g n m e in
     omega (arith, f .pages, length-most n (f .long), div-le-self n (pageLen (g .layout)))
+
+-- and fewer pages than there are page numbers, since a page has room for a header and for tags
+pub opened-pages : (g : Geometry) (n m : ℕ) → openedOf g n ≡ Pages m → m < pageValues
+opened-pages g n m e =
+    let f = opened-facts g n m e in
+    let r = roomy-facts (g .layout) (f .room) in
+    let a : m * 528 ≤ m * pageLen (g .layout) = mul-le-mul-left m (omega (arith, r .header, r .tags)) in
+    let b : m * pageLen (g .layout) ≤ n = rw (f .pages) at (div-mul-le-self n (pageLen (g .layout))) in
+    omega (arith, length-most n (f .long))
 
 -- a dump has a page: a length that is whole blocks and not 0 is at least a block
 pub opened-some : (g : Geometry) (n m : ℕ) → openedOf g n ≡ Pages m → 0 < m

@@ -11,6 +11,10 @@ mostObject = 0x0FFFFFFF
 abbrev pub mostChunk : ℕ
 mostChunk = 0xFFFFF
 
+-- how many page numbers there are at most: no dump has so many pages
+abbrev pub pageValues : ℕ
+pageValues = 0x200000
+
 -- an id that no object has: 0, or above the largest
 unfoldable pub badObject : ℕ → Bool
 badObject id = eqb id 0 || ltb mostObject id

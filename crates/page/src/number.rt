@@ -11,6 +11,9 @@ pub struct ChunkNumber(pub u32);
 // The number of a page in its dump, from 0.
 pub struct PageNumber(pub u32);
 
+// How many page numbers there are at most.
+pub const PAGE_VALUES: u64 = 0x20_0000;
+
 impl ObjectId {
     // The largest object id.
     pub const MOST: u32 = 0x0FFF_FFFF;

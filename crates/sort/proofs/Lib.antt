@@ -2,3 +2,4 @@ pub mod Arranging
 pub mod Ascending
 pub mod Splitting
 pub mod Packing
+pub mod Clearing

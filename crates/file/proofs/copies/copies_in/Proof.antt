@@ -1,18 +1,20 @@
 -- The size lookup refuses, or gives the size that the chunks are counted by. A first walk counts the copies that are met and puts none; there is room
 -- for them, or not.
-use Prim.Native.Nat.{ℕ, _≤_}
+use Prim.Native.Nat.{ℕ, _<_}
 use mathlib.Core.List.{List}
 use mathlib.Core.Path.{_≡_, refl, sym, ap, _∙_}
 use native.Mathlib.Omega.{arith}
 use lib.ListN.{length}
 use borrow.Author.Needs.{needs}
+use Rattle.page.specs.Numbers.{pageValues}
+use Rattle.page.proofs.Lengths.{opened-pages}
 use Rattle.chunk.specs.declared.answer.Sized.the-variants as sized
 use Rattle.index.specs.Walks.{sizeFrom}
 use Rattle.index.proofs.Walk.Ahead.{is-sized}
-use Rattle.file.specs.Copies.{pageValues, copiedFrom, copiedBy, rowsFrom, rowsBy}
+use Rattle.file.specs.Copies.{copiedFrom, copiedBy, rowsFrom, rowsBy}
 use Rattle.file.proofs.Chunks.{data-some}
 use Rattle.file.proofs.Putting.{put-zero}
-use Rattle.file.proofs.Copying.{opened-pages, opened-data, copies-short, copies-rows, copies-filled}
+use Rattle.file.proofs.Copying.{opened-data, copies-short, copies-rows, copies-filled}
 use Rattle.file.proofs.copies.copies_in.Statement.{statement}
 use Rattle.file.proofs.copies.copies_in.Tie as tie
 
@@ -72,7 +74,7 @@ returns c =
     )
 
 -- they are no more than the pages
-few : (w : tie.After-walk) → w .walk .result .copies ≤ pageValues
+few : (w : tie.After-walk) → w .walk .result .copies < pageValues
 few w = omega (arith, w .walk .ensures .1 .1 .0, opened-pages _ _ _ (start (sizedAt w) .pre))
 
 fill-requires : tie.Need-fill-requires

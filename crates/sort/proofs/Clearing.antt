@@ -1,0 +1,31 @@
+-- Words cleared one after the other.
+use Prim.Native.Nat.{ℕ, suc, _+_, _-_, _≤_, _<_}
+use mathlib.Core.List.{List, [], _∷_, _++_, append-assoc, append-nil}
+use mathlib.Core.Path.{_≡_, sym, ap, _∙_}
+use native.Mathlib.Numerals.{add-one}
+use native.Mathlib.Omega.{arith}
+use lib.ListN.{length, take, drop, set, getD, replicate, length-append, length-replicate, take-append-drop, replicate-append-replicate}
+use lib.Seq.{length-take-le, drop-cons, set-at, append-snoc}
+use Rattle.sort.specs.Room.{inRoom}
+
+-- the words w once those from f to before i are cleared
+module _ (f : ℕ) (w : List ℕ) where
+  abbrev pub clearedTo : ℕ → List ℕ
+  clearedTo i = take f w ++ replicate (i - f) 0 ++ drop i w
+
+  pub clear-none : w ≡ clearedTo f
+  clear-none = let e : f - f ≡ 0 = omega arith in rw (e, append-nil (take f w)) (sym (take-append-drop f w))
+
+  pub clear-more : (i : ℕ) → f ≤ i → i < length w → set (clearedTo i) i 0 ≡ clearedTo (i + 1)
+  clear-more i h k =
+      let p = take f w ++ replicate (i - f) 0 in
+      let e : i + 1 - f ≡ i - f + 1 = omega arith in
+      let l : length p ≡ i = length-append (take f w) (replicate (i - f) 0) ∙ rw (length-take-le f w (omega arith), length-replicate {A = ℕ} (i - f) 0) (omega arith) in
+      ap (λ (r : List ℕ). set (p ++ r) i 0) (drop-cons w i 0 k)
+      ∙ set-at p (getD w i 0) (drop (suc i) w) 0 i l
+      ∙ sym (append-snoc p 0 (drop (suc i) w))
+      ∙ ap (λ (r : List ℕ). r ++ drop (suc i) w) (append-assoc (take f w) (replicate (i - f) 0) (0 ∷ []))
+      ∙ rw (e, ← replicate-append-replicate {A = ℕ} (i - f) 1 0, add-one i)
+
+  pub clear-all : (to : ℕ) → f ≤ length w → clearedTo to ≡ inRoom (take f w) to w
+  clear-all to h = rw (length-take-le f w h)

@@ -1,0 +1,18 @@
+// Words that have room for more than is kept in them.
+ghost use mathlib.Core.Path.{_≡_};
+ghost use Prim.Native.Nat.{_≤_};
+ghost use lib.ListN.{length, take};
+ghost use Rattle.sort.specs.Room.{inRoom};
+
+// Clears the words from one to before another.
+pub fn clear(words: &mut [u64], from: usize, to: usize)
+    requires { ⌜ from ≤ to ⌝ }
+    requires { ⌜ to ≤ length (now words) ⌝ }
+    ensures { λ _. ⌜ now (words .exit) ≡ inRoom (take from (now (words .entry))) to (now (words .entry)) ⌝ }
+{
+    let mut i = from;
+    while i < to {
+        words[i] = 0;
+        i += 1;
+    }
+}
