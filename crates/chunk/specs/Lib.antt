@@ -1,5 +1,6 @@
 pub mod Gather
 pub mod Records
+pub mod Takes
 pub mod Newest
 pub mod Cuts
 pub mod Sizes

@@ -6,3 +6,4 @@ pub mod lookup;
 pub mod read;
 pub mod record;
 pub mod scan;
+pub mod takes;

@@ -16,6 +16,7 @@ use crate::record::object_of;
 use crate::scan::Newest;
 use crate::scan::newest_page;
 use crate::scan::records_since;
+use crate::takes::Takes;
 use page::geometry::Geometry;
 use page::geometry::Opened;
 use page::number::ObjectId;
@@ -33,7 +34,7 @@ fn is_live(dump: &[u8], g: Geometry, pages: u32, n: PageNumber, h: Header) -> bo
     if gone_under(h.parent) {
         return false;
     }
-    let newest = newest_page(dump, g, pages, h.object, Want::Header);
+    let newest = newest_page(dump, g, Takes::Every, pages, h.object, Want::Header);
     let Newest::At(page, _) = newest else {
         return false;
     };
@@ -142,7 +143,7 @@ fn objects_in(dump: &[u8], g: Geometry, pages: u32) -> u32
         if id == 0 {
             continue;
         }
-        if records_since(dump, g, n.pages_before(), ObjectId(id), 0) != 0 {
+        if records_since(dump, g, Takes::Every, n.pages_before(), ObjectId(id), 0) != 0 {
             continue;
         }
         count += 1;

@@ -1,7 +1,8 @@
-// Scans over the pages of a dump, each a single pass.
+// Scans over the pages of a dump that are taken, each a single pass.
 ghost use mathlib.Core.Path.{_≡_};
 ghost use Rattle.page.specs.Records.{recordAt};
 ghost use Rattle.page.specs.declared.record.Record.the-variants as Record;
+ghost use Rattle.chunk.specs.Takes.{seenBy};
 ghost use Rattle.chunk.specs.Newest.{newest, since};
 ghost use Rattle.chunk.specs.Cuts.{lowestCut};
 ghost use Rattle.chunk.specs.Sizes.{dataEnd};
@@ -14,13 +15,14 @@ use crate::record::is_wanted;
 use crate::record::larger;
 use crate::record::order_of;
 use crate::record::sequence_of;
+use crate::takes::Takes;
+use crate::takes::seen_at;
 use page::geometry::Geometry;
 use page::number::ObjectId;
 use page::number::PageNumber;
 use page::record::Data;
 use page::record::Header;
 use page::record::Record;
-use page::record::record_at;
 
 // The newest page of a scan with its age, if there is one.
 pub enum Newest {
@@ -30,7 +32,7 @@ pub enum Newest {
 
 impl Newest {
     // The newer of this page and page n.
-    fn or_newer(self, n: PageNumber, age: u64) -> Newest
+    pub fn or_newer(self, n: PageNumber, age: u64) -> Newest
         ensures { λ r. ⌜ r ≡ laterIn self (n .0) age ⌝ }
     {
         match self {
@@ -46,14 +48,14 @@ impl Newest {
 }
 
 // The newest of the first pages that is a wanted record of object o.
-pub fn newest_page(dump: &[u8], g: Geometry, pages: u32, o: ObjectId, w: Want) -> Newest
-    ensures { λ r. ⌜ r ≡ newestIn (recordAt g (now (dump .entry))) (newest (recordAt g (now (dump .entry))) (wanted (o .0) w) pages) ⌝ }
+pub fn newest_page(dump: &[u8], g: Geometry, t: Takes, pages: u32, o: ObjectId, w: Want) -> Newest
+    ensures { λ r. ⌜ r ≡ newestIn (seenBy t (recordAt g (now (dump .entry)))) (newest (seenBy t (recordAt g (now (dump .entry)))) (wanted (o .0) w) pages) ⌝ }
 {
     let mut best = Newest::Nothing;
     let mut i: u32 = 0;
     while i < pages {
         let n = PageNumber(i);
-        let r = record_at(dump, g, n);
+        let r = seen_at(dump, g, t, n);
         i += 1;
         if !is_wanted(r, o, w) {
             continue;
@@ -64,14 +66,14 @@ pub fn newest_page(dump: &[u8], g: Geometry, pages: u32, o: ObjectId, w: Want) -
 }
 
 // How many of the first pages are records of object o that are not older than an age.
-pub fn records_since(dump: &[u8], g: Geometry, pages: u32, o: ObjectId, age: u64) -> u32
-    ensures { λ r. ⌜ r ≡ since (recordAt g (now (dump .entry))) (o .0) age pages ⌝ }
+pub fn records_since(dump: &[u8], g: Geometry, t: Takes, pages: u32, o: ObjectId, age: u64) -> u32
+    ensures { λ r. ⌜ r ≡ since (seenBy t (recordAt g (now (dump .entry)))) (o .0) age pages ⌝ }
 {
     let mut count: u32 = 0;
     let mut i: u32 = 0;
     while i < pages {
         let n = PageNumber(i);
-        let r = record_at(dump, g, n);
+        let r = seen_at(dump, g, t, n);
         i += 1;
         if !is_wanted(r, o, Want::Record) {
             continue;
@@ -98,14 +100,14 @@ fn end_with(end: u64, data: u32, o: ObjectId, age: u64, n: PageNumber, d: Data) 
 }
 
 // The largest end among the data records of object o newer than an age.
-pub fn data_end(dump: &[u8], g: Geometry, pages: u32, o: ObjectId, age: u64) -> u64
-    ensures { λ r. ⌜ r ≡ dataEnd (recordAt g (now (dump .entry))) (g .layout .«data») (o .0) age pages ⌝ }
+pub fn data_end(dump: &[u8], g: Geometry, t: Takes, pages: u32, o: ObjectId, age: u64) -> u64
+    ensures { λ r. ⌜ r ≡ dataEnd (seenBy t (recordAt g (now (dump .entry)))) (g .layout .«data») (o .0) age pages ⌝ }
 {
     let mut end: u64 = 0;
     let mut i: u32 = 0;
     while i < pages {
         let n = PageNumber(i);
-        let r = record_at(dump, g, n);
+        let r = seen_at(dump, g, t, n);
         i += 1;
         let Record::Data(d) = r else {
             continue;
@@ -129,14 +131,22 @@ fn cut_with(cut: Cut, o: ObjectId, h: PageNumber, age: u64, n: PageNumber, heade
 }
 
 // The lowest cut of the headers of object o newer than an age, where h is its newest header.
-pub fn lowest_cut(dump: &[u8], g: Geometry, pages: u32, o: ObjectId, h: PageNumber, age: u64) -> Cut
-    ensures { λ r. ⌜ r ≡ lowestCut (recordAt g (now (dump .entry))) (o .0) (h .0) age pages ⌝ }
+pub fn lowest_cut(
+    dump: &[u8],
+    g: Geometry,
+    t: Takes,
+    pages: u32,
+    o: ObjectId,
+    h: PageNumber,
+    age: u64,
+) -> Cut
+    ensures { λ r. ⌜ r ≡ lowestCut (seenBy t (recordAt g (now (dump .entry)))) (o .0) (h .0) age pages ⌝ }
 {
     let mut cut = Cut::Nowhere;
     let mut i: u32 = 0;
     while i < pages {
         let n = PageNumber(i);
-        let r = record_at(dump, g, n);
+        let r = seen_at(dump, g, t, n);
         i += 1;
         let Record::Header(header) = r else {
             continue;

@@ -6,16 +6,17 @@ use native.Mathlib.Omega.{arith}
 use borrow.Author.Needs.{needs}
 use Rattle.page.specs.Records.{isData, recordAt}
 use Rattle.page.proofs.Sound.{else-data}
+use Rattle.chunk.specs.Takes.{seenBy}
 use Rattle.chunk.specs.Sizes.{dataEnd}
 use Rattle.chunk.proofs.Gathering.{end-none, end-skip, end-step}
 use Rattle.chunk.proofs.scan.data_end.Statement.{statement}
 use Rattle.chunk.proofs.scan.data_end.Tie as tie
 
 abbrev Inv-loop : tie.InvT-loop
-Inv-loop dump g pages o age end₀ i₀ end i = (i ≤ pages) × (end ≡ dataEnd (recordAt g dump) (g .layout .«data») (o .0) age i)
+Inv-loop dump g t pages o age end₀ i₀ end i = (i ≤ pages) × (end ≡ dataEnd (seenBy t (recordAt g dump)) (g .layout .«data») (o .0) age i)
 
 abbrev μ-loop : tie.MeasureT-loop
-μ-loop dump g pages o age end₀ i₀ end i = pages - i
+μ-loop dump g t pages o age end₀ i₀ end i = pages - i
 
 loop-holds : tie.Need-loop-holds Inv-loop μ-loop
 loop-holds c = (search needs, rw end-none)
@@ -25,8 +26,8 @@ loop-again c =
     let k = c .before in
     let q = k .before .before .loop in
     let a = k .before .before .before .before .args in
-    let says = recordAt (a .g) (a .dump .now) in
-    let t : isData (says (q .i)) ≡ false = rw (← k .record-at .ensures) (else-data (k .record-at .result) (c .match .keys2)) in
+    let says = seenBy (a .t) (recordAt (a .g) (a .dump .now)) in
+    let t : isData (says (q .i)) ≡ false = rw (← k .seen-at .ensures) (else-data (k .seen-at .result) (c .match .keys2)) in
     (search needs, q .inv .1 ∙ sym (end-skip says (a .g .layout .«data») (a .o .0) (a .age) (q .i) t))
 
 loop-again-2 : tie.Need-loop-again-2 Inv-loop μ-loop
@@ -35,8 +36,8 @@ loop-again-2 c =
     let k = m .before .before in
     let q = k .before .before .loop in
     let a = k .before .before .before .before .args in
-    let says = recordAt (a .g) (a .dump .now) in
-    (search needs, c .end-with .ensures ∙ rw (q .inv .1, ← m .r .given .1, k .record-at .ensures) (sym (end-step says (a .g .layout .«data») (a .o .0) (a .age) (q .i))))
+    let says = seenBy (a .t) (recordAt (a .g) (a .dump .now)) in
+    (search needs, c .end-with .ensures ∙ rw (q .inv .1, ← m .r .given .1, k .seen-at .ensures) (sym (end-step says (a .g .layout .«data») (a .o .0) (a .age) (q .i))))
 
 returns : tie.Need-returns Inv-loop μ-loop
 returns c =

@@ -6,6 +6,7 @@ use native.Mathlib.Omega.{arith}
 use borrow.Author.Needs.{needs}
 use borrow.Author.Tests.{not-true, not-false}
 use Rattle.page.specs.Records.{recordAt}
+use Rattle.chunk.specs.Takes.{seenBy}
 use Rattle.chunk.specs.Records.{ageOf}
 use Rattle.chunk.specs.Newest.{newest}
 use Rattle.chunk.specs.Scans.{wanted, newestIn}
@@ -14,10 +15,10 @@ use Rattle.chunk.proofs.scan.newest_page.Statement.{statement}
 use Rattle.chunk.proofs.scan.newest_page.Tie as tie
 
 abbrev Inv-loop : tie.InvT-loop
-Inv-loop dump g pages o w best₀ i₀ best i = (i ≤ pages) × (best ≡ newestIn (recordAt g dump) (newest (recordAt g dump) (wanted (o .0) w) i))
+Inv-loop dump g t pages o w best₀ i₀ best i = (i ≤ pages) × (best ≡ newestIn (seenBy t (recordAt g dump)) (newest (seenBy t (recordAt g dump)) (wanted (o .0) w) i))
 
 abbrev μ-loop : tie.MeasureT-loop
-μ-loop dump g pages o w best₀ i₀ best i = pages - i
+μ-loop dump g t pages o w best₀ i₀ best i = pages - i
 
 loop-holds : tie.Need-loop-holds Inv-loop μ-loop
 loop-holds c = (search needs, rw where-none)
@@ -27,9 +28,9 @@ loop-again c =
     let k = c .before .before in
     let q = k .before .before .loop in
     let a = k .before .before .before .before .args in
-    let says = recordAt (a .g) (a .dump .now) in
+    let says = seenBy (a .t) (recordAt (a .g) (a .dump .now)) in
     let t : wanted (a .o .0) (a .w) (says (q .i)) ≡ false =
-    rw (← k .record-at .ensures, ← c .before .is-wanted .ensures) (not-true (c .before .is-wanted .result) (c .if1 .taken))
+    rw (← k .seen-at .ensures, ← c .before .is-wanted .ensures) (not-true (c .before .is-wanted .result) (c .if1 .taken))
     in
     (search needs, q .inv .1 ∙ ap (newestIn says) (sym (where-skip says (λ p. wanted (a .o .0) (a .w) (says p)) (q .i) t)))
 
@@ -39,12 +40,12 @@ loop-again-2 c =
     let k = e .before .before in
     let q = k .before .before .loop in
     let a = k .before .before .before .before .args in
-    let says = recordAt (a .g) (a .dump .now) in
+    let says = seenBy (a .t) (recordAt (a .g) (a .dump .now)) in
     let test = wanted (a .o .0) (a .w) in
     let t : test (says (q .i)) ≡ true =
-    rw (← k .record-at .ensures, ← e .before .is-wanted .ensures) (not-false (e .before .is-wanted .result) (e .if1 .left))
+    rw (← k .seen-at .ensures, ← e .before .is-wanted .ensures) (not-false (e .before .is-wanted .result) (e .if1 .left))
     in
-    let g : c .before .order-of .result ≡ ageOf says (q .i) = rw (← k .record-at .ensures, ← c .before .before .sequence-of .ensures) (c .before .order-of .ensures) in (
+    let g : c .before .order-of .result ≡ ageOf says (q .i) = rw (← k .seen-at .ensures, ← c .before .before .sequence-of .ensures) (c .before .order-of .ensures) in (
       search needs,
       c .or-newer .ensures
           ∙ rw (q .inv .1, g) (later-in says (q .i) (newest says test (q .i)))

@@ -6,6 +6,7 @@ use native.Mathlib.Omega.{arith}
 use borrow.Author.Needs.{needs}
 use borrow.Author.Tests.{not-true, not-false}
 use Rattle.page.specs.Records.{recordAt}
+use Rattle.chunk.specs.Takes.{seenBy}
 use Rattle.chunk.specs.Records.{ageOf, isOf}
 use Rattle.chunk.specs.Newest.{since}
 use Rattle.chunk.proofs.Gathering.{since-none, since-skip, since-old, since-one, and-true}
@@ -13,10 +14,10 @@ use Rattle.chunk.proofs.scan.records_since.Statement.{statement}
 use Rattle.chunk.proofs.scan.records_since.Tie as tie
 
 abbrev Inv-loop : tie.InvT-loop
-Inv-loop dump g pages o age count₀ i₀ count i = (i ≤ pages) × (count ≤ i) × (count ≡ since (recordAt g dump) (o .0) age i)
+Inv-loop dump g t pages o age count₀ i₀ count i = (i ≤ pages) × (count ≤ i) × (count ≡ since (seenBy t (recordAt g dump)) (o .0) age i)
 
 abbrev μ-loop : tie.MeasureT-loop
-μ-loop dump g pages o age count₀ i₀ count i = pages - i
+μ-loop dump g t pages o age count₀ i₀ count i = pages - i
 
 loop-holds : tie.Need-loop-holds Inv-loop μ-loop
 loop-holds c = (search needs, search needs, rw since-none)
@@ -26,9 +27,9 @@ loop-again c =
     let k = c .before .before in
     let q = k .before .before .loop in
     let a = k .before .before .before .before .args in
-    let says = recordAt (a .g) (a .dump .now) in
+    let says = seenBy (a .t) (recordAt (a .g) (a .dump .now)) in
     let t : isOf (a .o .0) (says (q .i)) ≡ false =
-    rw (← k .record-at .ensures, ← and-true (isOf (a .o .0) (k .record-at .result)), ← c .before .is-wanted .ensures) (not-true (c .before .is-wanted .result) (c .if1 .taken))
+    rw (← k .seen-at .ensures, ← and-true (isOf (a .o .0) (k .seen-at .result)), ← c .before .is-wanted .ensures) (not-true (c .before .is-wanted .result) (c .if1 .taken))
     in
     (search needs, search needs, q .inv .2 ∙ sym (since-skip says (a .o .0) (a .age) (q .i) t))
 
@@ -38,8 +39,8 @@ loop-again-2 c =
     let k = e .before .before in
     let q = k .before .before .loop in
     let a = k .before .before .before .before .args in
-    let says = recordAt (a .g) (a .dump .now) in
-    let g : ageOf says (q .i) < a .age = rw (← k .record-at .ensures, ← c .before .before .sequence-of .ensures, ← c .before .order-of .ensures) (c .if2 .taken) in
+    let says = seenBy (a .t) (recordAt (a .g) (a .dump .now)) in
+    let g : ageOf says (q .i) < a .age = rw (← k .seen-at .ensures, ← c .before .before .sequence-of .ensures, ← c .before .order-of .ensures) (c .if2 .taken) in
     (search needs, search needs, q .inv .2 ∙ sym (since-old says (a .o .0) (a .age) (q .i) g))
 
 loop-again-3 : tie.Need-loop-again-3 Inv-loop μ-loop
@@ -48,11 +49,11 @@ loop-again-3 c =
     let k = e .before .before in
     let q = k .before .before .loop in
     let a = k .before .before .before .before .args in
-    let says = recordAt (a .g) (a .dump .now) in
+    let says = seenBy (a .t) (recordAt (a .g) (a .dump .now)) in
     let t : isOf (a .o .0) (says (q .i)) ≡ true =
-    rw (← k .record-at .ensures, ← and-true (isOf (a .o .0) (k .record-at .result)), ← e .before .is-wanted .ensures) (not-false (e .before .is-wanted .result) (e .if1 .left))
+    rw (← k .seen-at .ensures, ← and-true (isOf (a .o .0) (k .seen-at .result)), ← e .before .is-wanted .ensures) (not-false (e .before .is-wanted .result) (e .if1 .left))
     in
-    let g : a .age ≤ ageOf says (q .i) = rw (← k .record-at .ensures, ← c .before .before .sequence-of .ensures, ← c .before .order-of .ensures) (c .if2 .left) in
+    let g : a .age ≤ ageOf says (q .i) = rw (← k .seen-at .ensures, ← c .before .before .sequence-of .ensures, ← c .before .order-of .ensures) (c .if2 .left) in
     (search needs, search needs, rw (q .inv .2) (sym (since-one says (a .o .0) (a .age) (q .i) t g)))
 
 returns : tie.Need-returns Inv-loop μ-loop
