@@ -14,6 +14,8 @@ use Rattle.page.specs.declared.geometry.Opened.{Opened}
 use Rattle.page.specs.declared.geometry.Opened.the-variants as opened
 use Rattle.page.specs.declared.refusal.Refusal.the-variants.{ShortIndex, BadPage}
 use Rattle.chunk.specs.Records.{ageOf}
+use Rattle.chunk.specs.declared.takes.Takes.{Takes}
+use Rattle.chunk.specs.declared.takes.Takes.the-variants.{Every, Older}
 use Rattle.index.specs.Cells.{cellsFor}
 use Rattle.index.specs.Chains.{objects}
 use Rattle.index.specs.Additions.{addTo}
@@ -22,8 +24,6 @@ use Rattle.index.specs.declared.additions.Added.{Added}
 use Rattle.index.specs.declared.additions.Added.the-variants as added
 use Rattle.index.specs.declared.runs.Run.{Run}
 use Rattle.index.specs.declared.runs.Run.the-variants.{Done, Stopped}
-use Rattle.index.specs.declared.runs.Takes.{Takes}
-use Rattle.index.specs.declared.runs.Takes.the-variants.{Every, Older}
 
 -- the pages that are taken, where the pages say this: all, or the records below an age
 abbrev pub takenBy : Takes → (says : ℕ → Record) (page : ℕ) → Bool

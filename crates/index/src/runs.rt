@@ -4,6 +4,7 @@ ghost use mathlib.Core.Path.{_≡_};
 ghost use Prim.Native.Nat.{_-_, _≤_, _^_, min};
 ghost use Rattle.page.specs.Records.{recordAt};
 ghost use Rattle.chunk.specs.Records.{ageOf};
+ghost use Rattle.chunk.specs.declared.takes.Takes.the-variants.{Older};
 ghost use Rattle.index.specs.Chains.{objects};
 ghost use Rattle.index.specs.Runs.{ran, takenBy, runBy, runOf, olderOf};
 use crate::additions::Added;
@@ -12,17 +13,12 @@ use crate::cells::cells_for;
 use chunk::record::object_of;
 use chunk::record::order_of;
 use chunk::record::sequence_of;
+use chunk::takes::Takes;
 use page::geometry::Geometry;
 use page::geometry::Opened;
 use page::number::PageNumber;
 use page::record::record_at;
 use page::refusal::Refusal;
-
-// Which pages a run takes: every one, or the records below an age.
-pub enum Takes {
-    Every,
-    Older(u64),
-}
 
 // The place of page p in the order of records.
 fn age_at(dump: &[u8], g: Geometry, p: PageNumber) -> u64
@@ -33,7 +29,7 @@ fn age_at(dump: &[u8], g: Geometry, p: PageNumber) -> u64
 
 // Whether page p is a record below an age.
 fn is_older(dump: &[u8], g: Geometry, p: PageNumber, bound: u64) -> bool
-    ensures { λ r. ⌜ r ≡ takenBy (Takes.Older bound) (recordAt g (now (dump .entry))) (p .0) ⌝ }
+    ensures { λ r. ⌜ r ≡ takenBy (Older bound) (recordAt g (now (dump .entry))) (p .0) ⌝ }
 {
     let r = record_at(dump, g, p);
     if object_of(r) == 0 {
@@ -42,15 +38,13 @@ fn is_older(dump: &[u8], g: Geometry, p: PageNumber, bound: u64) -> bool
     order_of(sequence_of(r), p) < bound
 }
 
-impl Takes {
-    // Whether page p is taken.
-    fn has(self, dump: &[u8], g: Geometry, p: PageNumber) -> bool
-        ensures { λ r. ⌜ r ≡ takenBy self (recordAt g (now (dump .entry))) (p .0) ⌝ }
-    {
-        match self {
-            Takes::Every => true,
-            Takes::Older(bound) => is_older(dump, g, p, bound),
-        }
+// Whether page p is taken.
+fn is_taken(dump: &[u8], g: Geometry, takes: Takes, p: PageNumber) -> bool
+    ensures { λ r. ⌜ r ≡ takenBy takes (recordAt g (now (dump .entry))) (p .0) ⌝ }
+{
+    match takes {
+        Takes::Every => true,
+        Takes::Older(bound) => is_older(dump, g, p, bound),
     }
 }
 
@@ -76,7 +70,7 @@ fn run_pages(
     let end = to.0;
     let mut p = from.0;
     while p < end {
-        if !takes.has(dump, g, PageNumber(p)) {
+        if !is_taken(dump, g, takes, PageNumber(p)) {
             p += 1;
             continue;
         }

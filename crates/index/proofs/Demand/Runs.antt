@@ -20,6 +20,8 @@ use Rattle.page.specs.declared.refusal.Refusal.{Refusal}
 use Rattle.page.specs.declared.refusal.Refusal.the-variants.{ShortIndex, BadPage}
 use Rattle.page.proofs.Searching.{by-test}
 use Rattle.chunk.specs.Records.{ageOf}
+use Rattle.chunk.specs.declared.takes.Takes.{Takes}
+use Rattle.chunk.specs.declared.takes.Takes.the-variants.{Older}
 use Rattle.index.specs.Cells.{cellsFor}
 use Rattle.index.specs.Chains.{objects}
 use Rattle.index.specs.Additions.{Outcome, outcome, addTo, addIn, addOf}
@@ -28,8 +30,6 @@ use Rattle.index.specs.Runs.{Ran, ran, takenBy, onward, runBy, runIn, ta
 use Rattle.index.specs.declared.additions.Added.{Added}
 use Rattle.index.specs.declared.additions.Added.the-variants as added
 use Rattle.index.specs.declared.runs.Run.the-variants.{Done, Stopped}
-use Rattle.index.specs.declared.runs.Takes.{Takes}
-use Rattle.index.specs.declared.runs.Takes.the-variants.{Older}
 use Rattle.index.proofs.Held.Cases.{add-short}
 use Rattle.index.proofs.Demand.Requests.{add-length}
 

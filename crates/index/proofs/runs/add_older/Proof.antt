@@ -9,9 +9,9 @@ use Rattle.page.specs.Records.{recordAt}
 use Rattle.page.specs.declared.geometry.Opened.the-variants as opened
 use Rattle.page.proofs.Lengths.{opened-most}
 use Rattle.chunk.specs.Records.{ageOf}
+use Rattle.chunk.specs.declared.takes.Takes.the-variants.{Older}
 use Rattle.index.specs.Chains.{objects}
 use Rattle.index.specs.Runs.{takenBy, runBy}
-use Rattle.index.specs.declared.runs.Takes.the-variants.{Older}
 use Rattle.index.proofs.Demand.Runs.{older-refused, older-short, older-far, older-room}
 use Rattle.index.proofs.runs.add_older.Statement.{statement}
 use Rattle.index.proofs.runs.add_older.Tie as tie

@@ -28,7 +28,7 @@ loop-again c =
     let h = c .before in
     let i = h .before in
     let q = i .before .loop in
-    (q .inv .0, q .inv .1 ∙ run-skip _ _ _ _ _ _ _ (i .loop-test .taken) (sym (h .has .ensures) ∙ not-true (h .has .result) (c .if1 .taken)))
+    (q .inv .0, q .inv .1 ∙ run-skip _ _ _ _ _ _ _ (i .loop-test .taken) (sym (h .is-taken .ensures) ∙ not-true (h .is-taken .result) (c .if1 .taken)))
 
 -- a page that was added
 module _ (d : tie.After-add-page Inv-loop μ-loop) where
@@ -38,15 +38,15 @@ module _ (d : tie.After-add-page Inv-loop μ-loop) where
   abbrev i : tie.In-loop Inv-loop μ-loop
   i = e .before .before
 
-  is-taken : let a = i .before .before .before .before .args in takenBy (a .takes) (recordAt (a .g) (a .dump .now)) (i .before .loop .p) ≡ true
-  is-taken = sym (e .before .has .ensures) ∙ not-false (e .before .has .result) (e .if1 .left)
+  taken-here : let a = i .before .before .before .before .args in takenBy (a .takes) (recordAt (a .g) (a .dump .now)) (i .before .loop .p) ≡ true
+  taken-here = sym (e .before .is-taken .ensures) ∙ not-false (e .before .is-taken .result) (e .if1 .left)
 
 returns : tie.Need-returns Inv-loop μ-loop
 returns c =
     let g = c .before in
     let d = g .before .before .before .before in
     let q = i d .before .loop in
-    sym (q .inv .1 ∙ run-stop _ _ _ _ _ _ _ (i d .loop-test .taken) (is-taken d) _ _ (rw (g .added .given .1) at (d .add-page .ensures)))
+    sym (q .inv .1 ∙ run-stop _ _ _ _ _ _ _ (i d .loop-test .taken) (taken-here d) _ _ (rw (g .added .given .1) at (d .add-page .ensures)))
 
 same-length : tie.Need-same-length Inv-loop μ-loop
 same-length c =
@@ -58,7 +58,7 @@ loop-again-2 c =
     let d = c .before .before .before .before in
     let q = i d .before .loop in (
       d .add-page .kept .1 .1 .1 .0 ∙ q .inv .0,
-      q .inv .1 ∙ run-more _ _ _ _ _ _ _ (i d .loop-test .taken) (is-taken d) _ (rw (c .enum-told .given .1) at (d .add-page .ensures)),
+      q .inv .1 ∙ run-more _ _ _ _ _ _ _ (i d .loop-test .taken) (taken-here d) _ (rw (c .enum-told .given .1) at (d .add-page .ensures)),
     )
 
 returns-2 : tie.Need-returns-2 Inv-loop μ-loop
