@@ -5,16 +5,16 @@ use crate::ffi::{self, Geometry, SpanAnswer, SpansAnswer, WhyAnswer, AS_IT_STAND
 use crate::fields::Field;
 use crate::refusal::SHORT_BUFFER;
 
-/// A dump with its layout and K, as it stands or as it stood before the record on
-/// a page was written.
+/// The reasons of a dump, by its layout and K: as it stands, or as it stood before
+/// the record on a page was written.
 #[derive(Clone, Copy)]
-pub struct Past<'d> {
+pub struct Reasons<'d> {
     pub dump: &'d [u8],
     pub on: Geometry,
     pub before: Option<u32>,
 }
 
-impl Past<'_> {
+impl Reasons<'_> {
     /// Why the byte at a position is what it is.
     pub fn why(self, object: u32, position: u64) -> WhyAnswer {
         let ask = |rows: &mut [u64]| {

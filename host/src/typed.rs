@@ -76,6 +76,11 @@ pub fn exact(text: &str) -> Option<u64> {
     u64::try_from(wide(text)?).ok()
 }
 
+/// A position in a file, or what it has to be.
+pub fn position(text: &str) -> Result<u64, &'static str> {
+    exact(text).ok_or("a number up to 18446744073709551615, decimal or with 0x")
+}
+
 /// A number of 128 bits, or the largest of these for one beyond them.
 fn wide(text: &str) -> Option<u128> {
     let (digits, radix) = match text.strip_prefix("0x") {

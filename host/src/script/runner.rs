@@ -6,7 +6,7 @@ use super::request::{Lent, Over, Request};
 use crate::commands::header::Header;
 use crate::failure::Failure;
 use crate::ffi::{self, Answer as _, Geometry};
-use crate::reasons::Past;
+use crate::reasons::Reasons;
 
 /// What a buffer holds before a call, and the index words before the first.
 const BYTE: u8 = 0xA5;
@@ -121,12 +121,12 @@ impl<'d> Runner<'d> {
                 object,
                 position,
             } => {
-                let why = self.past(on, before).why(object, position);
+                let why = self.reasons(on, before).why(object, position);
                 answer.bytes.extend(why.given().map(|why| why.value as u8));
                 line::why(why)
             }
             Request::Spans { on, before, object } => {
-                let (spans, rows) = self.past(on, before).spans(object);
+                let (spans, rows) = self.reasons(on, before).spans(object);
                 let runs: Vec<_> = rows.iter().map(|&row| ffi::span(on, row)).collect();
                 answer.words = runs.iter().map(|run| run.byte).collect();
                 line::spans(spans, &runs)
@@ -274,11 +274,11 @@ impl<'d> Runner<'d> {
         line::table(answer, words)
     }
 
-    /// The dump as it stood before the record on a page was written, if one is
+    /// The reasons of the dump as it stood before the record on a page, if one is
     /// named.
-    fn past(&self, on: Geometry, before: Option<u32>) -> Past<'d> {
+    fn reasons(&self, on: Geometry, before: Option<u32>) -> Reasons<'d> {
         let dump = self.dump;
-        Past { dump, on, before }
+        Reasons { dump, on, before }
     }
 
     /// A word of the index memory.
