@@ -1,6 +1,8 @@
 //! Reasons as sentences, for whoever certifies a byte. What they say of a page is
 //! what the library says of it.
 
+use std::fmt;
+
 use crate::ffi::{self, KindAnswer, WhyAnswer};
 use crate::reasons::Reasons;
 use crate::refusal::BAD_CHUNK;
@@ -57,13 +59,15 @@ impl Reasons<'_> {
         if page.says.kind == KindAnswer::HEADER {
             let size = page.says.size;
             return format!(
-                "{page} is the newest header and sets the size to {size}, and no newer page reaches further"
+                "{page} is the newest header and sets the size to {size}, \
+                 and no newer page reaches further"
             );
         }
         let end = u64::from(chunk.saturating_sub(1)) * self.data() + u64::from(count);
         let bytes = if count == 1 { "byte" } else { "bytes" };
         format!(
-            "{page} is newer than the newest header and holds {count} {bytes} of chunk {chunk}, which sets the size to {end}"
+            "{page} is newer than the newest header and holds {count} {bytes} of chunk {chunk}, \
+             which sets the size to {end}"
         )
     }
 }
@@ -74,8 +78,8 @@ struct Page {
     says: KindAnswer,
 }
 
-impl std::fmt::Display for Page {
-    fn fmt(&self, f: &mut std::fmt::Formatter<'_>) -> std::fmt::Result {
+impl fmt::Display for Page {
+    fn fmt(&self, f: &mut fmt::Formatter<'_>) -> fmt::Result {
         write!(f, "page {} (sequence {})", self.number, self.says.sequence)
     }
 }
@@ -83,7 +87,9 @@ impl std::fmt::Display for Page {
 fn held(page: &Page, n: u64, byte: u32) -> String {
     let count = page.says.count;
     format!(
-        "it is data byte {byte} of {page}, the newest copy of chunk {n}, whose byte count of {count} reaches it, and no newer header cuts the file at or below it"
+        "it is data byte {byte} of {page}, the newest copy of chunk {n}, \
+         whose byte count of {count} reaches it, \
+         and no newer header cuts the file at or below it"
     )
 }
 
