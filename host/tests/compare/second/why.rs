@@ -209,14 +209,14 @@ impl Object {
             .find(|&&turn| !self.alike(here, reason(turn)));
         let until = later.copied().unwrap_or(end);
         let data = self.layout.data as u64;
-        let (begin, next) = (position - position % data, position / data * data + data);
+        let next = position - position % data + data;
         match (self.wrong, here) {
             (Wrong::WhyUntilOneTooFar, _) => until + 1,
             (Wrong::WhyHoleByChunk, Reason::NoCopy) => until.min(next),
             (Wrong::WhyCutByChunk, Reason::Cut(_)) => until.min(next),
             (Wrong::WhyHeldOverCut, Reason::Held(page)) => {
                 let held = self.records.iter().position(|record| record.page == page);
-                held.and_then(|place| self.end(place)).unwrap_or(begin)
+                held.and_then(|place| self.end(place)).unwrap_or(until)
             }
             _ => until,
         }
