@@ -173,6 +173,41 @@ typedef struct {
     uint32_t valid;
 } lohenarr_copy_answer;
 
+/* Why a byte of a file is what it is. The reason is 1 for a byte that a page
+ * holds, 2 where no copy exists, 3 where a header cut it, 4 where the copy's byte
+ * count ends before it, and 5 past the end. page is the one that holds it, the
+ * header, the copy, or the page that sets the size, and 0 where no copy exists;
+ * byte is which of the page's data bytes is held, and else 0; value is the byte
+ * that a read shows, 0 past the end too; until is the first later position where
+ * reason or page is another. Beside ShortBuffer, need is how many words it needs. */
+typedef struct {
+    uint32_t refusal;
+    uint32_t need;
+    uint32_t reason;
+    uint32_t page;
+    uint32_t byte;
+    uint32_t value;
+    uint64_t until;
+} lohenarr_why_answer;
+
+/* The size of a file and how many runs of one reason and page it has. Beside
+ * ShortBuffer, need is how many words it needs. */
+typedef struct {
+    uint32_t refusal;
+    uint32_t need;
+    uint64_t size;
+    uint32_t count;
+} lohenarr_spans_answer;
+
+/* A run of a file: where it begins, and its reason, page and first byte as above.
+ * It ends where the next begins, and the last one with the file. */
+typedef struct {
+    uint64_t from;
+    uint32_t reason;
+    uint32_t page;
+    uint32_t byte;
+} lohenarr_span_answer;
+
 /* The most bytes that a dump has. */
 size_t lohenarr_most_bytes(void);
 
@@ -291,6 +326,21 @@ lohenarr_copies_answer lohenarr_copies(const uint8_t *dump, size_t len, lohenarr
 
 /* The copy that a row of copies tells. */
 lohenarr_copy_answer lohenarr_copy(uint64_t row);
+
+/* Why the byte at a position of an object is what it is, from the dump alone: as it
+ * stood before the record on page before was written, or with 0xFFFFFFFF as it
+ * stands. Records that are not older than that one count as blank. The rows are
+ * working memory: those that are needed are cleared, and words past them stay. */
+lohenarr_why_answer lohenarr_dump_why(const uint8_t *dump, size_t len, lohenarr_geometry geometry, uint32_t before, uint32_t object, uint64_t position, uint64_t *rows, size_t rows_len);
+
+/* The runs of an object from 0 to its size, ascending: a row for each. The rows
+ * come first; the rest of the words that are needed is cleared, and words past
+ * them stay. It takes words for the object's records, whatever size the file
+ * claims. */
+lohenarr_spans_answer lohenarr_dump_spans(const uint8_t *dump, size_t len, lohenarr_geometry geometry, uint32_t before, uint32_t object, uint64_t *rows, size_t rows_len);
+
+/* The run that a row tells. */
+lohenarr_span_answer lohenarr_span(lohenarr_geometry geometry, uint64_t row);
 
 #ifdef __cplusplus
 }

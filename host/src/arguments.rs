@@ -6,7 +6,7 @@ use clap::{Args, CommandFactory, Parser, Subcommand};
 use clap_complete::Shell;
 
 use crate::script::request::FORMS;
-use crate::typed::Typed;
+use crate::typed::{self, Typed};
 use crate::usage;
 
 /// Reads raw NAND dumps under YAFFS2.
@@ -93,6 +93,16 @@ pub enum Command {
         /// The object's id; every live file if left out
         #[arg(value_parser = Typed::number, allow_negative_numbers = true)]
         object: Option<Typed>,
+    },
+    /// Why a byte of a file is what it is, or by runs all of its bytes
+    Why {
+        #[command(flatten)]
+        on: Past,
+        #[command(flatten)]
+        of: Object,
+        /// The byte's position in the file, from 0 on; all of them if left out
+        #[arg(value_parser = typed::position, allow_negative_numbers = true)]
+        position: Option<u64>,
     },
     /// An answer for each request of a script
     #[command(after_help = FORMS)]
@@ -193,7 +203,8 @@ impl Arguments {
             | Command::Size { on, .. }
             | Command::Chunk { on, .. }
             | Command::Read { on, .. }
-            | Command::Extract { on, .. } => on.on.form.json,
+            | Command::Extract { on, .. }
+            | Command::Why { on, .. } => on.on.form.json,
             Command::Script { .. } | Command::Completions { .. } => false,
         }
     }

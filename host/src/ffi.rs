@@ -34,7 +34,7 @@ macro_rules! answers {
 
 answers! {
     LayoutAnswer PagesAnswer CountsAnswer KindAnswer HeaderAnswer PartAnswer SizeAnswer ChunkAnswer
-    ListAnswer TallyAnswer TableAnswer CopiesAnswer RunAnswer
+    ListAnswer TallyAnswer TableAnswer CopiesAnswer RunAnswer WhyAnswer SpansAnswer
 }
 
 /// How a dump is cut into pages and blocks: a layout by its number in the table,
@@ -255,6 +255,55 @@ pub struct CopyAnswer {
     pub valid: u32,
 }
 
+/// Why a byte of a file is what it is: the reason, the page that it names, of a byte
+/// that is held which data byte of that page it is, the byte that is shown, and
+/// the first later position with another reason or page. Beside ShortBuffer `need`
+/// is how many words it needs.
+#[repr(C)]
+#[derive(Clone, Copy, Debug, PartialEq, Eq)]
+pub struct WhyAnswer {
+    pub refusal: u32,
+    pub need: u32,
+    pub reason: u32,
+    pub page: u32,
+    pub byte: u32,
+    pub value: u32,
+    pub until: u64,
+}
+
+impl WhyAnswer {
+    pub const HELD: u32 = 1;
+    pub const NO_COPY: u32 = 2;
+    pub const CUT: u32 = 3;
+    pub const COUNT: u32 = 4;
+    pub const PAST_END: u32 = 5;
+}
+
+/// The size of a file and how many runs of bytes with one reason it has. Beside
+/// ShortBuffer `need` is how many words it needs.
+#[repr(C)]
+#[derive(Clone, Copy, Debug, PartialEq, Eq)]
+pub struct SpansAnswer {
+    pub refusal: u32,
+    pub need: u32,
+    pub size: u64,
+    pub count: u32,
+}
+
+/// A run of bytes: where it begins, its reason, the page that this names, and of
+/// bytes that are held with which data byte of that page they begin.
+#[repr(C)]
+#[derive(Clone, Copy, Debug, PartialEq, Eq)]
+pub struct SpanAnswer {
+    pub from: u64,
+    pub reason: u32,
+    pub page: u32,
+    pub byte: u32,
+}
+
+/// Stands for the page before which a dump is read, where it is read as it stands.
+pub const AS_IT_STANDS: u32 = u32::MAX;
+
 #[rustfmt::skip]
 extern "C" {
     fn lohenarr_most_bytes() -> usize;
@@ -292,6 +341,9 @@ extern "C" {
     fn lohenarr_row(dump: *const u8, len: usize, geometry: Geometry, place: u32, valid: u32) -> PlaceAnswer;
     fn lohenarr_copies(dump: *const u8, len: usize, geometry: Geometry, cells: *const u32, cells_len: usize, object: u32, rows: *mut u64, rows_len: usize) -> CopiesAnswer;
     fn lohenarr_copy(row: u64) -> CopyAnswer;
+    fn lohenarr_dump_why(dump: *const u8, len: usize, geometry: Geometry, before: u32, object: u32, position: u64, rows: *mut u64, rows_len: usize) -> WhyAnswer;
+    fn lohenarr_dump_spans(dump: *const u8, len: usize, geometry: Geometry, before: u32, object: u32, rows: *mut u64, rows_len: usize) -> SpansAnswer;
+    fn lohenarr_span(geometry: Geometry, row: u64) -> SpanAnswer;
 }
 
 /// The most bytes that a dump has.
@@ -511,4 +563,26 @@ pub fn copies(dump: &[u8], on: Geometry, cells: &[u32], object: u32, rows: &mut 
 /// The copy that a row of copies tells.
 pub fn copy(row: u64) -> CopyAnswer {
     unsafe { lohenarr_copy(row) }
+}
+
+/// Why the byte at a position of a file is what it is, from the dump alone, as it
+/// stood before the record on page `before` was written. The rows are working
+/// memory: those that are needed are cleared.
+#[rustfmt::skip]
+pub fn dump_why(dump: &[u8], on: Geometry, before: u32, object: u32, position: u64, rows: &mut [u64]) -> WhyAnswer {
+    let (to, room) = (rows.as_mut_ptr(), rows.len());
+    unsafe { lohenarr_dump_why(dump.as_ptr(), dump.len(), on, before, object, position, to, room) }
+}
+
+/// The runs of bytes of a file that have one reason, ascending, a row for each, from
+/// the dump alone, as it stood before the record on page `before` was written.
+#[rustfmt::skip]
+pub fn dump_spans(dump: &[u8], on: Geometry, before: u32, object: u32, rows: &mut [u64]) -> SpansAnswer {
+    let (to, room) = (rows.as_mut_ptr(), rows.len());
+    unsafe { lohenarr_dump_spans(dump.as_ptr(), dump.len(), on, before, object, to, room) }
+}
+
+/// The run that a row tells.
+pub fn span(on: Geometry, row: u64) -> SpanAnswer {
+    unsafe { lohenarr_span(on, row) }
 }

@@ -12,6 +12,7 @@
 //! - `failure`: why a command ends without its answer.
 //! - `objects`: the objects of a dump and their chunks, as the commands ask for them.
 //! - `table`: the chunks of a file and its bytes.
+//! - `reasons`, `because`: why bytes of a file are what they are.
 //! - `fields`: answers as lines or as JSON.
 //! - `commands`: a file for each command.
 //! - `script`: the requests of a script and their answers.
@@ -22,6 +23,7 @@
 //! `unsafe` is in `ffi`, `dump`, `second`, `signals` and `standard` alone.
 
 pub mod arguments;
+mod because;
 pub mod block;
 pub mod commands;
 pub mod dump;
@@ -32,6 +34,7 @@ mod looks;
 mod new_file;
 pub mod objects;
 mod progress;
+pub mod reasons;
 pub mod refusal;
 pub mod script;
 mod second;

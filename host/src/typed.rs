@@ -68,6 +68,21 @@ pub fn number(text: &str) -> Option<u32> {
 
 /// A number of 64 bits, or the largest of these for one beyond them.
 pub fn long(text: &str) -> Option<u64> {
+    wide(text).map(|n| u64::try_from(n).unwrap_or(u64::MAX))
+}
+
+/// A number of 64 bits and no more.
+pub fn exact(text: &str) -> Option<u64> {
+    u64::try_from(wide(text)?).ok()
+}
+
+/// A position in a file, or what it has to be.
+pub fn position(text: &str) -> Result<u64, &'static str> {
+    exact(text).ok_or("a number up to 18446744073709551615, decimal or with 0x")
+}
+
+/// A number of 128 bits, or the largest of these for one beyond them.
+fn wide(text: &str) -> Option<u128> {
     let (digits, radix) = match text.strip_prefix("0x") {
         Some(digits) => (digits, 16),
         None => (text, 10),
@@ -75,11 +90,8 @@ pub fn long(text: &str) -> Option<u64> {
     if digits.is_empty() {
         return None;
     }
-    digits.chars().try_fold(0u64, |n, c| {
+    digits.chars().try_fold(0u128, |n, c| {
         let digit = c.to_digit(radix)?;
-        Some(
-            n.saturating_mul(u64::from(radix))
-                .saturating_add(u64::from(digit)),
-        )
+        Some(n.saturating_mul(radix.into()).saturating_add(digit.into()))
     })
 }

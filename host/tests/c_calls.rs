@@ -56,6 +56,11 @@ fn places() -> String {
         ("copies_answer.damaged", offset_of!(CopiesAnswer, damaged)),
         ("copy_answer.valid", offset_of!(CopyAnswer, valid)),
         ("run_answer.page", offset_of!(RunAnswer, page)),
+        ("why_answer.value", offset_of!(WhyAnswer, value)),
+        ("why_answer.until", offset_of!(WhyAnswer, until)),
+        ("spans_answer.size", offset_of!(SpansAnswer, size)),
+        ("spans_answer.count", offset_of!(SpansAnswer, count)),
+        ("span_answer.byte", offset_of!(SpanAnswer, byte)),
     ];
     let lines = fields.map(|(field, offset)| format!("lohenarr_{field} {offset}\n"));
     let sizes = [
@@ -74,6 +79,9 @@ fn places() -> String {
         size_of::<CopiesAnswer>(),
         size_of::<CopyAnswer>(),
         size_of::<RunAnswer>(),
+        size_of::<WhyAnswer>(),
+        size_of::<SpansAnswer>(),
+        size_of::<SpanAnswer>(),
     ];
     let sizes = sizes.map(|size| format!(" {size}"));
     format!("{}sizes{}\n", lines.concat(), sizes.concat())
@@ -109,6 +117,13 @@ records 11: need 6
 records 0: 6, 6 to 0
 older 14: 0
 older 0, size 612
+why 0: reason 4 page 5 byte 0 value 0 until 512
+why 0: reason 3 page 4 byte 0 value 0 until 1024
+why 0: reason 1 page 6 byte 9 value 255 until 1034
+why 0: reason 5 page 5 byte 0 value 0 until 18446744073709551615
+why 14: reason 0 page 0 byte 0 value 0 until 0
+spans 11: enough 1, 7
+spans 0: size 1034: 0/1/5/0 300/4/5/0 512/3/4/0 1024/1/6/0
 ";
     let shelf = File::open(Path::new(HOST).join("tests/data/W")).unwrap();
     let output = Command::new(compiled()).stdin(shelf).output().unwrap();

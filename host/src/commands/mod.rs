@@ -13,6 +13,7 @@ mod read;
 mod report;
 mod script;
 mod size;
+mod why;
 
 use std::io::Write;
 
@@ -35,6 +36,9 @@ pub fn run(arguments: &Arguments, out: &mut dyn Write) -> Result<(), Failure> {
         Command::Read { on, of, out: name } => read::read(on, &of.object, name.as_deref(), out),
         Command::Extract { on, object } => {
             extract::extract(&Opened::past(on)?, object.as_ref(), out)
+        }
+        Command::Why { on, of, position } => {
+            why::why(&Opened::past(on)?, &of.object, *position, out)
         }
         Command::Script { source, script } => script::script(source, script, out),
         Command::Completions { shell } => completions::completions(*shell, out),

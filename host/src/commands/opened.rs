@@ -9,6 +9,7 @@ use crate::failure::Failure;
 use crate::ffi::{self, Answer as _, Geometry, KindAnswer, LayoutAnswer};
 use crate::objects::{by_sequence, Objects, Started};
 use crate::progress::Progress;
+use crate::reasons::Reasons;
 use crate::refusal::{kind_name, meaning, Asked};
 use crate::standard::say;
 use crate::typed::Typed;
@@ -111,6 +112,15 @@ impl Opened {
         let before = self.before.as_ref().map(|page| page.number);
         let objects = started.and_then(|s| Objects::telling(&self.dump, on, s, before, told));
         Ok((self.done(objects, asked)?, asked))
+    }
+
+    /// The reasons of this dump, by the dump alone.
+    pub fn reasons(&self) -> Reasons<'_> {
+        Reasons {
+            dump: &self.dump,
+            on: self.geometry(),
+            before: self.before.as_ref().map(|page| page.number),
+        }
     }
 
     /// What is asked of this dump.

@@ -4,9 +4,10 @@ use crc32fast::hash as crc32;
 
 use crate::ffi::{
     self, ChunkAnswer, CopiesAnswer, CopyAnswer, CountsAnswer, KindAnswer, ListAnswer, PlaceAnswer,
-    RunAnswer, SizeAnswer, TableAnswer, TallyAnswer,
+    RunAnswer, SizeAnswer, SpanAnswer, SpansAnswer, TableAnswer, TallyAnswer, WhyAnswer,
 };
 use crate::fields;
+use crate::reasons::Reason;
 use crate::refusal::{kind_name, SHORT_BUFFER};
 
 /// A refusal with its visits; with the length needed if a buffer was too short.
@@ -142,4 +143,28 @@ pub fn copies(answer: CopiesAnswer, rows: &[u64]) -> String {
 pub fn copy(copy: CopyAnswer) -> String {
     let CopyAnswer { chunk, page, valid } = copy;
     format!("chunk={chunk} page={page} valid={valid}")
+}
+
+/// Why a byte is what it is, or the number of the refusal alone.
+pub fn why(answer: WhyAnswer) -> String {
+    if answer.refusal != 0 {
+        return format!("refusal={}", answer.refusal);
+    }
+    let mut fields = Reason::from(answer).fields();
+    fields.push(("until", answer.until.into()));
+    fields::line(&fields)
+}
+
+/// The runs of a file: where each begins, its reason, and its page if it has one.
+pub fn spans(answer: SpansAnswer, runs: &[SpanAnswer]) -> String {
+    if answer.refusal != 0 {
+        return format!("refusal={}", answer.refusal);
+    }
+    let runs = runs.iter().map(|&run| {
+        let reason = Reason::from(run);
+        let page = reason.page().map(|page| format!(":{page}"));
+        format!("{}:{}{}", run.from, reason.name(), page.unwrap_or_default())
+    });
+    let runs: Vec<String> = runs.collect();
+    format!("size={} spans={}", answer.size, runs.join(","))
 }

@@ -1,7 +1,7 @@
 //! The requests of a script, and reading them.
 
-use crate::ffi::Geometry;
-use crate::typed::{layout, long, number};
+use crate::ffi::{Geometry, AS_IT_STANDS};
+use crate::typed::{exact, layout, long, number};
 
 /// How each request is typed, for the help.
 pub const FORMS: &str = "\
@@ -10,7 +10,7 @@ The requests of a script, one a line; # starts a comment:
   find K            pages L K         counts L K        kind L K PAGE
   header L K PAGE   dsize L K OBJ     dchunk L K OBJ N  dpart L K OBJ N
   dlist L K WORDS   dobjects L K      copy ROW          dread L K OBJ N BUFLEN
-  row L PLACE VALID
+  row L PLACE VALID                   dspans L K OBJ    dwhy L K OBJ POS
 
   start L K WORDS   add PAGE          size OBJ          chunk OBJ N
   part OBJ N        list WORDS        objects           read OBJ N BUFLEN
@@ -20,7 +20,8 @@ The requests of a script, one a line; # starts a comment:
 L is P/S/T or a layout's number. The first ask the dump alone, the others an
 index: under the layout and K of the last accepted start, with as many words.
 k=, words= and layout= behind the arguments of such a call give it others, and
-seed= behind those of a start gives it a seed, which is 0 if left out.
+seed= behind those of a start gives it a seed, which is 0 if left out. before=PAGE
+behind those of dwhy and dspans asks the dump as it stood before that record.
 ";
 
 /// What a call on the index is given by options of its own: layout, K and how
@@ -62,6 +63,8 @@ pub enum Request {
     Row { layout: u32, place: u32, valid: u32 },
     Copies { lent: Lent, object: u32, length: usize },
     Copy { row: u64 },
+    Why { on: Geometry, before: Option<u32>, object: u32, position: u64 },
+    Spans { on: Geometry, before: Option<u32>, object: u32 },
     Fill { word: u32 },
     Poke { at: usize, word: u32 },
     Peek { at: usize },
@@ -180,6 +183,17 @@ impl Words<'_> {
             "copy" => Request::Copy {
                 row: self.next("ROW", long)?,
             },
+            "dwhy" => Request::Why {
+                before: self.before()?,
+                on: self.on()?,
+                object: self.number("OBJ")?,
+                position: self.next("POS", exact)?,
+            },
+            "dspans" => Request::Spans {
+                before: self.before()?,
+                on: self.on()?,
+                object: self.number("OBJ")?,
+            },
             "row" => Request::Row {
                 layout: self.next("L", layout)?,
                 place: self.number("PLACE")?,
@@ -249,12 +263,27 @@ impl Words<'_> {
 
     /// The seed, which may stand behind the arguments of a start.
     fn seed(&mut self) -> Result<u32, String> {
-        let Some(value) = self.0.last().and_then(|word| word.strip_prefix("seed=")) else {
-            return Ok(0);
+        Ok(self.option("seed", word)?.unwrap_or(0))
+    }
+
+    /// The page before which the dump is read, which may stand behind the arguments.
+    fn before(&mut self) -> Result<Option<u32>, String> {
+        self.option("before", before)
+    }
+
+    /// The value of one option, which may stand behind the arguments.
+    fn option<T>(
+        &mut self,
+        name: &str,
+        read: impl Fn(&str) -> Option<T>,
+    ) -> Result<Option<T>, String> {
+        let last = self.0.last().and_then(|word| word.split_once('='));
+        let Some((_, value)) = last.filter(|(option, _)| *option == name) else {
+            return Ok(None);
         };
-        let seed = word(value).ok_or_else(|| format!("seed cannot be {value}"))?;
+        let value = read(value).ok_or_else(|| format!("{name} cannot be {value}"))?;
         self.0.pop();
-        Ok(seed)
+        Ok(Some(value))
     }
 
     fn on(&mut self) -> Result<Geometry, String> {
@@ -288,6 +317,12 @@ fn length(word: &str) -> Option<usize> {
 /// A number of 32 bits and no more.
 fn word(word: &str) -> Option<u32> {
     u32::try_from(long(word)?).ok()
+}
+
+/// A page before which a dump is read. The largest number of 32 bits stands for
+/// none, and those beyond for a page that no dump has.
+fn before(word: &str) -> Option<u32> {
+    number(word).map(|page| page.min(AS_IT_STANDS - 1))
 }
 
 #[cfg(test)]
@@ -332,6 +367,31 @@ mod tests {
                 },
             ),
             ("copy 0x100000000", Request::Copy { row: 1 << 32 }),
+            (
+                "dwhy 6 4 257 0xFFFFFFFFFFFFFFFF",
+                Request::Why {
+                    on,
+                    before: None,
+                    object: 257,
+                    position: u64::MAX,
+                },
+            ),
+            (
+                "dspans 6 4 257 before=4",
+                Request::Spans {
+                    on,
+                    before: Some(4),
+                    object: 257,
+                },
+            ),
+            (
+                "dspans 6 4 257 before=4294967295",
+                Request::Spans {
+                    on,
+                    before: Some(u32::MAX - 1),
+                    object: 257,
+                },
+            ),
             (
                 "  dread 6 4 257 1 512",
                 Request::Read {
@@ -401,7 +461,7 @@ mod tests {
             assert!(request(&format!("{line} 1")).is_err(), "{form}");
             count += 1;
         }
-        assert_eq!(count, 28);
+        assert_eq!(count, 30);
     }
 
     #[test]
@@ -423,6 +483,14 @@ mod tests {
                 "seed cannot be 0x100000000",
             ),
             ("size 257 seed=1", "there is no option seed="),
+            ("dwhy 6 4 257", "POS is missing"),
+            (
+                "dwhy 6 4 257 18446744073709551616",
+                "POS cannot be 18446744073709551616",
+            ),
+            ("dwhy 6 4 257 0 before=", "before cannot be "),
+            ("dwhy 6 4 257 0 k=4", "dwhy does not take k=4"),
+            ("dspans 6 4 257 0", "dspans does not take 0"),
         ];
         for (line, said) in wrong {
             assert_eq!(request(line), Err(said.to_string()), "{line}");

@@ -6,6 +6,7 @@ use super::request::{Lent, Over, Request};
 use crate::commands::header::Header;
 use crate::failure::Failure;
 use crate::ffi::{self, Answer as _, Geometry};
+use crate::reasons::Reasons;
 
 /// What a buffer holds before a call, and the index words before the first.
 const BYTE: u8 = 0xA5;
@@ -19,7 +20,9 @@ pub struct Runner<'d> {
     started: Option<(Geometry, usize)>,
 }
 
-/// An answer: its line, and the lent buffer as the call left it.
+/// An answer: its line, and the lent buffer as the call left it. What a line leaves
+/// out stands there too: the byte of a position, and the data byte with which
+/// each run of a file begins.
 #[derive(Debug, Default, PartialEq, Eq)]
 pub struct Answer {
     pub line: String,
@@ -112,6 +115,22 @@ impl<'d> Runner<'d> {
                 self.copies(lent, object, &mut answer.rows)
             }
             Request::Copy { row } => line::copy(ffi::copy(row)),
+            Request::Why {
+                on,
+                before,
+                object,
+                position,
+            } => {
+                let why = self.reasons(on, before).why(object, position);
+                answer.bytes.extend(why.given().map(|why| why.value as u8));
+                line::why(why)
+            }
+            Request::Spans { on, before, object } => {
+                let (spans, rows) = self.reasons(on, before).spans(object);
+                let runs: Vec<_> = rows.iter().map(|&row| ffi::span(on, row)).collect();
+                answer.words = runs.iter().map(|run| run.byte).collect();
+                line::spans(spans, &runs)
+            }
             Request::Row {
                 layout,
                 place,
@@ -253,6 +272,13 @@ impl<'d> Runner<'d> {
         let cells = &self.index[..count];
         let answer = ffi::table(self.dump, on, cells, object, words);
         line::table(answer, words)
+    }
+
+    /// The reasons of the dump as it stood before the record on a page, if one is
+    /// named.
+    fn reasons(&self, on: Geometry, before: Option<u32>) -> Reasons<'d> {
+        let dump = self.dump;
+        Reasons { dump, on, before }
     }
 
     /// A word of the index memory.

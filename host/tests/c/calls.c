@@ -10,6 +10,14 @@ static uint8_t buffer[512];
 static uint32_t cells[48];
 static uint32_t table[7] = {7, 7, 7, 7, 7, 7, 7};
 static uint64_t shown[9] = {7, 7, 7, 7, 7, 7, 7, 7, 7};
+static uint64_t lent[256];
+
+/* Why a byte of W's file is what it is. */
+static void why(size_t len, lohenarr_geometry geometry, uint32_t before, uint64_t position) {
+    lohenarr_why_answer why = lohenarr_dump_why(dump, len, geometry, before, 257, position, lent, 256);
+    printf("why %u: reason %u page %u byte %u value %u until %llu\n", why.refusal, why.reason, why.page, why.byte, why.value,
+           (unsigned long long)why.until);
+}
 
 int main(void) {
     size_t len = fread(dump, 1, sizeof dump, stdin);
@@ -74,6 +82,21 @@ int main(void) {
     run = lohenarr_add_older(dump, len, geometry, cells, 48, 0, 8, 4);
     size = lohenarr_size(dump, len, geometry, cells, 48, 257);
     printf("older %u, size %llu\n", run.refusal, (unsigned long long)size.size);
+    why(len, geometry, 0xFFFFFFFF, 400);
+    why(len, geometry, 0xFFFFFFFF, 600);
+    why(len, geometry, 0xFFFFFFFF, 1033);
+    why(len, geometry, 6, 300);
+    why(len, geometry, 8, 300);
+    lent[0] = 7;
+    lohenarr_spans_answer spans = lohenarr_dump_spans(dump, len, geometry, 0xFFFFFFFF, 257, lent, 0);
+    printf("spans %u: enough %d, %llu\n", spans.refusal, 0 < spans.need && spans.need <= 256, (unsigned long long)lent[0]);
+    spans = lohenarr_dump_spans(dump, len, geometry, 0xFFFFFFFF, 257, lent, 256);
+    printf("spans %u: size %llu:", spans.refusal, (unsigned long long)spans.size);
+    for (uint32_t i = 0; i < spans.count; i++) {
+        lohenarr_span_answer span = lohenarr_span(geometry, lent[i]);
+        printf(" %llu/%u/%u/%u", (unsigned long long)span.from, span.reason, span.page, span.byte);
+    }
+    printf("\n");
     FIELD(lohenarr_geometry, block);
     FIELD(lohenarr_layout_answer, tag);
     FIELD(lohenarr_kind_answer, count);
@@ -93,11 +116,17 @@ int main(void) {
     FIELD(lohenarr_copies_answer, damaged);
     FIELD(lohenarr_copy_answer, valid);
     FIELD(lohenarr_run_answer, page);
-    printf("sizes %zu %zu %zu %zu %zu %zu %zu %zu %zu %zu %zu %zu %zu %zu %zu\n", sizeof(lohenarr_layout_answer), sizeof(lohenarr_pages_answer),
+    FIELD(lohenarr_why_answer, value);
+    FIELD(lohenarr_why_answer, until);
+    FIELD(lohenarr_spans_answer, size);
+    FIELD(lohenarr_spans_answer, count);
+    FIELD(lohenarr_span_answer, byte);
+    printf("sizes %zu %zu %zu %zu %zu %zu %zu %zu %zu %zu %zu %zu %zu %zu %zu %zu %zu %zu\n", sizeof(lohenarr_layout_answer), sizeof(lohenarr_pages_answer),
            sizeof(lohenarr_counts_answer), sizeof(lohenarr_kind_answer), sizeof(lohenarr_header_answer),
            sizeof(lohenarr_part_answer), sizeof(lohenarr_size_answer), sizeof(lohenarr_chunk_answer),
            sizeof(lohenarr_place_answer), sizeof(lohenarr_list_answer), sizeof(lohenarr_tally_answer),
            sizeof(lohenarr_table_answer), sizeof(lohenarr_copies_answer), sizeof(lohenarr_copy_answer),
-           sizeof(lohenarr_run_answer));
+           sizeof(lohenarr_run_answer), sizeof(lohenarr_why_answer), sizeof(lohenarr_spans_answer),
+           sizeof(lohenarr_span_answer));
     return 0;
 }

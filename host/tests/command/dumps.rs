@@ -38,6 +38,8 @@ pub fn folder() -> TempDir {
         "far",
         &[page(0), &with(page(1), DATA + 8, 0xF_FFFF)].concat(),
     );
+    put("deleted-and-anew", &anew(4));
+    put("unlinked-and-anew", &anew(3));
     put("half-gib", &with(page(0), SIZE, 1 << 29));
     put("4-gib", &with(page(0), SIZE, u32::MAX));
     folder
@@ -72,6 +74,22 @@ fn link() -> Vec<u8> {
         page = with(&page, at, n);
     }
     with(&with(&page, 0, 2), DATA + 4, 2 << 28 | 257)
+}
+
+/// A file that is put under a parent and made anew, with data before and after, and
+/// a size that is no mark's but cuts what is older; one byte lies behind that.
+fn anew(parent: u32) -> Vec<u8> {
+    let (header, data) = (page(0), page(1));
+    let last = with(&with(data, DATA + 8, 5), DATA + 12, 1);
+    [
+        data,
+        &with(header, 4, parent),
+        header,
+        &with(data, DATA + 8, 4),
+        &with(header, SIZE, 1600),
+        &last,
+    ]
+    .concat()
 }
 
 /// One file of so many whole chunks, each page of which is in a block of its

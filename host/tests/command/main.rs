@@ -40,6 +40,11 @@ fn run(folder: &Path, typed: &[&str], input: &[u8]) -> Output {
     command.write_stdin(input).output().unwrap()
 }
 
+/// What was printed, where that is text.
+fn printed(output: &Output) -> &str {
+    str::from_utf8(&output.stdout).unwrap()
+}
+
 /// What was said on standard error.
 fn said(output: &Output) -> &str {
     str::from_utf8(&output.stderr).unwrap()

@@ -23,6 +23,7 @@ fn answers_alike(dump: &[u8], objects: usize) {
         &["find"],
         &["report"],
         &["extract", "600"],
+        &["why", "600"],
     ] {
         let [mapped, piped] = ["long", "-"].map(|name| {
             let typed = [&typed[..1], &[name], &typed[1..]].concat();

@@ -29,7 +29,7 @@ impl<'d> Library<'d> {
 }
 
 /// The request as the command reads it.
-fn read(request: &Request) -> request::Request {
+pub fn read(request: &Request) -> request::Request {
     let read = request::request(&request.to_string());
     read.unwrap().expect("a request")
 }

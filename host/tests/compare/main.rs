@@ -4,6 +4,7 @@
 //! - `second`: the second reader, written from the documents alone.
 //! - `generator`: dumps and requests from a seed.
 //! - `library`: the library's answers to the same requests.
+//! - `lent`: what reasons leave in the memory that they are lent.
 //! - `corpus`: dumps that the YAFFS2 driver wrote.
 //! - `replay`: the vectors that the program of that name is held to.
 //! - `scores`: the scores of layouts, by which K is found.
@@ -14,6 +15,8 @@
 #[cfg(test)]
 mod corpus;
 mod generator;
+#[cfg(test)]
+mod lent;
 mod library;
 #[cfg(test)]
 mod replay;

@@ -80,6 +80,64 @@ fn the_command_reads_what_the_driver_shows() {
     }
 }
 
+/// A run of a file's bytes, as `why` prints it.
+struct Run {
+    from: usize,
+    until: usize,
+    /// Where the dump has these bytes, if a page holds them.
+    held: Option<usize>,
+}
+
+/// The runs of a file, which must follow one another.
+fn runs(case: &Case, dump: &Path, object: &str) -> Vec<Run> {
+    let printed = lines("why", dump, &[object, "--block", &case.block]);
+    let sizes = case.layout.split('/').map(|size| size.parse().unwrap());
+    let [data, spare, _]: [usize; 3] = sizes.collect::<Vec<_>>().try_into().unwrap();
+    let number = |line, key| value(line, key).parse::<usize>().unwrap();
+    let run = |line| Run {
+        from: number(line, "from"),
+        until: number(line, "until"),
+        held: (value(line, "reason") == "held")
+            .then(|| number(line, "page") * (data + spare) + number(line, "byte")),
+    };
+    let runs: Vec<Run> = printed.lines().map(run).collect();
+    for (one, next) in runs.iter().zip(runs.iter().skip(1)) {
+        assert_eq!(one.until, next.from, "{}: object {object}", case.name);
+    }
+    runs
+}
+
+/// The runs of each file go from 0 to its size, and what they say is held is all
+/// that the driver shows: with zeros everywhere else the bytes are its own.
+#[test]
+fn every_byte_of_the_driver_has_its_reason() {
+    let folder = tempfile::tempdir().unwrap();
+    let (mut files, mut counted) = (0, 0);
+    for case in cases() {
+        let dump = written(&case, &folder);
+        for file in &case.files {
+            let (name, object) = (&case.name, file.object.to_string());
+            let runs = runs(&case, &dump, &object);
+            let ends = [
+                runs.first().map(|run| run.from),
+                runs.last().map(|run| run.until),
+            ];
+            let whole = (file.size > 0).then_some([Some(0), Some(file.size as usize)]);
+            assert_eq!(ends, whole.unwrap_or_default(), "{name}: object {object}");
+            let mut bytes = vec![0; file.size as usize];
+            for run in &runs {
+                if let Some(at) = run.held {
+                    let length = run.until - run.from;
+                    bytes[run.from..run.until].copy_from_slice(&case.dump[at..at + length]);
+                }
+            }
+            assert_eq!(sha256(&bytes), file.sha256, "{name}: object {object}");
+            (files, counted) = (files + 1, counted + runs.len());
+        }
+    }
+    println!("{counted} runs in {files} files");
+}
+
 /// The pages of headers whose word at 1FC is set, by the bytes alone.
 fn marked(case: &Case) -> Vec<usize> {
     let sizes = case.layout.split('/').map(|size| size.parse().unwrap());

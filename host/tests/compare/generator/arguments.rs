@@ -9,6 +9,7 @@ use crate::second::index::{Lent, Over, Reader};
 use crate::second::layout::{opened, table, Layout, Named};
 use crate::second::page::{LAST_CHUNK, LAST_OBJECT};
 use crate::second::script::Request;
+use crate::second::why::Past;
 use crate::second::wrong::Wrong;
 
 /// Tables of so many words are not asked for, but for a refusal.
@@ -176,6 +177,42 @@ impl Asker<'_> {
             _ => need + self.rng.between(1, 5),
         };
         rows as usize
+    }
+
+    /// The dump alone, mostly as it stands.
+    pub fn past(&mut self) -> Past {
+        Past {
+            layout: self.any_layout(),
+            k: self.k(),
+            before: self.rng.chance(30).then(|| self.page()),
+        }
+    }
+
+    /// A position of an object: mostly where a reason may change, or beside it.
+    pub fn position(&mut self, on: Past, object: u64) -> u64 {
+        let reader = Reader::new(&self.dump.bytes, Wrong::None);
+        let turns = reader.turns(on, object);
+        let data = self.dump.layout.data as u64;
+        let numbered = LAST_CHUNK * data;
+        // as far behind the last chunk that has a number as data lies behind 0
+        let behind = numbered + data + self.rng.below(self.dump.span * data);
+        let any = self.rng.below((self.dump.span + 1) * data);
+        let Some(&size) = turns.last() else {
+            return self.rng.pick(&[0, any, u64::MAX]);
+        };
+        let inside = self.rng.below(size.max(1));
+        let turn = self.rng.pick(&turns);
+        match self.rng.below(16) {
+            0 => self.rng.pick(&[0, WIDE - 1, WIDE, u64::MAX - 1, u64::MAX]),
+            1 if size > numbered => self.rng.pick(&[numbered - 1, numbered, behind, behind]),
+            1 => self.rng.pick(&[size.saturating_sub(1), size, size + 1]),
+            2 => any,
+            3 | 4 => inside,
+            5..=9 => turn,
+            10 | 11 => turn.saturating_sub(1),
+            12 => turn + 1,
+            _ => turn + self.rng.below(data),
+        }
     }
 
     /// A row of a copy: of numbers that are mostly in range.

@@ -5,6 +5,7 @@
 //! - `build`: pages put together from tags and header fields.
 //! - `shelf`: the shelf dump W.
 //! - `dump`: dumps that crowd the edges of the rules.
+//! - `rewritten`: dumps of files that are cut and grow again.
 //! - `decoy`: tags of other layouts, and lengths that fit none.
 //! - `pages`: its pages, of each kind.
 //! - `arguments`: what a request asks for.
@@ -18,6 +19,7 @@ pub mod dump;
 mod foreign;
 mod pages;
 pub mod requests;
+mod rewritten;
 pub mod rng;
 pub mod shelf;
 
@@ -39,10 +41,16 @@ pub struct Case {
     pub requests: Vec<Request>,
 }
 
+/// One of so many seeds makes a dump of files that are written over and over.
+const REWRITTEN: u64 = 6;
+
 /// The case of a seed.
 pub fn case(seed: u64) -> Case {
     let mut rng = Rng::new(seed);
-    let dump = dump::dump(&mut rng);
+    let dump = match seed % REWRITTEN {
+        0 => rewritten::dump(&mut rng),
+        _ => dump::dump(&mut rng),
+    };
     let requests = requests::requests(&mut rng, &dump);
     Case {
         seed,

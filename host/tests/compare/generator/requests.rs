@@ -9,7 +9,8 @@ use crate::second::page::tags;
 use crate::second::script::Request;
 
 /// Requests to this dump: about it as a whole, lookups on it alone, one or two
-/// lists of additions and lookups on an index, and calls on other cells.
+/// lists of additions and lookups on an index, calls on other cells, and why
+/// bytes are what they are.
 pub fn requests(rng: &mut Rng, dump: &Dump) -> Vec<Request> {
     let list = Vec::new();
     let mut asker = Asker {
@@ -29,6 +30,9 @@ pub fn requests(rng: &mut Rng, dump: &Dump) -> Vec<Request> {
     }
     if asker.rng.chance(70) {
         asker.foreign_calls();
+    }
+    for _ in 0..asker.rng.between(8, 14) {
+        asker.why();
     }
     asker.list
 }
@@ -88,6 +92,20 @@ impl Asker<'_> {
             },
         };
         self.list.push(lookup);
+    }
+
+    /// Why a byte is what it is, or all bytes of a file.
+    fn why(&mut self) {
+        let (on, object) = (self.past(), self.object());
+        let position = self.position(on, object);
+        self.list.push(match self.rng.chance(20) {
+            true => Request::Spans { on, object },
+            false => Request::Why {
+                on,
+                object,
+                position,
+            },
+        });
     }
 
     /// The table of a file, and the bytes of some row.

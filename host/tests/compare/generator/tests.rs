@@ -34,11 +34,14 @@ fn every_wrong_rule_is_noticed() {
     assert!(left.is_empty(), "not noticed: {left:?}");
 }
 
-/// What an answer line begins with: its word, or for a refusal its number.
+/// What an answer line begins with: its word, or for a refusal its number and for
+/// a reason its name.
 fn shape(line: &str) -> &str {
-    match line.starts_with("refusal=") {
-        true => line.split(' ').next().unwrap_or(line),
-        false => line.split(['=', ' ']).next().unwrap_or(line),
+    let reason = || line.split(" until=").next()?.split(" page=").next();
+    match line.split('=').next() {
+        Some("refusal") => line.split(' ').next().unwrap_or(line),
+        Some("reason") => reason().unwrap_or(line),
+        _ => line.split(['=', ' ']).next().unwrap_or(line),
     }
 }
 
@@ -59,7 +62,9 @@ fn every_answer_and_refusal_occurs() {
     }
     let others =
         "done size page hole part ids layout pages blank foreign damaged header data type objects";
-    for word in others.split(' ') {
+    let reasons = ["held", "no copy", "cut", "count", "past end"];
+    let reasons = reasons.map(|reason| format!("reason={reason}"));
+    for word in others.split(' ').chain(reasons.iter().map(String::as_str)) {
         assert!(shapes.contains_key(word), "{word}");
     }
 }

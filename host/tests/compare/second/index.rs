@@ -151,6 +151,34 @@ impl<'d> Reader<'d> {
         refuse(&tests, self.wrong).map(|()| (layout, pages))
     }
 
+    /// Which pages are records older than the one on page `before`: none where
+    /// that is no record.
+    pub(super) fn older(&self, layout: Layout, pages: usize, before: usize) -> Vec<bool> {
+        let sees = |page| match kind(self.dump, layout, page, self.wrong) {
+            Kind::Record(record) => Some(record),
+            _ => None,
+        };
+        let Some(before) = sees(before) else {
+            return vec![false; pages];
+        };
+        let older = |record: Record| {
+            let (one, other) = (age(&record, self.wrong), age(&before, self.wrong));
+            match self.wrong {
+                Wrong::OlderWithItself => one <= other,
+                Wrong::OlderByPage => record.page < before.page,
+                Wrong::OlderBySequenceAlone => record.sequence < before.sequence,
+                Wrong::OlderOfOneObject => one < other && record.object == before.object,
+                Wrong::EveryPageOlder => true,
+                _ => one < other,
+            }
+        };
+        let all = (0..pages).map(|page| match sees(page) {
+            Some(record) => older(record),
+            None => self.wrong == Wrong::OlderWithoutRecords,
+        });
+        all.collect()
+    }
+
     /// Add those of a run of pages that are records older than the one on page
     /// `before`, until one is refused: then this page is given too.
     pub fn add_older(
@@ -161,30 +189,9 @@ impl<'d> Reader<'d> {
     ) -> Result<(), (Refusal, u64)> {
         let paged = self.paged(lent, before);
         let (layout, pages) = paged.map_err(|refusal| (refusal, run.start))?;
-        let sees = |page: usize| match kind(self.dump, layout, page, self.wrong) {
-            Kind::Record(record) => Some(record),
-            _ => None,
-        };
-        // nothing is older than what is no record
-        let Some(before) = sees(before as usize) else {
-            return Ok(());
-        };
-        let older = |record: &Record| {
-            let (one, other) = (age(record, self.wrong), age(&before, self.wrong));
-            match self.wrong {
-                Wrong::OlderWithItself => one <= other,
-                Wrong::OlderByPage => record.page < before.page,
-                Wrong::OlderBySequenceAlone => record.sequence < before.sequence,
-                Wrong::OlderOfOneObject => one < other && record.object == before.object,
-                Wrong::EveryPageOlder => true,
-                _ => one < other,
-            }
-        };
+        let older = self.older(layout, pages, before as usize);
         let run = run.start..run.end.min(pages as u64);
-        let pages = run.filter(|&page| match sees(page as usize) {
-            Some(record) => older(&record),
-            None => self.wrong == Wrong::OlderWithoutRecords,
-        });
+        let pages = run.filter(|&page| older[page as usize]);
         let pages: Vec<u64> = pages.collect();
         pages.into_iter().try_for_each(|page| {
             let added = self.add(lent, page);

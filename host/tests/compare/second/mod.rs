@@ -16,6 +16,7 @@
 //! - `lookup`: size, chunk, read and part.
 //! - `table`: the chunks of a file, by the lookup of each.
 //! - `whole`: the calls that read the dump whatever was added.
+//! - `why`: why a byte of a file is what it is.
 //! - `script`: requests and their answer lines.
 //! - `report`: the ten lines of the report.
 //! - `wrong`: rules made wrong on purpose, one at a time.
@@ -35,6 +36,7 @@ pub mod rules;
 pub mod script;
 pub mod table;
 pub mod whole;
+pub mod why;
 pub mod wrong;
 
 #[cfg(test)]

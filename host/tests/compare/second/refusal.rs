@@ -56,6 +56,7 @@ pub fn refuse(tests: &[(Refusal, bool)], wrong: Wrong) -> Result<(), Refusal> {
         Wrong::ShortBufferBeforePastEnd => swap(PastEnd, ShortBuffer),
         Wrong::BadChunkBeforeBadObject => swap(BadObject, BadChunk),
         Wrong::BadPageBeforeShortIndex => swap(ShortIndex, BadPage),
+        Wrong::BadObjectBeforeBadPage => swap(BadPage, BadObject),
         Wrong::BadLengthBeforeBadLayout => swap(BadLayout, BadLength),
         Wrong::AlreadyAddedBeforeDamaged => swap(IndexDamaged, AlreadyAdded),
         Wrong::NotAFileBeforeDeleted => swap(Deleted, NotAFile),

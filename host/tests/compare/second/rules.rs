@@ -13,8 +13,8 @@ pub struct Object {
     pub id: u32,
     pub records: Vec<Record>,
     pub broken: bool,
-    layout: Layout,
-    wrong: Wrong,
+    pub(super) layout: Layout,
+    pub(super) wrong: Wrong,
 }
 
 impl Object {
@@ -88,7 +88,7 @@ impl Object {
     }
 
     /// Where the record at this place cuts, if it does.
-    fn cut(&self, place: usize) -> Option<u64> {
+    pub(super) fn cut(&self, place: usize) -> Option<u64> {
         let Body::Header {
             file_type,
             size,
@@ -133,6 +133,14 @@ impl Object {
         (n - 1) * self.layout.data as u64
     }
 
+    /// Where the data of the record at this place end in the file; headers have none.
+    pub(super) fn end(&self, place: usize) -> Option<u64> {
+        match self.records[place].body {
+            Body::Data { chunk, count } => Some(self.start(chunk.into()) + u64::from(count)),
+            Body::Header { .. } => None,
+        }
+    }
+
     /// The size: the newest header's, or what newer data reaches to.
     pub fn size(&self) -> Option<u64> {
         let place = self.newest_header()?;
@@ -144,10 +152,7 @@ impl Object {
             Wrong::SizeOfHeaderAlone => self.records.len(),
             _ => place,
         };
-        let ends = self.records[from..].iter().map(|r| match r.body {
-            Body::Data { chunk, count } => self.start(chunk as u64) + count as u64,
-            Body::Header { .. } => 0,
-        });
+        let ends = (from..self.records.len()).filter_map(|place| self.end(place));
         let end = ends.max().unwrap_or(0);
         let end = match self.wrong {
             Wrong::SizeWraps => end as u32 as u64,

@@ -10,6 +10,7 @@ use super::layout::{Layout, Named};
 use super::lookup::Chunk;
 use super::page::{Body, Field, Kind};
 use super::refusal::Refusal;
+use super::why::{Past, Spans, Why};
 
 /// One request with everything that its call is given. Lookups are over the
 /// dump alone or over the index; `buffer` counts bytes for a read, rows for copies
@@ -101,6 +102,15 @@ pub enum Request {
         object: u64,
         buffer: usize,
     },
+    Why {
+        on: Past,
+        object: u64,
+        position: u64,
+    },
+    Spans {
+        on: Past,
+        object: u64,
+    },
     Fill {
         word: u32,
     },
@@ -110,7 +120,9 @@ pub enum Request {
     },
 }
 
-/// An answer: its line, and the lent buffer as the call left it.
+/// An answer: its line, and the lent buffer as the call left it. What a line leaves
+/// out stands there too: the byte of a position, and the data byte with which
+/// each run of a file begins.
 #[derive(Clone, Debug, Default, PartialEq, Eq)]
 pub struct Answer {
     pub line: String,
@@ -172,6 +184,16 @@ fn lookup(f: &mut fmt::Formatter<'_>, name: &str, over: Over, arguments: &str) -
     match over {
         Over::Dump(layout, k) => write!(f, "d{name} {layout} {k} {arguments}"),
         Over::Index(lent) => write!(f, "{name} {arguments} {}", options(lent)),
+    }
+}
+
+/// A request about the dump alone, perhaps as it once stood.
+fn past(f: &mut fmt::Formatter<'_>, name: &str, on: Past, arguments: &str) -> fmt::Result {
+    let Past { layout, k, before } = on;
+    write!(f, "{name} {layout} {k} {arguments}")?;
+    match before {
+        Some(page) => write!(f, " before={page}"),
+        None => Ok(()),
     }
 }
 
@@ -241,6 +263,12 @@ impl fmt::Display for Request {
                 object,
                 buffer,
             } => write!(f, "records {object} {buffer} {}", options(lent)),
+            Request::Why {
+                on,
+                object,
+                position,
+            } => past(f, "dwhy", on, &format!("{object} {position}")),
+            Request::Spans { on, object } => past(f, "dspans", on, &object.to_string()),
             Request::Fill { word } => write!(f, "fill {word:#x}"),
             Request::Poke { at, word } => write!(f, "poke {at} {word:#x}"),
         }
@@ -340,6 +368,22 @@ pub fn answer(reader: &mut Reader<'_>, request: &Request) -> Answer {
             let records = reader.records(lent, object, &mut answer.words);
             records.map(|pages| format!("records={} words={buffer}", joined(&pages)))
         }
+        Request::Why {
+            on,
+            object,
+            position,
+        } => {
+            let why = reader.why(on, object, position);
+            answer.bytes.extend(why.map(|why| why.value));
+            Ok(why.map_or_else(number_line, why_line))
+        }
+        Request::Spans { on, object } => {
+            let spans = reader.spans(on, object);
+            if let Ok(spans) = &spans {
+                answer.words = spans.bytes();
+            }
+            Ok(spans.map_or_else(number_line, spans_line))
+        }
         Request::Fill { word } => {
             reader.fill(word);
             done(Ok(()))
@@ -372,6 +416,33 @@ fn copies_line(copies: &Copies, buffer: usize) -> String {
     let (size, damaged) = (copies.size, u8::from(copies.damaged));
     let all = all.join(",");
     format!("size={size} copies={all} damaged={damaged} rows={buffer}")
+}
+
+/// A refusal by its number alone.
+fn number_line(refused: Refused) -> String {
+    format!("refusal={}", refused.refusal as u8)
+}
+
+fn why_line(why: Why) -> String {
+    let field = |name: &str, value: Option<u64>| match value {
+        Some(value) => format!(" {name}={value}"),
+        None => String::new(),
+    };
+    let page = field("page", why.reason.page().map(|page| page as u64));
+    let (name, byte) = (why.reason.name(), field("byte", why.byte));
+    format!("reason={name}{page}{byte} until={}", why.until)
+}
+
+fn spans_line(spans: Spans) -> String {
+    let runs = spans.runs.iter().map(|(from, reason)| {
+        let name = reason.name();
+        match reason.page() {
+            Some(page) => format!("{from}:{name}:{page}"),
+            None => format!("{from}:{name}"),
+        }
+    });
+    let runs: Vec<String> = runs.collect();
+    format!("size={} spans={}", spans.size, runs.join(","))
 }
 
 fn done(result: Result<(), Refusal>) -> Result<String, Refused> {

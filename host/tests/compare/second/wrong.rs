@@ -320,6 +320,62 @@ wrong_rules! {
     /// A damaged link ends the records like any other end.
     RecordsPassDamage,
 
+    // Why a byte is what it is.
+    /// The oldest of the headers that cut is named.
+    WhyOldestCuts,
+    /// Of the headers that cut, the one that cuts lowest is named.
+    WhyLowestCuts,
+    /// Where some header cuts, the newest header is named.
+    WhyNewestHeaderCuts,
+    /// The byte count is asked before the cuts.
+    WhyCountBeforeCut,
+    /// A header that cuts at the position itself does not cut.
+    WhyCutOnlyBelow,
+    /// Headers older than the copy cut it.
+    WhyEarlierCuts,
+    /// A copy that is hidden from its begin on is no copy.
+    WhyHiddenIsNoCopy,
+    /// A chunk above 0xFFFFF is looked for by its low bits.
+    WhyLowBitsOfChunk,
+    /// The byte at the size is inside.
+    WhySizeInside,
+    /// Data that ends at the size sets it, older than the newest header too.
+    WhyOlderDataSets,
+    /// The newest header sets the size, whatever newer data does.
+    WhyHeaderSets,
+    /// Of the pages that set the size the oldest is named.
+    WhyOldestSets,
+    /// A byte that is held is named by its position in the file.
+    WhyByteOfFile,
+    /// The copy's byte is shown behind its byte count.
+    WhyCountedShown,
+    /// A reason holds for one position more.
+    WhyUntilOneTooFar,
+    /// A hole ends with each chunk.
+    WhyHoleByChunk,
+    /// What one header cuts ends with each chunk.
+    WhyCutByChunk,
+    /// What is held goes on over a later cut.
+    WhyHeldOverCut,
+    /// Past the end the reason holds up to the size.
+    WhyPastEndUntilSize,
+    /// A run inside the file goes on beyond its size.
+    WhyRunBeyondSize,
+    /// What is cut is one run, whichever headers cut it.
+    WhyCutsAreOne,
+    /// What reads 0 is one run, whatever the reason.
+    WhyZerosAreOne,
+    /// Past the end is answered before the object is refused.
+    WhyPastEndFirst,
+    /// BadObject is given before BadPage.
+    BadObjectBeforeBadPage,
+    /// The runs of a file leave out the holes.
+    SpansWithoutHoles,
+    /// The runs of a file have one more behind its end.
+    SpansWithEnd,
+    /// The runs of a file come in the order of their pages.
+    SpansByPage,
+
     // Counting.
     /// Only live objects are counted.
     CountOfLive,

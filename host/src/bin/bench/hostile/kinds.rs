@@ -19,10 +19,12 @@ const LAST_OBJECT: u32 = 0x0FFF_FFFF;
 const ONE: u32 = 300;
 const FIRST: u32 = 257;
 
-/// What a page says of its object: a file's size, or a full chunk.
+/// What a page says of its object: a file's size, with a shrink mark or without, or
+/// a full chunk.
 #[derive(Clone, Copy)]
 enum Says {
     Header { size: u32 },
+    Shrunk { size: u32 },
     Data { chunk: u32 },
 }
 
@@ -35,7 +37,7 @@ pub struct Kind {
     records: fn(u32) -> Box<dyn Iterator<Item = Record>>,
 }
 
-pub const KINDS: [Kind; 7] = [
+pub const KINDS: [Kind; 10] = [
     Kind {
         name: "claims",
         records: claims,
@@ -63,6 +65,18 @@ pub const KINDS: [Kind; 7] = [
     Kind {
         name: "scattered",
         records: scattered,
+    },
+    Kind {
+        name: "cut",
+        records: cut,
+    },
+    Kind {
+        name: "cuts",
+        records: cuts,
+    },
+    Kind {
+        name: "sparse",
+        records: sparse,
     },
 ];
 
@@ -92,13 +106,15 @@ pub fn pages(mib: usize) -> u32 {
 fn bytes((sequence, object, says): Record) -> [u8; PAGE] {
     let mut page = [0xFF; PAGE];
     let mut put = |at: usize, word: u32| page[at..at + 4].copy_from_slice(&word.to_le_bytes());
-    let tags = match says {
-        Says::Header { size } => {
-            for (at, word) in [(0, 1), (4, 1), (0x124, size), (0x1FC, 0)] {
-                put(at, word);
-            }
-            [sequence, object | 1 << 28, 1 << 31 | 1, 0]
+    let mut header = |size, shrink| {
+        for (at, word) in [(0, 1), (4, 1), (0x124, size), (0x1FC, shrink)] {
+            put(at, word);
         }
+        [sequence, object | 1 << 28, 1 << 31 | 1, 0]
+    };
+    let tags = match says {
+        Says::Header { size } => header(size, 0),
+        Says::Shrunk { size } => header(size, 1),
         Says::Data { chunk } => [sequence, object, chunk, DATA as u32],
     };
     for (i, word) in tags.into_iter().enumerate() {
@@ -193,4 +209,42 @@ fn scattered(pages: u32) -> Box<dyn Iterator<Item = Record>> {
             return id;
         }
     })
+}
+
+/// One file of as many chunks as pages, all cut by one header; another claims the
+/// size again.
+fn cut(pages: u32) -> Box<dyn Iterator<Item = Record>> {
+    let says = move |p| match pages - p {
+        1 => Says::Header {
+            size: pages * DATA as u32,
+        },
+        2 => Says::Shrunk { size: 1 },
+        _ => Says::Data { chunk: 1 + p },
+    };
+    Box::new((0..pages).map(move |p| (rising(p), ONE, says(p))))
+}
+
+/// One file of half as many chunks as pages, and then headers that each cut
+/// another chunk, from the first on; the last claims the size again.
+fn cuts(pages: u32) -> Box<dyn Iterator<Item = Record>> {
+    let chunks = pages / 2;
+    let size = move |n: u32| n * DATA as u32 + 1;
+    let says = move |p: u32| match p.checked_sub(chunks) {
+        None => Says::Data { chunk: 1 + p },
+        Some(_) if p == pages - 1 => Says::Header { size: size(chunks) },
+        Some(n) => Says::Shrunk { size: size(n) },
+    };
+    Box::new((0..pages).map(move |p| (rising(p), ONE, says(p))))
+}
+
+/// One file that claims 4 GiB, with every other chunk as far out as it goes, last
+/// one first.
+fn sparse(pages: u32) -> Box<dyn Iterator<Item = Record>> {
+    let says = |p| match p {
+        0 => Says::Header { size: u32::MAX },
+        _ => Says::Data {
+            chunk: 0xF_FFFFu32.saturating_sub(2 * p).max(1),
+        },
+    };
+    Box::new((0..pages).map(move |p| (rising(p), ONE, says(p))))
 }

@@ -37,7 +37,7 @@ const NOISE: f64 = 1.5;
 
 /// The commands, with what stands behind the dump: `OBJECT` is that of its last
 /// page, which is `LAST`.
-const COMMANDS: [&[&str]; 9] = [
+const COMMANDS: [&[&str]; 11] = [
     &["report"],
     &["find"],
     &["pages"],
@@ -47,6 +47,8 @@ const COMMANDS: [&[&str]; 9] = [
     &["chunk", "OBJECT", "1"],
     &["read", "OBJECT"],
     &["extract"],
+    &["why", "OBJECT"],
+    &["why", "OBJECT", "1"],
 ];
 
 /// A dump that was written.

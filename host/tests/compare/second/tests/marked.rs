@@ -1,12 +1,13 @@
 //! The twelve marked cases on the shelf dump W, and its report.
 
 use crate::generator::build::Builder;
-use crate::generator::shelf::{data, shelf, without, BLOCK, LAYOUT, OBJECT};
+use crate::generator::shelf::{data, header, shelf, without, BLOCK, LAYOUT, OBJECT};
 use crate::second::cells::need;
 use crate::second::index::{Lent, Over, Reader};
 use crate::second::layout::Named;
 use crate::second::report::{report, report_of_input};
 use crate::second::script::{answer, Request};
+use crate::second::why::Past;
 use crate::second::wrong::Wrong;
 
 fn named() -> Named {
@@ -147,6 +148,123 @@ fn records_older_than_one() {
     assert_eq!(ask(Request::Size { over, object }), "size=612 visits=1");
     assert_eq!(ask(older(5)), "refusal=15 visits=0 page=0");
     assert_eq!(ask(Request::Objects { over }), "objects=1");
+}
+
+/// W, or W as it stood before a page was written.
+fn past(before: Option<u64>) -> Past {
+    let (layout, k) = (named(), BLOCK);
+    Past { layout, k, before }
+}
+
+/// Every byte of W's file, and what is behind it.
+#[test]
+fn why_of_w() {
+    let mut w = shelf();
+    w.data(6)[..10].copy_from_slice(b"0123456789");
+    let why = |before, object, position| {
+        let on = past(before);
+        let request = Request::Why {
+            on,
+            object,
+            position,
+        };
+        answer(&mut Reader::new(&w.bytes, Wrong::None), &request)
+    };
+    let most = u64::MAX;
+    let end = format!("reason=past end page=6 until={most}");
+    let lines = [
+        (0, "reason=held page=5 byte=0 until=300"),
+        (299, "reason=held page=5 byte=299 until=300"),
+        (300, "reason=count page=5 until=512"),
+        (511, "reason=count page=5 until=512"),
+        (512, "reason=cut page=4 until=1024"),
+        (1023, "reason=cut page=4 until=1024"),
+        (1024, "reason=held page=6 byte=0 until=1034"),
+        (1033, "reason=held page=6 byte=9 until=1034"),
+        (1034, &end),
+        (1 << 32, &end),
+        (most, &end),
+    ];
+    for (position, line) in lines {
+        assert_eq!(why(None, OBJECT, position).line, line, "{position}");
+    }
+    let values = [(0, 0xFF), (300, 0), (512, 0), (1024, b'0'), (1033, b'9')];
+    for (position, value) in values.into_iter().chain([(1034, 0), (most, 0)]) {
+        assert_eq!(why(None, OBJECT, position).bytes, [value], "{position}");
+    }
+    // before page 6 both the newest header and page 5 end the file at 300
+    let past_lines = [
+        (1, 0, format!("reason=past end page=0 until={most}")),
+        (3, 611, "reason=held page=2 byte=99 until=612".to_string()),
+        (3, 612, format!("reason=past end page=2 until={most}")),
+        (4, 612, format!("reason=past end page=3 until={most}")),
+        (5, 299, "reason=held page=1 byte=299 until=300".to_string()),
+        (5, 300, format!("reason=past end page=4 until={most}")),
+        (6, 300, format!("reason=past end page=5 until={most}")),
+    ];
+    for (before, position, line) in past_lines {
+        let answered = why(Some(before), OBJECT, position);
+        assert_eq!(answered.line, line, "{position} before {before}");
+    }
+    let refused = [
+        (None, 258, "refusal=6"),
+        (None, 0, "refusal=4"),
+        (Some(0), OBJECT, "refusal=6"),
+        (Some(7), OBJECT, "refusal=6"),
+        (Some(7), 0, "refusal=4"),
+        (Some(8), 0, "refusal=14"),
+    ];
+    for (before, object, line) in refused {
+        assert_eq!(why(before, object, 0).line, line);
+    }
+}
+
+/// The runs of W's file, now and before.
+#[test]
+fn spans_of_w() {
+    let w = shelf();
+    let spans = |before, object| {
+        let on = past(before);
+        line(&w, Request::Spans { on, object })
+    };
+    let now = "size=1034 spans=0:held:5,300:count:5,512:cut:4,1024:held:6";
+    assert_eq!(spans(None, OBJECT), now);
+    let older = "size=612 spans=0:held:1,512:held:2";
+    assert_eq!(spans(Some(4), OBJECT), older);
+    assert_eq!(spans(Some(1), OBJECT), "size=0 spans=");
+    assert_eq!(spans(None, 258), "refusal=6");
+}
+
+/// A header that claims 4 GiB: a hole of many chunks is one run, also where
+/// chunks have no numbers any more. What a header cuts over several chunks is one
+/// run, and a newer header that cuts higher up begins another.
+#[test]
+fn long_runs() {
+    let mut w = Builder::new(LAYOUT, 8);
+    data(&mut w, 0, 4097, 1, 512);
+    data(&mut w, 1, 4097, 2, 512);
+    data(&mut w, 2, 4097, 4, 100);
+    header(&mut w, 3, 4097, 200, 1);
+    header(&mut w, 4, 4097, 700, 1);
+    header(&mut w, 5, 4097, u32::MAX, 0);
+    let on = past(None);
+    let object = OBJECT;
+    let runs = "0:held:0,200:cut:3,700:cut:4,1024:no copy,1536:cut:4,2048:no copy";
+    let size = u32::MAX;
+    let spans = Request::Spans { on, object };
+    assert_eq!(line(&w, spans), format!("size={size} spans={runs}"));
+    let why = |position| {
+        let request = Request::Why {
+            on,
+            object,
+            position,
+        };
+        line(&w, request)
+    };
+    assert_eq!(why(1 << 29), format!("reason=no copy until={size}"));
+    assert_eq!(why(600), "reason=cut page=3 until=700");
+    let past = format!("reason=past end page=5 until={}", u64::MAX);
+    assert_eq!(why(size.into()), past);
 }
 
 /// K decides the refusals of its own call and nothing else.

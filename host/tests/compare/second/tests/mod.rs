@@ -2,3 +2,4 @@ mod corpus;
 mod length;
 mod marked;
 mod script;
+mod why;

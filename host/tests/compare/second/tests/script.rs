@@ -5,6 +5,7 @@ use crate::second::index::{Lent, Over, Reader};
 use crate::second::layout::Named;
 use crate::second::page::FIELDS;
 use crate::second::script::{answer, index_words, Request};
+use crate::second::why::Past;
 use crate::second::wrong::Wrong;
 
 const LENT: Lent = Lent {
@@ -24,8 +25,24 @@ fn requests_as_lines() {
         n,
         buffer,
     };
+    let on = |before| Past { layout, k, before };
     let lines = [
         (Request::Find { k }, "find 4"),
+        (
+            Request::Why {
+                on: on(None),
+                object,
+                position: 400,
+            },
+            "dwhy 512/16/0 4 257 400",
+        ),
+        (
+            Request::Spans {
+                on: on(Some(3)),
+                object,
+            },
+            "dspans 512/16/0 4 257 before=3",
+        ),
         (Request::Counts { layout, k }, "counts 512/16/0 4"),
         (Request::Kind { layout, k, page }, "kind 512/16/0 4 3"),
         (Request::Start { lent, seed: 0 }, "start 6 4 48"),

@@ -1,0 +1,64 @@
+//! `why DUMP OBJECT [POSITION]`: why a byte of a file is what it is, or by runs all
+//! of its bytes.
+
+use super::Opened;
+use crate::failure::Failure;
+use crate::ffi::{self, WhyAnswer};
+use crate::fields::Printer;
+use crate::progress::Progress;
+use crate::reasons::Reason;
+use crate::typed::Typed;
+
+pub fn why(
+    opened: &Opened,
+    object: &Typed,
+    position: Option<u64>,
+    out: &mut Printer<'_>,
+) -> Result<(), Failure> {
+    match position {
+        Some(position) => byte(opened, object, position, out),
+        None => runs(opened, object, out),
+    }
+}
+
+/// One byte, a line for each field, with a sentence behind them.
+fn byte(
+    opened: &Opened,
+    object: &Typed,
+    position: u64,
+    out: &mut Printer<'_>,
+) -> Result<(), Failure> {
+    let progress = Progress::new("going over the pages", None);
+    let reasons = opened.reasons();
+    let answer = reasons.why(object.number, position);
+    let answer = opened.given(answer, opened.asked().of(object))?;
+    let because = reasons.because(object.number, position, answer);
+    opened.check_length()?;
+    drop(progress);
+    let mut fields = Reason::from(answer).fields();
+    if answer.reason != WhyAnswer::PAST_END {
+        fields.push(("value", answer.value.into()));
+    }
+    fields.push(("until", answer.until.into()));
+    fields.push(("because", because.into()));
+    Ok(out.lines(&fields)?)
+}
+
+/// All bytes of the file, a line for each run of one reason and page.
+fn runs(opened: &Opened, object: &Typed, out: &mut Printer<'_>) -> Result<(), Failure> {
+    let progress = Progress::new("going over the pages", None);
+    let (answer, rows) = opened.reasons().spans(object.number);
+    let size = opened.given(answer, opened.asked().of(object))?.size;
+    drop(progress);
+    let progress = Progress::beside_output("printing runs", rows.len() as u64);
+    let on = opened.geometry();
+    let mut runs = rows.iter().map(|&row| ffi::span(on, row)).peekable();
+    while let Some(run) = runs.next() {
+        let until = runs.peek().map_or(size, |next| next.from);
+        let mut fields = vec![("from", run.from.into()), ("until", until.into())];
+        fields.extend(Reason::from(run).fields());
+        out.line(&fields)?;
+        progress.add(1);
+    }
+    Ok(())
+}

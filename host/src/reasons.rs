@@ -1,0 +1,101 @@
+//! Why bytes of a file are what they are: the library's reasons, with the memory
+//! that it is lent for them.
+
+use crate::ffi::{self, Geometry, SpanAnswer, SpansAnswer, WhyAnswer, AS_IT_STANDS};
+use crate::fields::Field;
+use crate::refusal::SHORT_BUFFER;
+
+/// The reasons of a dump, by its layout and K: as it stands, or as it stood before
+/// the record on a page was written.
+#[derive(Clone, Copy)]
+pub struct Reasons<'d> {
+    pub dump: &'d [u8],
+    pub on: Geometry,
+    pub before: Option<u32>,
+}
+
+impl Reasons<'_> {
+    /// Why the byte at a position is what it is.
+    pub fn why(self, object: u32, position: u64) -> WhyAnswer {
+        let ask = |rows: &mut [u64]| {
+            ffi::dump_why(self.dump, self.on, self.page(), object, position, rows)
+        };
+        let answer = ask(&mut []);
+        match answer.refusal {
+            SHORT_BUFFER => ask(&mut vec![0; answer.need as usize]),
+            _ => answer,
+        }
+    }
+
+    /// The runs of a file, a row for each.
+    pub fn spans(self, object: u32) -> (SpansAnswer, Vec<u64>) {
+        let ask = |rows: &mut [u64]| ffi::dump_spans(self.dump, self.on, self.page(), object, rows);
+        let mut rows = Vec::new();
+        let mut answer = ask(&mut rows);
+        if answer.refusal == SHORT_BUFFER {
+            rows = vec![0; answer.need as usize];
+            answer = ask(&mut rows);
+        }
+        rows.truncate(answer.count as usize);
+        (answer, rows)
+    }
+
+    fn page(self) -> u32 {
+        self.before.unwrap_or(AS_IT_STANDS)
+    }
+}
+
+/// A reason: its number, and what it names where it does.
+#[derive(Clone, Copy, Debug, PartialEq, Eq)]
+pub struct Reason {
+    pub number: u32,
+    page: u32,
+    byte: u32,
+}
+
+impl From<WhyAnswer> for Reason {
+    fn from(answer: WhyAnswer) -> Reason {
+        let WhyAnswer { page, byte, .. } = answer;
+        let number = answer.reason;
+        Reason { number, page, byte }
+    }
+}
+
+impl From<SpanAnswer> for Reason {
+    fn from(answer: SpanAnswer) -> Reason {
+        let SpanAnswer { page, byte, .. } = answer;
+        let number = answer.reason;
+        Reason { number, page, byte }
+    }
+}
+
+impl Reason {
+    pub fn name(self) -> &'static str {
+        match self.number {
+            WhyAnswer::HELD => "held",
+            WhyAnswer::NO_COPY => "no copy",
+            WhyAnswer::CUT => "cut",
+            WhyAnswer::COUNT => "count",
+            WhyAnswer::PAST_END => "past end",
+            _ => "unknown",
+        }
+    }
+
+    /// The page that it names: a hole has none.
+    pub fn page(self) -> Option<u32> {
+        (self.number != WhyAnswer::NO_COPY).then_some(self.page)
+    }
+
+    /// Which data byte of the page is held.
+    pub fn byte(self) -> Option<u32> {
+        (self.number == WhyAnswer::HELD).then_some(self.byte)
+    }
+
+    /// The reason and what it names.
+    pub fn fields(self) -> Vec<Field<'static>> {
+        let mut fields = vec![("reason", self.name().into())];
+        fields.extend(self.page().map(|page| ("page", page.into())));
+        fields.extend(self.byte().map(|byte| ("byte", byte.into())));
+        fields
+    }
+}
