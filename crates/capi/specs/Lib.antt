@@ -3,3 +3,4 @@ pub mod Counts
 pub mod Kinds
 pub mod Headers
 pub mod Lookups
+pub mod Reasons

@@ -7,4 +7,5 @@ pub mod header;
 pub mod indexed;
 pub mod kind;
 pub mod layout;
+pub mod reasons;
 pub mod text;

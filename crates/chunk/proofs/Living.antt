@@ -216,7 +216,7 @@ module _ (says : ℕ → Record) where
         record { header = w .page; newest-header = rw (w .bears) at (r .0); kept = r .1 }
 
   -- an object with a record among the first n pages has some there
-  record-some : (o p n : ℕ) → p < n → isOf o (says p) ≡ true → records says o n ≡ 0 → ⊥
+  pub record-some : (o p n : ℕ) → p < n → isOf o (says p) ≡ true → records says o n ≡ 0 → ⊥
   record-some o p zero h t e = not-suc-le-zero h
   record-some o p (suc n) h t e =
       let f : records says o (n + 1) ≡ 0 = rw add-one e in

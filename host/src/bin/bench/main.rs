@@ -18,7 +18,9 @@
 //! each link that it meets. `table` is the rows of the long file, by one walk on
 //! both sides, and `copies` its shown copies; `read` is every short file and
 //! `long` the long one, each by its table, and both sides copy each piece of the
-//! dump to the same buffer.
+//! dump to the same buffer. `spans` is why each byte of the long file is what it
+//! is, and `spans short` of a short one, from the dump alone: plain Rust goes over
+//! it once, and keeps the object's records.
 //!
 //! `bench hostile` measures the commands on dumps that are made to be slow.
 
@@ -29,6 +31,7 @@ mod hostile;
 mod index;
 mod plain;
 mod sleuthkit;
+mod spans;
 mod timing;
 
 use std::cell::RefCell;
@@ -42,6 +45,7 @@ use std::process::{self, ExitCode};
 use lohenarr::dump::Dump;
 use lohenarr::ffi::{self, Geometry};
 use lohenarr::objects::Objects;
+use lohenarr::reasons::Reasons;
 
 use dump::LONG;
 use index::Index;
@@ -117,7 +121,27 @@ fn pages(dump: &[u8], rounds: usize) {
         },
         || plain::counts(dump, on.layout),
     );
+    for (name, object) in [("spans", LONG), ("spans short", LONG + 1)] {
+        timing::compare(
+            name,
+            rounds,
+            || reasons(dump, on, object),
+            || spans::spans(dump, on.layout, object),
+        );
+    }
     lookups(dump, on, rounds);
+}
+
+/// The runs of a live file, by the library.
+fn reasons(dump: &[u8], on: Geometry, object: u32) -> Option<Vec<spans::Span>> {
+    let reasons = Reasons {
+        dump,
+        on,
+        before: None,
+    };
+    let (answer, rows) = reasons.spans(object);
+    let spans = rows.into_iter().map(|row| ffi::span(on, row));
+    (answer.refusal == 0).then(|| spans.map(|s| (s.from, s.reason, s.page)).collect())
 }
 
 /// The index of every page, and lookups by it.

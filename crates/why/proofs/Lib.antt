@@ -1,0 +1,16 @@
+pub mod Latest
+pub mod Places
+pub mod Marking
+pub mod Putting
+pub mod Setting
+pub mod InPlace
+pub mod Finding
+pub mod Meaning
+pub mod Until
+pub mod Found
+pub mod Filing
+pub mod Shown
+pub mod Sighted
+pub mod Still
+pub mod Sweeping
+pub mod Filling

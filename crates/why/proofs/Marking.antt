@@ -1,0 +1,173 @@
+-- The marks of a file: which there are, and what each of them says.
+use Prim.Native.Nat.{ℕ, zero, suc, _+_, _≤_, _<_, min}
+use mathlib.Core.Bool.{true, false}
+use mathlib.Core.List.{List, [], _∷_, _++_}
+use mathlib.Core.Logic.{_⊎_, inl, inr, ⊎-elim}
+use mathlib.Core.Path.{_≡_, refl, ap}
+use native.Mathlib.Nat.{not-suc-le-zero, le-of-suc-le-suc, eq-or-lt-of-le, le-refl}
+use native.Mathlib.Omega.{arith}
+use lib.Dec.{eqb, ltb}
+use borrow.Author.Tests.{eqb-true, eq-eqb, ltb-true, lt-ltb}
+use Rattle.page.specs.Numbers.{badChunk, pageValues}
+use Rattle.page.specs.declared.record.Record.{Record}
+use Rattle.page.specs.declared.record.Record.the-variants.{Other, Header, Data}
+use Rattle.page.proofs.Layouts.{and-right}
+use Rattle.page.proofs.Searching.{clash, by-test}
+use Rattle.page.proofs.Within.{chunk-good}
+use Rattle.sort.proofs.Ascending.{In}
+use Rattle.chunk.specs.Gather.{gather}
+use Rattle.chunk.specs.Records.{headerOf, countOf, baseOf}
+use Rattle.chunk.specs.Newest.{copyOf}
+use Rattle.chunk.specs.Cuts.{cutOf}
+use Rattle.chunk.specs.declared.cut.Cut.{Cut}
+use Rattle.chunk.specs.declared.cut.Cut.the-variants.{At, Nowhere}
+use Rattle.why.specs.Marks.{places, noPage, markOf, placeOf, pageOn, cutMarks, marksOf, marksTo}
+
+-- members of two lists one behind the other
+pub in-front : (x : ℕ) (A B : List ℕ) → In x A → In x (A ++ B)
+in-front x [] B i = absurd i
+in-front x (a ∷ A) B (inl e) = inl e
+in-front x (a ∷ A) B (inr i) = inr (in-front x A B i)
+
+pub in-behind : (x : ℕ) (A B : List ℕ) → In x B → In x (A ++ B)
+in-behind x [] B i = i
+in-behind x (a ∷ A) B i = inr (in-behind x A B i)
+
+pub in-parts : (x : ℕ) (A B : List ℕ) → In x (A ++ B) → In x A ⊎ In x B
+in-parts x [] B i = inr i
+in-parts x (a ∷ A) B (inl e) = inl (inl e)
+in-parts x (a ∷ A) B (inr i) = ⊎-elim (λ j. inl (inr j)) (λ j. inr j) (in-parts x A B i)
+
+-- object o of a dump of n pages, whose newest header is h
+module _ (says : ℕ → Record) (P o h : ℕ) where
+  -- page p is a header that cuts at a
+  pub record IsCut (n p a : ℕ) : Type 0 where
+    pub below : p < n
+    pub header : headerOf o (says p) ≡ true
+    pub cuts : cutOf (eqb p h) (says p) ≡ At a
+    pub inside : a < places
+
+  -- page p is data of chunk c
+  pub record IsCopy (n p c : ℕ) : Type 0 where
+    pub below : p < n
+    pub copy : copyOf o c (says p) ≡ true
+    pub good : badChunk c ≡ false
+
+  -- what a mark is: that of a header, that of a copy's begin, or one without a page
+  pub data Mark (n k : ℕ) : Type 0 where
+    cut : (p a : ℕ) → IsCut n p a → k ≡ markOf a p → Mark n k
+    copy : (p c : ℕ) → IsCopy n p c → k ≡ markOf (baseOf P c) p → Mark n k
+    bare : (place c : ℕ) → badChunk c ≡ false → place ≤ baseOf P c + P → k ≡ markOf place noPage → Mark n k
+
+  more-mark : (n k : ℕ) → Mark n k → Mark (suc n) k
+  more-mark n k (cut p a i e) = cut p a record { below = omega (arith, i .below); header = i .header; cuts = i .cuts; inside = i .inside } e
+  more-mark n k (copy p c i e) = copy p c record { below = omega (arith, i .below); copy = i .copy; good = i .good } e
+  more-mark n k (bare x c g l e) = bare x c g l e
+
+  pub marks-none : marksTo says P o h 0 ≡ markOf 0 noPage ∷ []
+  unfolding marksTo gather
+  marks-none = refl
+
+  pub marks-suc : (n : ℕ) → marksTo says P o h (suc n) ≡ marksTo says P o h n ++ marksOf P o h n (says n)
+  unfolding marksTo gather
+  marks-suc n = refl
+
+  -- the marks of one page
+  of-cut : (n k : ℕ) (r : Cut) → headerOf o (says n) ≡ true → cutOf (eqb n h) (says n) ≡ r → In k (cutMarks n r) → Mark (suc n) k
+  of-cut n k Nowhere t e i = absurd i
+  of-cut n k (At a) t e i =
+      by-test (ltb a places) _
+      (λ u. ⊎-elim (λ j. cut n a record { below = le-refl _; header = t; cuts = e; inside = ltb-true _ _ u } j) (λ j. absurd j) (rw u at i))
+      (λ u. absurd (rw u at i))
+
+  of-page : (n k : ℕ) (r : Record) → says n ≡ r → In k (marksOf P o h n r) → Mark (suc n) k
+  of-page n k Other e i = absurd i
+  of-page n k (Header f) e i =
+      by-test (eqb (f .object .0) o) _
+      (λ t. of-cut n k (cutOf (eqb n h) (Header f)) (rw (e, t)) (ap (cutOf (eqb n h)) e) (rw t at i))
+      (λ t. absurd (rw t at i))
+  of-page n k (Data d) e i =
+      by-test (eqb (d .object .0) o) _
+      (λ t.
+      by-test (badChunk (d .chunk .0)) _
+      (λ u. absurd (rw (t, u) at i))
+      (λ u. of-data t u (rw (t, u) at i)))
+      (λ t. absurd (rw t at i))
+    where
+      of-data :
+          eqb (d .object .0) o ≡ true → badChunk (d .chunk .0) ≡ false →
+          In k (markOf (baseOf P (d .chunk .0)) n ∷ markOf (baseOf P (d .chunk .0) + min (d .count) P) noPage ∷ markOf (baseOf P (d .chunk .0) + P) noPage ∷ []) →
+          Mark (suc n) k
+      of-data t u (inl j) = copy n (d .chunk .0) record { below = le-refl _; copy = rw (e, t) (eq-eqb (d .chunk .0) (d .chunk .0) refl); good = u } j
+      of-data t u (inr (inl j)) = bare (baseOf P (d .chunk .0) + min (d .count) P) (d .chunk .0) u (omega arith) j
+      of-data t u (inr (inr (inl j))) = bare (baseOf P (d .chunk .0) + P) (d .chunk .0) u (omega arith) j
+      of-data t u (inr (inr (inr j))) = absurd j
+
+  -- every mark is one of these
+  pub mark-of : (n k : ℕ) → In k (marksTo says P o h n) → Mark n k
+  mark-of zero k i = ⊎-elim (λ e. bare 0 1 (chunk-good 1 (record { least = omega arith; most = omega arith })) (omega arith) e) (λ j. absurd j) (rw marks-none at i)
+  mark-of (suc n) k i =
+      ⊎-elim (λ j. more-mark n k (mark-of n k j)) (λ j. of-page n k (says n) refl j) (in-parts k (marksTo says P o h n) (marksOf P o h n (says n)) (rw (marks-suc n) at i))
+
+  -- the begin is marked
+  pub begin-marked : (n : ℕ) → In (markOf 0 noPage) (marksTo says P o h n)
+  begin-marked zero = rw marks-none (inl refl)
+  begin-marked (suc n) = rw (marks-suc n) (in-front (markOf 0 noPage) (marksTo says P o h n) (marksOf P o h n (says n)) (begin-marked n))
+
+  -- what a page marks, all marks have
+  page-marked : (n p k : ℕ) → p < n → In k (marksOf P o h p (says p)) → In k (marksTo says P o h n)
+  page-marked zero p k b i = absurd (not-suc-le-zero b)
+  page-marked (suc n) p k b i =
+      rw (marks-suc n)
+      (⊎-elim
+      (λ (e : p ≡ n). in-behind k (marksTo says P o h n) (marksOf P o h n (says n)) (rw e at i))
+      (λ (j : p < n). in-front k (marksTo says P o h n) (marksOf P o h n (says n)) (page-marked n p k j i))
+      (eq-or-lt-of-le (le-of-suc-le-suc b)))
+
+  -- a header is marked where it cuts
+  pub cut-marked : (n p a : ℕ) → IsCut n p a → In (markOf a p) (marksTo says P o h n)
+  cut-marked n p a c = page-marked n p _ (c .below) (go (says p) (c .header) (c .cuts))
+    where
+      go : (r : Record) → headerOf o r ≡ true → cutOf (eqb p h) r ≡ At a → In (markOf a p) (marksOf P o h p r)
+      go Other t e = clash (cc)
+      go (Data d) t e = let z : false ≡ true = and-right (eqb (d .object .0) o) false t in clash (cc)
+      go (Header f) t e = by-test (eqb (f .object .0) o) _ (λ u. rw (u, e, lt-ltb _ _ (c .inside)) (inl refl)) (λ u. let z : false ≡ true = rw u at t in clash (cc))
+
+  -- data is marked where it begins, where its bytes end and where its page does
+  copy-marks :
+      (n p c : ℕ) → IsCopy n p c →
+      (k : ℕ) → In k (markOf (baseOf P c) p ∷ markOf (baseOf P c + min (countOf (says p)) P) noPage ∷ markOf (baseOf P c + P) noPage ∷ []) →
+      In k (marksTo says P o h n)
+  copy-marks n p c w k i = page-marked n p k (w .below) (go (says p) (w .copy) i)
+    where
+      go :
+          (r : Record) → copyOf o c r ≡ true → In k (markOf (baseOf P c) p ∷ markOf (baseOf P c + min (countOf r) P) noPage ∷ markOf (baseOf P c + P) noPage ∷ []) →
+          In k (marksOf P o h p r)
+      go Other t j = clash (cc)
+      go (Header f) t j = let z : false ≡ true = and-right (eqb (f .object .0) o) false t in clash (cc)
+      go (Data d) t j =
+          by-test (eqb (d .object .0) o) _
+          (λ u.
+          let e : d .chunk .0 ≡ c = eqb-true _ _ (rw u at t) in
+          rw (u, e, w .good) j)
+          (λ u. let z : false ≡ true = rw u at t in clash (cc))
+
+  pub copy-marked : (n p c : ℕ) → IsCopy n p c → In (markOf (baseOf P c) p) (marksTo says P o h n)
+  copy-marked n p c w = copy-marks n p c w _ (inl refl)
+
+  pub count-marked : (n p c : ℕ) → IsCopy n p c → In (markOf (baseOf P c + min (countOf (says p)) P) noPage) (marksTo says P o h n)
+  count-marked n p c w = copy-marks n p c w _ (inr (inl refl))
+
+  pub end-marked : (n p c : ℕ) → IsCopy n p c → In (markOf (baseOf P c + P) noPage) (marksTo says P o h n)
+  end-marked n p c w = copy-marks n p c w _ (inr (inr (inl refl)))
+
+-- the place and the page of a mark
+pub mark-place : (a p : ℕ) → p < pageValues → placeOf (markOf a p) ≡ a
+mark-place a p h = omega arith
+
+pub mark-page : (a p : ℕ) → p < pageValues → pageOn (markOf a p) ≡ p
+mark-page a p h = omega arith
+
+-- marks in order have their places in order
+pub place-le : (k m : ℕ) → k ≤ m → placeOf k ≤ placeOf m
+place-le k m h = omega arith

@@ -1,0 +1,173 @@
+-- The page and the object are refused first, and then too few words; a position behind the end has its setter, and another what is found in the spans.
+use Prim.Native.Nat.{ℕ}
+use mathlib.Core.List.{List}
+use mathlib.Core.Path.{_≡_, _∙_}
+use native.Mathlib.Omega.{arith}
+use borrow.Author.Needs.{needs}
+use borrow.Author.Tests.{lt-ltb, le-ltb}
+use lib.ListN.{length}
+use Rattle.page.specs.Records.{recordAt}
+use Rattle.chunk.specs.Sizes.{sizeOf}
+use Rattle.chunk.specs.Takes.{seenBy}
+use Rattle.why.specs.Reasons.{spansOf}
+use Rattle.why.specs.Answers.{foundIn, whyOn, whyLeft}
+use Rattle.why.proofs.Filling.{opened-sized, rows-inside, rows-front, rows-cleared, found-tells, past-tells}
+use Rattle.why.proofs.Finding.{found-below}
+use Rattle.why.proofs.byte.why_in.Statement.{statement}
+use Rattle.why.proofs.byte.why_in.Tie as tie
+
+count-marks-requires : tie.Need-count-marks-requires
+count-marks-requires c κs =
+    let s = c .before .before .before .before .before .before .before in
+    let z = opened-sized (s .args .g) (length (s .args .dump .now)) (s .args .pages) (s .pre) in
+    (z .pages, z .most)
+
+returns : tie.Need-returns
+unfolding whyOn whyLeft
+returns c =
+    let n = c .before in
+    let f = n .before .before in
+    let k = f .before .before in
+    let t = k .before in
+    let e = t .before .before .before .pre in (
+      rw (e, ← t .takes .ensures, ← k .file-in .ensures, f .f2 .given .1, ← n .count-marks .ensures, lt-ltb _ _ (c .if1 .taken)),
+      rw (e, ← t .takes .ensures, ← k .file-in .ensures, f .f2 .given .1, ← n .count-marks .ensures, lt-ltb _ _ (c .if1 .taken)),
+    )
+
+returns-2 : tie.Need-returns-2
+unfolding whyOn whyLeft
+returns-2 c =
+    let l = c .before .before .before in
+    let x = l .before .before in
+    let z = x .before in
+    let b = z .before in
+    let n = b .before in
+    let f = n .before .before in
+    let k = f .before .before in
+    let t = k .before in
+    let s = t .before .before .before in
+    let a = s .args in
+    let p =
+    past-tells (seenBy (t .takes .result) (recordAt (a .g) (a .dump .now))) (a .g .layout .«data») (a .o .0) (a .pages) (f .f2 .given .0 .0 .0) (a .x)
+    (rw (z .size-of .ensures) at (x .if2 .taken)) in (
+      rw (s .pre, ← t .takes .ensures, ← k .file-in .ensures, f .f2 .given .1, ← n .count-marks .ensures, le-ltb _ _ (b .if1 .left), ← p .0, ← p .1, ← c .setter .ensures),
+      rw (s .pre, ← t .takes .ensures, ← k .file-in .ensures, f .f2 .given .1, ← n .count-marks .ensures, le-ltb _ _ (b .if1 .left)) (l .clear .ensures),
+    )
+
+fill-requires : tie.Need-fill-requires
+fill-requires c κs =
+    let z = c .before .before in
+    let n = z .before .before in
+    (n .before .before .before .before .before .before .before .before .pre, (z .size-of .ensures, (n .count-marks .ensures, z .before .if1 .left)))
+
+-- the spans that the words are filled with
+abbrev spans : tie.After-fill → List ℕ
+spans c =
+    let f = c .before .before .before .before .before .before .before in
+    let t = f .before .before .before in
+    let a = t .before .before .before .args in
+    spansOf (seenBy (t .takes .result) (recordAt (a .g) (a .dump .now))) (a .g .layout .«data») (a .o .0) (a .pages) (f .f2 .given .0 .0 .0)
+
+find-requires : tie.Need-find-requires
+find-requires c κs =
+    let r = c .before .before in
+    let d = r .before in
+    let b = d .before .before .before .before in
+    rw (d .fill .ensures .0)
+    (rows-inside (spans d) (b .before .before .before .before .before .before .before .before .before .args .rows .now) (b .before .count-marks .result) (b .if1 .left) _
+    (d .fill .ensures .1) (r .rows2 .given))
+
+-- what is found is found in them
+found :
+    (c : tie.After-find) →
+    let d = c .before .before .before .before in
+    let f = d .before .before .before .before .before .before .before in
+    let t = f .before .before .before in
+    let a = t .before .before .before .args in
+    c .find .result ≡ foundIn (a .x) (sizeOf (seenBy (t .takes .result) (recordAt (a .g) (a .dump .now))) (a .g .layout .«data») (a .o .0) (f .f2 .given .0 .0 .0) (a .pages)) 0 (spans d)
+found c =
+    let r = c .before .before .before in
+    let d = r .before in
+    let z = d .before .before .before in
+    let b = z .before in
+    let front =
+    rows-front (spans d) (b .before .before .before .before .before .before .before .before .before .args .rows .now) (b .before .count-marks .result) (b .if1 .left) _
+    (d .fill .ensures .1) (r .rows2 .given)
+    in
+    c .find .ensures ∙ rw (d .fill .ensures .0, front, z .size-of .ensures)
+
+of-requires : tie.Need-of-requires
+of-requires c κs =
+    let d = c .before .before .before .before .before in
+    rw (d .find .ensures) (found-below _ _ 0 _ (omega arith))
+
+returns-3 : tie.Need-returns-3
+unfolding whyOn whyLeft
+returns-3 c =
+    let f = c .before in
+    let k = f .before .before in
+    let t = k .before in
+    let e = t .before .before .before .pre in
+    (rw (e, ← t .takes .ensures, ← k .file-in .ensures, f .f .given .1), rw (e, ← t .takes .ensures, ← k .file-in .ensures, f .f .given .1))
+
+returns-4 : tie.Need-returns-4
+unfolding whyOn whyLeft
+returns-4 c =
+    let l = c .before .before .before .before in
+    let i = l .before .before in
+    let r = i .before .before .before in
+    let d = r .before in
+    let x = d .before .before in
+    let z = x .before in
+    let b = z .before in
+    let n = b .before in
+    let f = n .before .before in
+    let k = f .before .before in
+    let t = k .before in
+    let s = t .before .before .before in
+    let a = s .args in
+    let p =
+    found-tells (seenBy (t .takes .result) (recordAt (a .g) (a .dump .now))) (a .g .layout .«data») (a .o .0) (a .pages) (f .f2 .given .0 .0 .0) (a .x)
+    (opened-sized (a .g) (length (a .dump .now)) (a .pages) (s .pre)) (rw (z .size-of .ensures) at (x .if2 .left)) (i .find .result) (found i)
+    in
+    let clear = rows-cleared (spans d) (a .rows .now) (n .count-marks .result) (b .if1 .left) _ (d .fill .ensures .1) (r .rows2 .given) _ (l .clear2 .ensures) in (
+      rw (
+        s .pre,
+        ← t .takes .ensures,
+        ← k .file-in .ensures,
+        f .f2 .given .1,
+        ← n .count-marks .ensures,
+        le-ltb _ _ (b .if1 .left),
+        ← p .0,
+        ← p .1,
+        c .of .ensures,
+        c .before .byte-at .ensures,
+      ),
+      rw (s .pre, ← t .takes .ensures, ← k .file-in .ensures, f .f2 .given .1, ← n .count-marks .ensures, le-ltb _ _ (b .if1 .left)) clear,
+    )
+
+pub why-in-spec : {M : Type 1} → statement M
+why-in-spec =
+    tie.close
+    (tie.spec
+    (search needs)
+    (search needs)
+    (search needs)
+    (search needs)
+    count-marks-requires
+    (search needs)
+    returns
+    (search needs)
+    (search needs)
+    (search needs)
+    (search needs)
+    returns-2
+    fill-requires
+    (search needs)
+    find-requires
+    (search needs)
+    (search needs)
+    of-requires
+    returns-3
+    (search needs)
+    returns-4)

@@ -1,0 +1,97 @@
+-- The loop's invariant: the marks of the pages passed stand in front of the words, and the place behind them is known.
+use Prim.Native.Nat.{_≤_, _-_}
+use mathlib.Core.Path.{_≡_, _∙_}
+use native.Mathlib.Omega.{arith}
+use borrow.Author.Needs.{needs}
+use lib.ListN.{length, set, length-set}
+use Rattle.page.specs.Records.{recordAt}
+use Rattle.chunk.specs.Takes.{seenBy}
+use Rattle.why.specs.Marks.{marksIn, marksOf, marksTo}
+use Rattle.why.proofs.Putting.{Filled, marks-some, fill-none, fill-room, fill-more, fill-end}
+use Rattle.why.proofs.marks.fill_marks.Statement.{statement}
+use Rattle.why.proofs.marks.fill_marks.Tie as tie
+
+abbrev Inv-loop : tie.InvT-loop
+Inv-loop dump g t pages o h rows₀ at₀ i₀ rows at i = Filled (seenBy t (recordAt g dump)) (g .layout .«data») (o .0) (h .0) pages rows₀ rows at i
+
+abbrev μ-loop : tie.MeasureT-loop
+μ-loop dump g t pages o h rows₀ at₀ i₀ rows at i = pages - i
+
+slice-write-rows : tie.Need-slice-write-rows Inv-loop μ-loop
+slice-write-rows c =
+    let s = c .before .before .before in
+    let a = s .args in
+    omega (arith, marks-some (seenBy (a .t) (recordAt (a .g) (a .dump .now))) (a .g .layout .«data») (a .o .0) (a .h .0) (a .pages), s .pre .1 .1)
+
+loop-holds : tie.Need-loop-holds Inv-loop μ-loop
+loop-holds c =
+    let s = c .before .before .before in
+    let a = s .args in
+    let says = seenBy (a .t) (recordAt (a .g) (a .dump .now)) in
+    fill-none says (a .g .layout .«data») (a .o .0) (a .h .0) (a .pages) (c .mark .result) (a .rows .now) (c .mark .ensures)
+    (omega (arith, marks-some says (a .g .layout .«data») (a .o .0) (a .h .0) (a .pages), s .pre .1 .1))
+
+-- all marks have room in the words, and those of the page are the definition's
+room :
+    (c : tie.After-mark Inv-loop μ-loop) →
+    let a = c .before .before .before .args in
+    length (marksTo (seenBy (a .t) (recordAt (a .g) (a .dump .now))) (a .g .layout .«data») (a .o .0) (a .h .0) (a .pages)) ≤ length (set (a .rows .now) 0 (c .mark .result))
+room c = let s = c .before .before .before in rw (length-set (s .args .rows .now) 0 (c .mark .result)) (s .pre .1 .1)
+
+made :
+    (c : tie.After-marks-of Inv-loop μ-loop) →
+    let q = c .before .before .before .loop in
+    let a = c .before .before .before .before .before .before .before .args in
+    marksIn (c .marks-of .result) ≡ marksOf (a .g .layout .«data») (a .o .0) (a .h .0) (q .i) (seenBy (a .t) (recordAt (a .g) (a .dump .now)) (q .i))
+made c = rw (← c .before .seen-at .ensures) (c .marks-of .ensures)
+
+put-requires : tie.Need-put-requires Inv-loop μ-loop
+put-requires c κs =
+    let m = c .before in
+    let t = m .before .before in
+    let q = t .before .loop in
+    let k = t .before .before in
+    let a = k .before .before .before .args in
+    fill-room (seenBy (a .t) (recordAt (a .g) (a .dump .now))) (a .g .layout .«data») (a .o .0) (a .h .0) (a .pages) (set (a .rows .now) 0 (k .mark .result)) (room k)
+    (q .rows) (q .at) (q .i) (q .inv) (t .loop-test .taken) (marksIn (m .marks-of .result)) (made m)
+
+loop-again : tie.Need-loop-again Inv-loop μ-loop
+loop-again c =
+    let p = c .before .before in
+    let m = p .before .before in
+    let t = m .before .before in
+    let q = t .before .loop in
+    let k = t .before .before in
+    let a = k .before .before .before .args in
+    rw (p .put .ensures .1, p .put .ensures .0)
+    (fill-more (seenBy (a .t) (recordAt (a .g) (a .dump .now))) (a .g .layout .«data») (a .o .0) (a .h .0) (a .pages) (set (a .rows .now) 0 (k .mark .result)) (room k)
+    (q .rows) (q .at) (q .i) (q .inv) (t .loop-test .taken) (marksIn (m .marks-of .result)) (made m))
+
+same-length : tie.Need-same-length Inv-loop μ-loop
+same-length c = let k = c .before .before in c .before .loop .inv .long ∙ length-set (k .before .before .before .args .rows .now) 0 (k .mark .result)
+
+returns : tie.Need-returns Inv-loop μ-loop
+returns c =
+    let q = c .before .loop in
+    let k = c .before .before in
+    let a = k .before .before .before .args in
+    fill-end (seenBy (a .t) (recordAt (a .g) (a .dump .now))) (a .g .layout .«data») (a .o .0) (a .h .0) (a .pages) (k .mark .result) (a .rows .now)
+    (q .rows) (q .at) (q .i) (q .inv) (c .loop-test .left)
+
+pub fill-marks-spec : {M : Type 1} → statement M
+fill-marks-spec =
+    tie.close
+    (tie.spec
+    Inv-loop
+    μ-loop
+    (search needs)
+    slice-write-rows
+    loop-holds
+    (search needs)
+    (λ c κs. (omega (arith, c .before .loop-test .taken, c .before .before .before .before .before .before .pre .0), c .before .before .before .before .before .before .pre .1 .0))
+    put-requires
+    (search needs)
+    (search needs)
+    loop-again
+    same-length
+    returns)

@@ -1,0 +1,112 @@
+-- The loop's invariant: the newest page of those passed that sets the size.
+use Prim.Native.Nat.{ℕ, _≤_, _-_}
+use mathlib.Core.Bool.{Bool, true, false}
+use mathlib.Core.Path.{_≡_, sym, ap, _∙_}
+use native.Mathlib.Omega.{arith}
+use borrow.Author.Needs.{needs}
+use borrow.Author.Tests.{not-true, not-false}
+use Rattle.page.specs.Records.{recordAt}
+use Rattle.chunk.specs.Takes.{seenBy}
+use Rattle.chunk.specs.Records.{ageOf}
+use Rattle.chunk.specs.Newest.{newestWhere}
+use Rattle.chunk.specs.Scans.{newestIn}
+use Rattle.chunk.proofs.Gathering.{where-none, where-skip, where-take, later-in}
+use Rattle.why.specs.Reasons.{setsBy}
+use Rattle.why.proofs.Setting.{setter-none, setter-some}
+use Rattle.why.proofs.setter.setter.Statement.{statement}
+use Rattle.why.proofs.setter.setter.Tie as tie
+
+abbrev Inv-loop : tie.InvT-loop
+Inv-loop dump g t pages o h size age best₀ i₀ best i =
+    let says = seenBy t (recordAt g dump) in
+    (i ≤ pages) × (best ≡ newestIn says (newestWhere says (λ p. setsBy (g .layout .«data») (o .0) (h .0) age size p (says p)) i))
+
+abbrev μ-loop : tie.MeasureT-loop
+μ-loop dump g t pages o h size age best₀ i₀ best i = pages - i
+
+loop-holds : tie.Need-loop-holds Inv-loop μ-loop
+loop-holds c = (search needs, rw where-none)
+
+loop-again : tie.Need-loop-again Inv-loop μ-loop
+loop-again c =
+    let k = c .before .before in
+    let q = k .before .before .loop in
+    let age = k .before .before .before .order-of .result in
+    let a = k .before .before .before .before .before .before .before .args in
+    let says = seenBy (a .t) (recordAt (a .g) (a .dump .now)) in
+    let t : setsBy (a .g .layout .«data») (a .o .0) (a .h .0) age (a .size) (q .i) (says (q .i)) ≡ false =
+    rw (← k .seen-at2 .ensures, ← c .before .sets-size .ensures) (not-true (c .before .sets-size .result) (c .if1 .taken))
+    in
+    (search needs, q .inv .1 ∙ ap (newestIn says) (sym (where-skip says (λ p. setsBy (a .g .layout .«data») (a .o .0) (a .h .0) age (a .size) p (says p)) (q .i) t)))
+
+loop-again-2 : tie.Need-loop-again-2 Inv-loop μ-loop
+loop-again-2 c =
+    let e = c .before .before .before in
+    let k = e .before .before in
+    let q = k .before .before .loop in
+    let age = k .before .before .before .order-of .result in
+    let a = k .before .before .before .before .before .before .before .args in
+    let says = seenBy (a .t) (recordAt (a .g) (a .dump .now)) in
+    let test : ℕ → Bool = λ p. setsBy (a .g .layout .«data») (a .o .0) (a .h .0) age (a .size) p (says p) in
+    let t : test (q .i) ≡ true =
+    rw (← k .seen-at2 .ensures, ← e .before .sets-size .ensures) (not-false (e .before .sets-size .result) (e .if1 .left))
+    in
+    let g : c .before .order-of2 .result ≡ ageOf says (q .i) = rw (← k .seen-at2 .ensures, ← c .before .before .sequence-of2 .ensures) (c .before .order-of2 .ensures) in (
+      search needs,
+      c .or-newer .ensures
+          ∙ rw (q .inv .1, g) (later-in says (q .i) (newestWhere says test (q .i)))
+          ∙ ap (newestIn says) (sym (where-take says test (q .i) t)),
+    )
+
+-- the age that is searched above is that of the newest header
+known :
+    (c : tie.After-order-of Inv-loop μ-loop) →
+    let a = c .before .before .before .before .args in
+    c .order-of .result ≡ ageOf (seenBy (a .t) (recordAt (a .g) (a .dump .now))) (a .h .0)
+known c = rw (← c .before .before .seen-at .ensures, ← c .before .sequence-of .ensures) (c .order-of .ensures)
+
+returns : tie.Need-returns Inv-loop μ-loop
+returns c =
+    let q = c .before .before .before .loop in
+    let k = c .before .before .before .before in
+    let e = k .before .before .before .before in
+    let a = e .args in
+    let says = seenBy (a .t) (recordAt (a .g) (a .dump .now)) in
+    let n : q .i ≡ a .pages = omega (arith, q .inv .0, c .before .before .loop-test .left) in
+    setter-none says (a .g .layout .«data») (a .o .0) (a .pages) (a .h .0) (k .order-of .result) (a .size) (known k) (e .pre) (rw n at (sym (q .inv .1) ∙ c .enum-told .given .1))
+
+returns-2 : tie.Need-returns-2 Inv-loop μ-loop
+returns-2 c =
+    let m = c .before in
+    let q = m .before .before .before .loop in
+    let k = m .before .before .before .before in
+    let e = k .before .before .before .before in
+    let a = e .args in
+    let says = seenBy (a .t) (recordAt (a .g) (a .dump .now)) in
+    let n : q .i ≡ a .pages = omega (arith, q .inv .0, m .before .before .loop-test .left) in
+    setter-some says (a .g .layout .«data») (a .o .0) (a .pages) (a .h .0) (k .order-of .result) (a .size) (known k) (e .pre) _ _ (rw n at (sym (q .inv .1) ∙ m .best .given .1))
+
+pub setter-spec : {M : Type 1} → statement M
+setter-spec =
+    tie.close
+    (tie.spec
+    Inv-loop
+    μ-loop
+    (search needs)
+    (search needs)
+    (search needs)
+    loop-holds
+    (search needs)
+    (search needs)
+    (search needs)
+    (search needs)
+    loop-again
+    (search needs)
+    (search needs)
+    (search needs)
+    (search needs)
+    loop-again-2
+    (search needs)
+    (search needs)
+    returns
+    returns-2)
