@@ -14,3 +14,4 @@ pub mod Sighted
 pub mod Still
 pub mod Sweeping
 pub mod Filling
+pub mod Shelf
