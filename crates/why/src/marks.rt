@@ -1,5 +1,5 @@
 // The places of a file at which the reason of its bytes can change: its begin; where a header cuts; where a copy begins, where its bytes end and where its page
-// does. A mark is such a place and the page that begins to matter there, if one does, in one number: first by its place.
+// does, which are one place if they fill it. A mark is such a place and the page that begins to matter there, if one does, in one number: first by its place.
 ghost use mathlib.Core.Bool.{not};
 ghost use mathlib.Core.Path.{_≡_};
 ghost use Prim.Native.Nat.{_+_, _*_, _≤_, _<_};
@@ -14,7 +14,6 @@ ghost use Rattle.why.specs.Marks.{mostData, places, noPage, markOf, plac
 use chunk::cut::Cut;
 use chunk::cut::cut_of;
 use chunk::record::base_of;
-use chunk::record::smaller;
 use chunk::takes::Takes;
 use chunk::takes::seen_at;
 use page::geometry::Geometry;
@@ -64,6 +63,7 @@ pub(crate) fn has_page(page: u32) -> bool
 pub(crate) enum Marks {
     Nothing,
     One(u64),
+    Two(u64, u64),
     Three(u64, u64, u64),
 }
 
@@ -75,6 +75,7 @@ impl Marks {
         match self {
             Marks::Nothing => 0,
             Marks::One(_) => 1,
+            Marks::Two(_, _) => 2,
             Marks::Three(_, _, _) => 3,
         }
     }
@@ -90,6 +91,11 @@ impl Marks {
             Marks::One(a) => {
                 rows[at] = a;
                 at + 1
+            }
+            Marks::Two(a, b) => {
+                rows[at] = a;
+                rows[at + 1] = b;
+                at + 2
             }
             Marks::Three(a, b, c) => {
                 rows[at] = a;
@@ -117,7 +123,7 @@ fn cut_mark(p: PageNumber, cut: Cut) -> Marks
     }
 }
 
-// The marks of the data on page p: where it begins, where its bytes end and where its page ends.
+// The marks of the data on page p: where it begins, where its bytes end if that is before its page does, and where its page ends.
 fn data_marks(data: u32, p: PageNumber, d: Data) -> Marks
     requires { ⌜ p .0 < pageValues ⌝ }
     requires { ⌜ «data» ≤ mostData ⌝ }
@@ -127,9 +133,12 @@ fn data_marks(data: u32, p: PageNumber, d: Data) -> Marks
         return Marks::Nothing;
     }
     let base = base_of(data, d.chunk);
-    let end = base + smaller(d.count as u64, data as u64);
-    let next = base + (data as u64);
-    Marks::Three(mark(base, p.0), mark(end, NO_PAGE), mark(next, NO_PAGE))
+    let begin = mark(base, p.0);
+    let next = mark(base + (data as u64), NO_PAGE);
+    if data <= d.count {
+        return Marks::Two(begin, next);
+    }
+    Marks::Three(begin, mark(base + (d.count as u64), NO_PAGE), next)
 }
 
 // The marks that page p, which is this record, makes for the file of object o, whose newest header is page h.
