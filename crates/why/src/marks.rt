@@ -9,11 +9,18 @@ ghost use lib.Seq.{sets};
 ghost use Rattle.page.specs.Numbers.{pageValues};
 ghost use Rattle.page.specs.Records.{recordAt};
 ghost use Rattle.chunk.specs.Takes.{seenBy};
+ghost use Rattle.chunk.specs.Scans.{endWith};
+ghost use Rattle.chunk.specs.Sizes.{sizeOf};
 ghost use Rattle.chunk.specs.Lists.{inFront};
 ghost use Rattle.why.specs.Marks.{mostData, places, noPage, markOf, placeOf, pageOn, marksIn, cutMarks, dataMarks, marksOf, marksTo};
 use chunk::cut::Cut;
 use chunk::cut::cut_of;
 use chunk::record::base_of;
+use chunk::record::file_size;
+use chunk::record::larger;
+use chunk::record::order_of;
+use chunk::record::sequence_of;
+use chunk::scan::end_with;
 use chunk::takes::Takes;
 use chunk::takes::seen_at;
 use page::geometry::Geometry;
@@ -164,28 +171,54 @@ fn marks_of(data: u32, o: ObjectId, h: PageNumber, p: PageNumber, r: Record) -> 
     }
 }
 
-// How many marks the file of object o has, whose newest header is page h.
-pub(crate) fn count_marks(
+// How many marks a file has, and its size.
+pub(crate) struct Measured {
+    pub marks: u32,
+    pub size: u64,
+}
+
+// The largest end so far, with page p too, which is this record, if it is data of object o that is newer than an age.
+fn end_by(end: u64, data: u32, o: ObjectId, age: u64, p: PageNumber, r: Record) -> u64
+    ensures { λ e. ⌜ e ≡ endWith end «data» (o .0) age (p .0) r ⌝ }
+{
+    match r {
+        Record::Other => end,
+        Record::Header(_) => end,
+        Record::Data(d) => end_with(end, data, o, age, p, d),
+    }
+}
+
+// How many marks the file of object o has, whose newest header is page h, and its size: both by one pass.
+pub(crate) fn measure(
     dump: &[u8],
     g: Geometry,
     t: Takes,
     pages: u32,
     o: ObjectId,
     h: PageNumber,
-) -> u32
+) -> Measured
     requires { ⌜ pages < pageValues ⌝ }
     requires { ⌜ g .layout .«data» ≤ mostData ⌝ }
-    ensures { λ r. ⌜ r ≡ length (marksTo (seenBy t (recordAt g (now (dump .entry)))) (g .layout .«data») (o .0) (h .0) pages) ⌝ }
+    ensures { λ r. ⌜ r .marks ≡ length (marksTo (seenBy t (recordAt g (now (dump .entry)))) (g .layout .«data») (o .0) (h .0) pages) ⌝ }
+    ensures { λ r. ⌜ r .size ≡ sizeOf (seenBy t (recordAt g (now (dump .entry)))) (g .layout .«data») (o .0) (h .0) pages ⌝ }
 {
-    let mut count: u32 = 1;
+    let newest = seen_at(dump, g, t, h);
+    let age = order_of(sequence_of(newest), h);
+    let mut marks: u32 = 1;
+    let mut end: u64 = 0;
     let mut i: u32 = 0;
     while i < pages {
         let p = PageNumber(i);
-        let made = marks_of(g.layout.data, o, h, p, seen_at(dump, g, t, p));
-        count += made.count();
+        let r = seen_at(dump, g, t, p);
+        end = end_by(end, g.layout.data, o, age, p, r);
+        let made = marks_of(g.layout.data, o, h, p, r);
+        marks += made.count();
         i += 1;
     }
-    count
+    Measured {
+        marks,
+        size: larger(file_size(newest) as u64, end),
+    }
 }
 
 // Puts the marks of the file of object o, whose newest header is page h, in front of words that have room for them.
