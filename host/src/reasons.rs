@@ -5,6 +5,10 @@ use crate::ffi::{self, Geometry, SpanAnswer, SpansAnswer, WhyAnswer, AS_IT_STAND
 use crate::fields::Field;
 use crate::refusal::SHORT_BUFFER;
 
+/// Words that are mostly enough for the marks of a file, so that one call is. Those
+/// that are not written cost nothing: the system gives zeroed memory as it is touched.
+const SOME_WORDS: usize = 1 << 18;
+
 /// The reasons of a dump, by its layout and K: as it stands, or as it stood before
 /// the record on a page was written.
 #[derive(Clone, Copy)]
@@ -20,7 +24,7 @@ impl Reasons<'_> {
         let ask = |rows: &mut [u64]| {
             ffi::dump_why(self.dump, self.on, self.page(), object, position, rows)
         };
-        let answer = ask(&mut []);
+        let answer = ask(&mut vec![0; SOME_WORDS]);
         match answer.refusal {
             SHORT_BUFFER => ask(&mut vec![0; answer.need as usize]),
             _ => answer,
@@ -30,7 +34,7 @@ impl Reasons<'_> {
     /// The runs of a file, a row for each.
     pub fn spans(self, object: u32) -> (SpansAnswer, Vec<u64>) {
         let ask = |rows: &mut [u64]| ffi::dump_spans(self.dump, self.on, self.page(), object, rows);
-        let mut rows = Vec::new();
+        let mut rows = vec![0; SOME_WORDS];
         let mut answer = ask(&mut rows);
         if answer.refusal == SHORT_BUFFER {
             rows = vec![0; answer.need as usize];

@@ -87,7 +87,7 @@ pub fn records_since(dump: &[u8], g: Geometry, t: Takes, pages: u32, o: ObjectId
 }
 
 // The largest end so far, with a data page too if it is one of object o that is newer than an age.
-fn end_with(end: u64, data: u32, o: ObjectId, age: u64, n: PageNumber, d: Data) -> u64
+pub fn end_with(end: u64, data: u32, o: ObjectId, age: u64, n: PageNumber, d: Data) -> u64
     ensures { λ r. ⌜ r ≡ endWith end «data» (o .0) age (n .0) (Record.Data d) ⌝ }
 {
     if d.object.0 != o.0 {

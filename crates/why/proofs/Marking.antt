@@ -1,13 +1,13 @@
 -- The marks of a file: which there are, and what each of them says.
-use Prim.Native.Nat.{ℕ, zero, suc, _+_, _≤_, _<_, min}
+use Prim.Native.Nat.{ℕ, zero, suc, _+_, _≤_, _<_}
 use mathlib.Core.Bool.{true, false}
 use mathlib.Core.List.{List, [], _∷_, _++_}
 use mathlib.Core.Logic.{_⊎_, inl, inr, ⊎-elim}
 use mathlib.Core.Path.{_≡_, refl, ap}
 use native.Mathlib.Nat.{not-suc-le-zero, le-of-suc-le-suc, eq-or-lt-of-le, le-refl}
 use native.Mathlib.Omega.{arith}
-use lib.Dec.{eqb, ltb}
-use borrow.Author.Tests.{eqb-true, eq-eqb, ltb-true, lt-ltb}
+use lib.Dec.{eqb, ltb, leb}
+use borrow.Author.Tests.{eqb-true, eq-eqb, ltb-true, lt-ltb, leb-false, lt-leb}
 use Rattle.page.specs.Numbers.{badChunk, pageValues}
 use Rattle.page.specs.declared.record.Record.{Record}
 use Rattle.page.specs.declared.record.Record.the-variants.{Other, Header, Data}
@@ -21,7 +21,7 @@ use Rattle.chunk.specs.Newest.{copyOf}
 use Rattle.chunk.specs.Cuts.{cutOf}
 use Rattle.chunk.specs.declared.cut.Cut.{Cut}
 use Rattle.chunk.specs.declared.cut.Cut.the-variants.{At, Nowhere}
-use Rattle.why.specs.Marks.{places, noPage, markOf, placeOf, pageOn, cutMarks, marksOf, marksTo}
+use Rattle.why.specs.Marks.{places, noPage, markOf, placeOf, pageOn, cutMarks, copyMarks, marksOf, marksTo}
 
 -- members of two lists one behind the other
 pub in-front : (x : ℕ) (A B : List ℕ) → In x A → In x (A ++ B)
@@ -91,17 +91,31 @@ module _ (says : ℕ → Record) (P o h : ℕ) where
       (λ t.
       by-test (badChunk (d .chunk .0)) _
       (λ u. absurd (rw (t, u) at i))
-      (λ u. of-data t u (rw (t, u) at i)))
+      (λ u.
+      by-test (leb P (d .count)) _
+      (λ v. of-full t u (rw (t, u, v) at i))
+      (λ v. of-data t u (leb-false P (d .count) v) (rw (t, u, v) at i))))
       (λ t. absurd (rw t at i))
     where
-      of-data :
+      is-copy : eqb (d .object .0) o ≡ true → badChunk (d .chunk .0) ≡ false → IsCopy (suc n) n (d .chunk .0)
+      is-copy t u = record { below = le-refl _; copy = rw (e, t) (eq-eqb (d .chunk .0) (d .chunk .0) refl); good = u }
+
+      of-full :
           eqb (d .object .0) o ≡ true → badChunk (d .chunk .0) ≡ false →
-          In k (markOf (baseOf P (d .chunk .0)) n ∷ markOf (baseOf P (d .chunk .0) + min (d .count) P) noPage ∷ markOf (baseOf P (d .chunk .0) + P) noPage ∷ []) →
+          In k (markOf (baseOf P (d .chunk .0)) n ∷ markOf (baseOf P (d .chunk .0) + P) noPage ∷ []) →
           Mark (suc n) k
-      of-data t u (inl j) = copy n (d .chunk .0) record { below = le-refl _; copy = rw (e, t) (eq-eqb (d .chunk .0) (d .chunk .0) refl); good = u } j
-      of-data t u (inr (inl j)) = bare (baseOf P (d .chunk .0) + min (d .count) P) (d .chunk .0) u (omega arith) j
-      of-data t u (inr (inr (inl j))) = bare (baseOf P (d .chunk .0) + P) (d .chunk .0) u (omega arith) j
-      of-data t u (inr (inr (inr j))) = absurd j
+      of-full t u (inl j) = copy n (d .chunk .0) (is-copy t u) j
+      of-full t u (inr (inl j)) = bare (baseOf P (d .chunk .0) + P) (d .chunk .0) u (omega arith) j
+      of-full t u (inr (inr j)) = absurd j
+
+      of-data :
+          eqb (d .object .0) o ≡ true → badChunk (d .chunk .0) ≡ false → d .count < P →
+          In k (markOf (baseOf P (d .chunk .0)) n ∷ markOf (baseOf P (d .chunk .0) + d .count) noPage ∷ markOf (baseOf P (d .chunk .0) + P) noPage ∷ []) →
+          Mark (suc n) k
+      of-data t u v (inl j) = copy n (d .chunk .0) (is-copy t u) j
+      of-data t u v (inr (inl j)) = bare (baseOf P (d .chunk .0) + d .count) (d .chunk .0) u (omega (arith, v)) j
+      of-data t u v (inr (inr (inl j))) = bare (baseOf P (d .chunk .0) + P) (d .chunk .0) u (omega arith) j
+      of-data t u v (inr (inr (inr j))) = absurd j
 
   -- every mark is one of these
   pub mark-of : (n k : ℕ) → In k (marksTo says P o h n) → Mark n k
@@ -133,16 +147,11 @@ module _ (says : ℕ → Record) (P o h : ℕ) where
       go (Data d) t e = let z : false ≡ true = and-right (eqb (d .object .0) o) false t in clash (cc)
       go (Header f) t e = by-test (eqb (f .object .0) o) _ (λ u. rw (u, e, lt-ltb _ _ (c .inside)) (inl refl)) (λ u. let z : false ≡ true = rw u at t in clash (cc))
 
-  -- data is marked where it begins, where its bytes end and where its page does
-  copy-marks :
-      (n p c : ℕ) → IsCopy n p c →
-      (k : ℕ) → In k (markOf (baseOf P c) p ∷ markOf (baseOf P c + min (countOf (says p)) P) noPage ∷ markOf (baseOf P c + P) noPage ∷ []) →
-      In k (marksTo says P o h n)
+  -- data is marked where it begins, where its bytes end before its page does, and where that does
+  copy-marks : (n p c : ℕ) → IsCopy n p c → (k : ℕ) → In k (copyMarks P p c (countOf (says p))) → In k (marksTo says P o h n)
   copy-marks n p c w k i = page-marked n p k (w .below) (go (says p) (w .copy) i)
     where
-      go :
-          (r : Record) → copyOf o c r ≡ true → In k (markOf (baseOf P c) p ∷ markOf (baseOf P c + min (countOf r) P) noPage ∷ markOf (baseOf P c + P) noPage ∷ []) →
-          In k (marksOf P o h p r)
+      go : (r : Record) → copyOf o c r ≡ true → In k (copyMarks P p c (countOf r)) → In k (marksOf P o h p r)
       go Other t j = clash (cc)
       go (Header f) t j = let z : false ≡ true = and-right (eqb (f .object .0) o) false t in clash (cc)
       go (Data d) t j =
@@ -153,13 +162,15 @@ module _ (says : ℕ → Record) (P o h : ℕ) where
           (λ u. let z : false ≡ true = rw u at t in clash (cc))
 
   pub copy-marked : (n p c : ℕ) → IsCopy n p c → In (markOf (baseOf P c) p) (marksTo says P o h n)
-  copy-marked n p c w = copy-marks n p c w _ (inl refl)
+  copy-marked n p c w = copy-marks n p c w (markOf (baseOf P c) p) (by-test (leb P (countOf (says p))) _ (λ u. rw u (inl refl)) (λ u. rw u (inl refl)))
 
-  pub count-marked : (n p c : ℕ) → IsCopy n p c → In (markOf (baseOf P c + min (countOf (says p)) P) noPage) (marksTo says P o h n)
-  count-marked n p c w = copy-marks n p c w _ (inr (inl refl))
+  pub count-marked : (n p c : ℕ) → IsCopy n p c → countOf (says p) < P → In (markOf (baseOf P c + countOf (says p)) noPage) (marksTo says P o h n)
+  count-marked n p c w l = copy-marks n p c w (markOf (baseOf P c + countOf (says p)) noPage) (rw (lt-leb P (countOf (says p)) l) (inr (inl refl)))
 
   pub end-marked : (n p c : ℕ) → IsCopy n p c → In (markOf (baseOf P c + P) noPage) (marksTo says P o h n)
-  end-marked n p c w = copy-marks n p c w _ (inr (inr (inl refl)))
+  end-marked n p c w =
+      copy-marks n p c w (markOf (baseOf P c + P) noPage)
+      (by-test (leb P (countOf (says p))) _ (λ u. rw u (inr (inl refl))) (λ u. rw u (inr (inr (inl refl)))))
 
 -- the place and the page of a mark
 pub mark-place : (a p : ℕ) → p < pageValues → placeOf (markOf a p) ≡ a

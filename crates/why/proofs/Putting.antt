@@ -5,7 +5,7 @@ use mathlib.Core.Logic.{⊎-elim}
 use mathlib.Core.Path.{_≡_, refl, sym, ap, _∙_}
 use native.Mathlib.Nat.{not-suc-le-zero, le-of-suc-le-suc, eq-or-lt-of-le}
 use native.Mathlib.Omega.{arith}
-use lib.Dec.{eqb, ltb}
+use lib.Dec.{eqb, ltb, leb}
 use lib.ListN.{length, drop, set, length-append}
 use lib.Seq.{sets, length-sets, length-front, length-take-le, sets-eq, take-append-seam, drop-append-add, drop-drop, drop-set-lt}
 use Rattle.page.specs.Numbers.{badChunk}
@@ -48,7 +48,10 @@ module _ (says : ℕ → Record) (P o h : ℕ) where
   of-few p (Header k) = by-test (eqb (k .object .0) o) _ (λ t. rw t (cut-few p (cutOf (eqb p h) (Header k)))) (λ t. rw t (omega arith))
   of-few p (Data d) =
       by-test (eqb (d .object .0) o) _
-      (λ t. by-test (badChunk (d .chunk .0)) _ (λ u. rw (t, u) (omega arith)) (λ u. rw (t, u) (omega arith)))
+      (λ t.
+      by-test (badChunk (d .chunk .0)) _
+      (λ u. rw (t, u) (omega arith))
+      (λ u. by-test (leb P (d .count)) _ (λ v. rw (t, u, v) (omega arith)) (λ v. rw (t, u, v) (omega arith))))
       (λ t. rw t (omega arith))
 
   -- one page more

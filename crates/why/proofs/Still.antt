@@ -1,6 +1,6 @@
 -- Between marks nothing changes. The reason or its page changes from one position to the next only where a mark is: where a header cuts, where a copy's bytes end,
 -- or where a chunk begins of which it or the one before it has a copy.
-use Prim.Native.Nat.{ℕ, _+_, _-_, _≤_, _<_, min}
+use Prim.Native.Nat.{ℕ, _+_, _-_, _≤_, _<_}
 use mathlib.Core.Bool.{Bool, true, false, _&&_}
 use mathlib.Core.Option.{Option, none, some}
 use mathlib.Core.Path.{_≡_, refl, sym, ap, _∙_}
@@ -82,9 +82,9 @@ module _ (says : ℕ → Record) (P o n h : ℕ) (some-data : 0 < P) (most-data 
           by-test (leb (countOf (says q)) (byteAt P (x + 1))) _
           (λ u.
           let z : countOf (says q) ≡ byteAt P (x + 1) = omega (arith, i, s, leb-true (countOf (says q)) (byteAt P (x + 1)) u) in
-          let m : min (countOf (says q)) P ≡ byteAt P (x + 1) = omega (arith, z, byte-below P some-data (x + 1)) in
-          absurd (bare (markOf (baseOf P (chunkAt P (x + 1)) + min (countOf (says q)) P) noPage) (count-marked says P o h n q (chunkAt P (x + 1)) w)
-          (mark-place _ noPage (omega arith) ∙ ap (λ (v : ℕ). baseOf P (chunkAt P (x + 1)) + v) m ∙ position P some-data (x + 1))))
+          let m : countOf (says q) < P = omega (arith, z, byte-below P some-data (x + 1)) in
+          absurd (bare (markOf (baseOf P (chunkAt P (x + 1)) + countOf (says q)) noPage) (count-marked says P o h n q (chunkAt P (x + 1)) w m)
+          (mark-place _ noPage (omega arith) ∙ ap (λ (v : ℕ). baseOf P (chunkAt P (x + 1)) + v) z ∙ position P some-data (x + 1))))
           (λ u. rw (t, u)))
 
       same-behind : (q : ℕ) → IsCopy says P o h n q (chunkAt P (x + 1)) → (r : Option ℕ) → codeOf (reasonBehind says P o n h q x r) ≡ codeOf (reasonBehind says P o n h q (x + 1) r)

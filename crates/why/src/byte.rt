@@ -9,7 +9,7 @@ ghost use Rattle.page.specs.declared.geometry.Opened.the-variants as opened;
 ghost use Rattle.why.specs.Codes.{fromOf, codeIn};
 ghost use Rattle.why.specs.Reasons.{byteAt};
 ghost use Rattle.why.specs.Answers.{spanOf, foundIn, shownBy, whyOn, whyLeft};
-use crate::marks::count_marks;
+use crate::marks::measure;
 use crate::moment::Moment;
 use crate::reason::Reason;
 use crate::setter::setter;
@@ -17,7 +17,6 @@ use crate::spans::Filed;
 use crate::spans::file_in;
 use crate::spans::fill;
 use crate::sweep::CODE_VALUES;
-use chunk::lookup::size_of;
 use page::geometry::Geometry;
 use page::geometry::Opened;
 use page::number::ObjectId;
@@ -120,12 +119,12 @@ fn why_in(
     match f {
         Filed::Refused(r) => Told::Refused(r, 0),
         Filed::Header(h) => {
-            let marks = count_marks(dump, g, t, pages, o, h);
-            let need = marks as usize;
+            let k = measure(dump, g, t, pages, o, h);
+            let need = k.marks as usize;
             if rows.len() < need {
-                return Told::Refused(Refusal::ShortBuffer, marks);
+                return Told::Refused(Refusal::ShortBuffer, k.marks);
             }
-            let size = size_of(dump, g, t, pages, o, h);
+            let size = k.size;
             if size <= x {
                 clear(rows, 0, need);
                 return Told::Because(

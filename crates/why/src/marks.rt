@@ -1,5 +1,5 @@
 // The places of a file at which the reason of its bytes can change: its begin; where a header cuts; where a copy begins, where its bytes end and where its page
-// does. A mark is such a place and the page that begins to matter there, if one does, in one number: first by its place.
+// does, which are one place if they fill it. A mark is such a place and the page that begins to matter there, if one does, in one number: first by its place.
 ghost use mathlib.Core.Bool.{not};
 ghost use mathlib.Core.Path.{_≡_};
 ghost use Prim.Native.Nat.{_+_, _*_, _≤_, _<_};
@@ -9,12 +9,18 @@ ghost use lib.Seq.{sets};
 ghost use Rattle.page.specs.Numbers.{pageValues};
 ghost use Rattle.page.specs.Records.{recordAt};
 ghost use Rattle.chunk.specs.Takes.{seenBy};
+ghost use Rattle.chunk.specs.Scans.{endWith};
+ghost use Rattle.chunk.specs.Sizes.{sizeOf};
 ghost use Rattle.chunk.specs.Lists.{inFront};
 ghost use Rattle.why.specs.Marks.{mostData, places, noPage, markOf, placeOf, pageOn, marksIn, cutMarks, dataMarks, marksOf, marksTo};
 use chunk::cut::Cut;
 use chunk::cut::cut_of;
 use chunk::record::base_of;
-use chunk::record::smaller;
+use chunk::record::file_size;
+use chunk::record::larger;
+use chunk::record::order_of;
+use chunk::record::sequence_of;
+use chunk::scan::end_with;
 use chunk::takes::Takes;
 use chunk::takes::seen_at;
 use page::geometry::Geometry;
@@ -64,6 +70,7 @@ pub(crate) fn has_page(page: u32) -> bool
 pub(crate) enum Marks {
     Nothing,
     One(u64),
+    Two(u64, u64),
     Three(u64, u64, u64),
 }
 
@@ -75,6 +82,7 @@ impl Marks {
         match self {
             Marks::Nothing => 0,
             Marks::One(_) => 1,
+            Marks::Two(_, _) => 2,
             Marks::Three(_, _, _) => 3,
         }
     }
@@ -90,6 +98,11 @@ impl Marks {
             Marks::One(a) => {
                 rows[at] = a;
                 at + 1
+            }
+            Marks::Two(a, b) => {
+                rows[at] = a;
+                rows[at + 1] = b;
+                at + 2
             }
             Marks::Three(a, b, c) => {
                 rows[at] = a;
@@ -117,7 +130,7 @@ fn cut_mark(p: PageNumber, cut: Cut) -> Marks
     }
 }
 
-// The marks of the data on page p: where it begins, where its bytes end and where its page ends.
+// The marks of the data on page p: where it begins, where its bytes end if that is before its page does, and where its page ends.
 fn data_marks(data: u32, p: PageNumber, d: Data) -> Marks
     requires { ⌜ p .0 < pageValues ⌝ }
     requires { ⌜ «data» ≤ mostData ⌝ }
@@ -127,9 +140,12 @@ fn data_marks(data: u32, p: PageNumber, d: Data) -> Marks
         return Marks::Nothing;
     }
     let base = base_of(data, d.chunk);
-    let end = base + smaller(d.count as u64, data as u64);
-    let next = base + (data as u64);
-    Marks::Three(mark(base, p.0), mark(end, NO_PAGE), mark(next, NO_PAGE))
+    let begin = mark(base, p.0);
+    let next = mark(base + (data as u64), NO_PAGE);
+    if data <= d.count {
+        return Marks::Two(begin, next);
+    }
+    Marks::Three(begin, mark(base + (d.count as u64), NO_PAGE), next)
 }
 
 // The marks that page p, which is this record, makes for the file of object o, whose newest header is page h.
@@ -155,28 +171,54 @@ fn marks_of(data: u32, o: ObjectId, h: PageNumber, p: PageNumber, r: Record) -> 
     }
 }
 
-// How many marks the file of object o has, whose newest header is page h.
-pub(crate) fn count_marks(
+// How many marks a file has, and its size.
+pub(crate) struct Measured {
+    pub marks: u32,
+    pub size: u64,
+}
+
+// The largest end so far, with page p too, which is this record, if it is data of object o that is newer than an age.
+fn end_by(end: u64, data: u32, o: ObjectId, age: u64, p: PageNumber, r: Record) -> u64
+    ensures { λ e. ⌜ e ≡ endWith end «data» (o .0) age (p .0) r ⌝ }
+{
+    match r {
+        Record::Other => end,
+        Record::Header(_) => end,
+        Record::Data(d) => end_with(end, data, o, age, p, d),
+    }
+}
+
+// How many marks the file of object o has, whose newest header is page h, and its size: both by one pass.
+pub(crate) fn measure(
     dump: &[u8],
     g: Geometry,
     t: Takes,
     pages: u32,
     o: ObjectId,
     h: PageNumber,
-) -> u32
+) -> Measured
     requires { ⌜ pages < pageValues ⌝ }
     requires { ⌜ g .layout .«data» ≤ mostData ⌝ }
-    ensures { λ r. ⌜ r ≡ length (marksTo (seenBy t (recordAt g (now (dump .entry)))) (g .layout .«data») (o .0) (h .0) pages) ⌝ }
+    ensures { λ r. ⌜ r .marks ≡ length (marksTo (seenBy t (recordAt g (now (dump .entry)))) (g .layout .«data») (o .0) (h .0) pages) ⌝ }
+    ensures { λ r. ⌜ r .size ≡ sizeOf (seenBy t (recordAt g (now (dump .entry)))) (g .layout .«data») (o .0) (h .0) pages ⌝ }
 {
-    let mut count: u32 = 1;
+    let newest = seen_at(dump, g, t, h);
+    let age = order_of(sequence_of(newest), h);
+    let mut marks: u32 = 1;
+    let mut end: u64 = 0;
     let mut i: u32 = 0;
     while i < pages {
         let p = PageNumber(i);
-        let made = marks_of(g.layout.data, o, h, p, seen_at(dump, g, t, p));
-        count += made.count();
+        let r = seen_at(dump, g, t, p);
+        end = end_by(end, g.layout.data, o, age, p, r);
+        let made = marks_of(g.layout.data, o, h, p, r);
+        marks += made.count();
         i += 1;
     }
-    count
+    Measured {
+        marks,
+        size: larger(file_size(newest) as u64, end),
+    }
 }
 
 // Puts the marks of the file of object o, whose newest header is page h, in front of words that have room for them.

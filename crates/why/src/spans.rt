@@ -12,13 +12,12 @@ ghost use Rattle.chunk.specs.Sizes.{sizeOf};
 ghost use Rattle.why.specs.Marks.{marksTo, mostData};
 ghost use Rattle.why.specs.Reasons.{spansOf};
 ghost use Rattle.why.specs.Answers.{filedIn, spansOn, spansLeft};
-use crate::marks::count_marks;
 use crate::marks::fill_marks;
+use crate::marks::measure;
 use crate::moment::Moment;
 use crate::sweep::sweep;
 use chunk::answer::File;
 use chunk::lookup::file_at;
-use chunk::lookup::size_of;
 use chunk::record::Want;
 use chunk::scan::Newest;
 use chunk::scan::newest_page;
@@ -121,13 +120,12 @@ fn spans_in(
     match f {
         Filed::Refused(r) => Spanned::Refused(r, 0),
         Filed::Header(h) => {
-            let need = count_marks(dump, g, t, pages, o, h);
-            if rows.len() < (need as usize) {
-                return Spanned::Refused(Refusal::ShortBuffer, need);
+            let k = measure(dump, g, t, pages, o, h);
+            if rows.len() < (k.marks as usize) {
+                return Spanned::Refused(Refusal::ShortBuffer, k.marks);
             }
-            let size = size_of(dump, g, t, pages, o, h);
-            let count = fill(dump, g, t, pages, o, h, size, rows, need as usize);
-            Spanned::Rows(size, count)
+            let count = fill(dump, g, t, pages, o, h, k.size, rows, k.marks as usize);
+            Spanned::Rows(k.size, count)
         }
     }
 }

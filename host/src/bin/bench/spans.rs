@@ -64,11 +64,11 @@ pub fn spans(dump: &[u8], layout: u32, object: u32) -> Option<Vec<Span>> {
             Says::Header { .. } => {}
             Says::Data { chunk, count } => {
                 let base = (chunk - 1) * data;
-                marks.extend([
-                    (base, i),
-                    (base + count, usize::MAX),
-                    (base + data, usize::MAX),
-                ]);
+                marks.push((base, i));
+                if count < data {
+                    marks.push((base + count, usize::MAX));
+                }
+                marks.push((base + data, usize::MAX));
                 if record.age > newest.age {
                     size = size.max(base + count);
                 }

@@ -16,8 +16,8 @@ use Rattle.why.proofs.Finding.{found-below}
 use Rattle.why.proofs.byte.why_in.Statement.{statement}
 use Rattle.why.proofs.byte.why_in.Tie as tie
 
-count-marks-requires : tie.Need-count-marks-requires
-count-marks-requires c κs =
+measure-requires : tie.Need-measure-requires
+measure-requires c κs =
     let s = c .before .before .before .before .before .before .before in
     let z = opened-sized (s .args .g) (length (s .args .dump .now)) (s .args .pages) (s .pre) in
     (z .pages, z .most)
@@ -25,13 +25,13 @@ count-marks-requires c κs =
 returns : tie.Need-returns
 unfolding whyOn whyLeft
 returns c =
-    let n = c .before in
+    let n = c .before .before in
     let f = n .before .before in
     let k = f .before .before in
     let t = k .before in
     let e = t .before .before .before .pre in (
-      rw (e, ← t .takes .ensures, ← k .file-in .ensures, f .f2 .given .1, ← n .count-marks .ensures, lt-ltb _ _ (c .if1 .taken)),
-      rw (e, ← t .takes .ensures, ← k .file-in .ensures, f .f2 .given .1, ← n .count-marks .ensures, lt-ltb _ _ (c .if1 .taken)),
+      rw (e, ← t .takes .ensures, ← k .file-in .ensures, f .f2 .given .1, ← n .measure .ensures .0, lt-ltb _ _ (c .if1 .taken)),
+      rw (e, ← t .takes .ensures, ← k .file-in .ensures, f .f2 .given .1, ← n .measure .ensures .0, lt-ltb _ _ (c .if1 .taken)),
     )
 
 returns-2 : tie.Need-returns-2
@@ -39,9 +39,8 @@ unfolding whyOn whyLeft
 returns-2 c =
     let l = c .before .before .before in
     let x = l .before .before in
-    let z = x .before in
-    let b = z .before in
-    let n = b .before in
+    let b = x .before in
+    let n = b .before .before in
     let f = n .before .before in
     let k = f .before .before in
     let t = k .before in
@@ -49,16 +48,16 @@ returns-2 c =
     let a = s .args in
     let p =
     past-tells (seenBy (t .takes .result) (recordAt (a .g) (a .dump .now))) (a .g .layout .«data») (a .o .0) (a .pages) (f .f2 .given .0 .0 .0) (a .x)
-    (rw (z .size-of .ensures) at (x .if2 .taken)) in (
-      rw (s .pre, ← t .takes .ensures, ← k .file-in .ensures, f .f2 .given .1, ← n .count-marks .ensures, le-ltb _ _ (b .if1 .left), ← p .0, ← p .1, ← c .setter .ensures),
-      rw (s .pre, ← t .takes .ensures, ← k .file-in .ensures, f .f2 .given .1, ← n .count-marks .ensures, le-ltb _ _ (b .if1 .left)) (l .clear .ensures),
+    (rw (n .measure .ensures .1) at (x .if2 .taken)) in (
+      rw (s .pre, ← t .takes .ensures, ← k .file-in .ensures, f .f2 .given .1, ← n .measure .ensures .0, le-ltb _ _ (b .if1 .left), ← p .0, ← p .1, ← c .setter .ensures),
+      rw (s .pre, ← t .takes .ensures, ← k .file-in .ensures, f .f2 .given .1, ← n .measure .ensures .0, le-ltb _ _ (b .if1 .left)) (l .clear .ensures),
     )
 
 fill-requires : tie.Need-fill-requires
 fill-requires c κs =
-    let z = c .before .before in
-    let n = z .before .before in
-    (n .before .before .before .before .before .before .before .before .pre, (z .size-of .ensures, (n .count-marks .ensures, z .before .if1 .left)))
+    let b = c .before .before in
+    let n = b .before .before in
+    (n .before .before .before .before .before .before .before .before .pre, (n .measure .ensures .1, (n .measure .ensures .0, b .if1 .left)))
 
 -- the spans that the words are filled with
 abbrev spans : tie.After-fill → List ℕ
@@ -72,9 +71,10 @@ find-requires : tie.Need-find-requires
 find-requires c κs =
     let r = c .before .before in
     let d = r .before in
-    let b = d .before .before .before .before in
+    let b = d .before .before .before in
+    let n = b .before .before in
     rw (d .fill .ensures .0)
-    (rows-inside (spans d) (b .before .before .before .before .before .before .before .before .before .args .rows .now) (b .before .count-marks .result) (b .if1 .left) _
+    (rows-inside (spans d) (n .before .before .before .before .before .before .before .before .args .rows .now) (n .measure .result .marks) (b .if1 .left) _
     (d .fill .ensures .1) (r .rows2 .given))
 
 -- what is found is found in them
@@ -88,13 +88,13 @@ found :
 found c =
     let r = c .before .before .before in
     let d = r .before in
-    let z = d .before .before .before in
-    let b = z .before in
+    let b = d .before .before .before in
+    let n = b .before .before in
     let front =
-    rows-front (spans d) (b .before .before .before .before .before .before .before .before .before .args .rows .now) (b .before .count-marks .result) (b .if1 .left) _
+    rows-front (spans d) (n .before .before .before .before .before .before .before .before .args .rows .now) (n .measure .result .marks) (b .if1 .left) _
     (d .fill .ensures .1) (r .rows2 .given)
     in
-    c .find .ensures ∙ rw (d .fill .ensures .0, front, z .size-of .ensures)
+    c .find .ensures ∙ rw (d .fill .ensures .0, front, n .measure .ensures .1)
 
 of-requires : tie.Need-of-requires
 of-requires c κs =
@@ -118,9 +118,8 @@ returns-4 c =
     let r = i .before .before .before in
     let d = r .before in
     let x = d .before .before in
-    let z = x .before in
-    let b = z .before in
-    let n = b .before in
+    let b = x .before in
+    let n = b .before .before in
     let f = n .before .before in
     let k = f .before .before in
     let t = k .before in
@@ -128,22 +127,22 @@ returns-4 c =
     let a = s .args in
     let p =
     found-tells (seenBy (t .takes .result) (recordAt (a .g) (a .dump .now))) (a .g .layout .«data») (a .o .0) (a .pages) (f .f2 .given .0 .0 .0) (a .x)
-    (opened-sized (a .g) (length (a .dump .now)) (a .pages) (s .pre)) (rw (z .size-of .ensures) at (x .if2 .left)) (i .find .result) (found i)
+    (opened-sized (a .g) (length (a .dump .now)) (a .pages) (s .pre)) (rw (n .measure .ensures .1) at (x .if2 .left)) (i .find .result) (found i)
     in
-    let clear = rows-cleared (spans d) (a .rows .now) (n .count-marks .result) (b .if1 .left) _ (d .fill .ensures .1) (r .rows2 .given) _ (l .clear2 .ensures) in (
+    let clear = rows-cleared (spans d) (a .rows .now) (n .measure .result .marks) (b .if1 .left) _ (d .fill .ensures .1) (r .rows2 .given) _ (l .clear2 .ensures) in (
       rw (
         s .pre,
         ← t .takes .ensures,
         ← k .file-in .ensures,
         f .f2 .given .1,
-        ← n .count-marks .ensures,
+        ← n .measure .ensures .0,
         le-ltb _ _ (b .if1 .left),
         ← p .0,
         ← p .1,
         c .of .ensures,
         c .before .byte-at .ensures,
       ),
-      rw (s .pre, ← t .takes .ensures, ← k .file-in .ensures, f .f2 .given .1, ← n .count-marks .ensures, le-ltb _ _ (b .if1 .left)) clear,
+      rw (s .pre, ← t .takes .ensures, ← k .file-in .ensures, f .f2 .given .1, ← n .measure .ensures .0, le-ltb _ _ (b .if1 .left)) clear,
     )
 
 pub why-in-spec : {M : Type 1} → statement M
@@ -154,10 +153,9 @@ why-in-spec =
     (search needs)
     (search needs)
     (search needs)
-    count-marks-requires
+    measure-requires
     (search needs)
     returns
-    (search needs)
     (search needs)
     (search needs)
     (search needs)

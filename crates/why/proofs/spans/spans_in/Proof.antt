@@ -7,8 +7,8 @@ use Rattle.why.proofs.Filling.{opened-sized}
 use Rattle.why.proofs.spans.spans_in.Statement.{statement}
 use Rattle.why.proofs.spans.spans_in.Tie as tie
 
-count-marks-requires : tie.Need-count-marks-requires
-count-marks-requires c κs =
+measure-requires : tie.Need-measure-requires
+measure-requires c κs =
     let s = c .before .before .before .before .before .before .before in
     let z = opened-sized (s .args .g) (length (s .args .dump .now)) (s .args .pages) (s .pre) in
     (z .pages, z .most)
@@ -16,20 +16,20 @@ count-marks-requires c κs =
 returns : tie.Need-returns
 unfolding spansOn spansLeft
 returns c =
-    let n = c .before in
+    let n = c .before .before in
     let f = n .before .before in
     let k = f .before .before in
     let t = k .before in
     let e = t .before .before .before .pre in (
-      rw (e, ← t .takes .ensures, ← k .file-in .ensures, f .f2 .given .1, ← n .count-marks .ensures, lt-ltb _ _ (c .if1 .taken)),
-      rw (e, ← t .takes .ensures, ← k .file-in .ensures, f .f2 .given .1, ← n .count-marks .ensures, lt-ltb _ _ (c .if1 .taken)),
+      rw (e, ← t .takes .ensures, ← k .file-in .ensures, f .f2 .given .1, ← n .measure .ensures .0, lt-ltb _ _ (c .if1 .taken)),
+      rw (e, ← t .takes .ensures, ← k .file-in .ensures, f .f2 .given .1, ← n .measure .ensures .0, lt-ltb _ _ (c .if1 .taken)),
     )
 
 fill-requires : tie.Need-fill-requires
 fill-requires c κs =
-    let z = c .before in
-    let n = z .before .before in
-    (n .before .before .before .before .before .before .before .before .pre, (z .size-of .ensures, (n .count-marks .ensures, z .before .if1 .left)))
+    let b = c .before .before in
+    let n = b .before .before in
+    (n .before .before .before .before .before .before .before .before .pre, (n .measure .ensures .1, (n .measure .ensures .0, b .if1 .left)))
 
 returns-2 : tie.Need-returns-2
 unfolding spansOn spansLeft
@@ -44,15 +44,14 @@ returns-3 : tie.Need-returns-3
 unfolding spansOn spansLeft
 returns-3 c =
     let d = c .before .before in
-    let z = d .before .before in
-    let b = z .before in
-    let n = b .before in
+    let b = d .before .before .before in
+    let n = b .before .before in
     let f = n .before .before in
     let k = f .before .before in
     let t = k .before in
     let e = t .before .before .before .pre in (
-      rw (e, ← t .takes .ensures, ← k .file-in .ensures, f .f2 .given .1, ← n .count-marks .ensures, le-ltb _ _ (b .if1 .left), ← z .size-of .ensures, d .fill .ensures .0),
-      rw (e, ← t .takes .ensures, ← k .file-in .ensures, f .f2 .given .1, ← n .count-marks .ensures, le-ltb _ _ (b .if1 .left)) (d .fill .ensures .1),
+      rw (e, ← t .takes .ensures, ← k .file-in .ensures, f .f2 .given .1, ← n .measure .ensures .0, le-ltb _ _ (b .if1 .left), ← n .measure .ensures .1, d .fill .ensures .0),
+      rw (e, ← t .takes .ensures, ← k .file-in .ensures, f .f2 .given .1, ← n .measure .ensures .0, le-ltb _ _ (b .if1 .left)) (d .fill .ensures .1),
     )
 
 pub spans-in-spec : {M : Type 1} → statement M
@@ -63,10 +62,9 @@ spans-in-spec =
     (search needs)
     (search needs)
     (search needs)
-    count-marks-requires
+    measure-requires
     (search needs)
     returns
-    (search needs)
     (search needs)
     fill-requires
     returns-2

@@ -1,0 +1,114 @@
+-- The loop's invariant: how many marks the pages passed make, and the largest end of those that are newer than the newest header.
+use Prim.Native.Nat.{_+_, _≤_, _-_}
+use mathlib.Core.Path.{_≡_, sym, _∙_}
+use native.Mathlib.Omega.{arith}
+use borrow.Author.Needs.{needs}
+use lib.ListN.{length}
+use Rattle.page.specs.Records.{recordAt}
+use Rattle.chunk.specs.Takes.{seenBy}
+use Rattle.chunk.specs.Sizes.{dataEnd, sizeOf}
+use Rattle.chunk.proofs.Gathering.{end-none, end-step}
+use Rattle.why.specs.Marks.{marksTo}
+use Rattle.why.proofs.Putting.{count-none, count-more, marks-few}
+use Rattle.why.proofs.marks.measure.Statement.{statement}
+use Rattle.why.proofs.marks.measure.Tie as tie
+
+abbrev Inv-loop : tie.InvT-loop
+Inv-loop dump g t pages o h newest age marks₀ end₀ i₀ marks end i =
+    let says = seenBy t (recordAt g dump) in
+    (i ≤ pages) × ((marks ≡ length (marksTo says (g .layout .«data») (o .0) (h .0) i)) × (end ≡ dataEnd says (g .layout .«data») (o .0) age i))
+
+abbrev μ-loop : tie.MeasureT-loop
+μ-loop dump g t pages o h newest age marks₀ end₀ i₀ marks end i = pages - i
+
+loop-holds : tie.Need-loop-holds Inv-loop μ-loop
+loop-holds c =
+    let a = c .before .before .before .before .args in
+    let says = seenBy (a .t) (recordAt (a .g) (a .dump .now)) in
+    (search needs, (sym (count-none says (a .g .layout .«data») (a .o .0) (a .h .0)), rw end-none))
+
+marks-of-requires : tie.Need-marks-of-requires Inv-loop μ-loop
+marks-of-requires c κs =
+    let t = c .before .before in
+    let s = t .before .before .before .before .before .before in
+    (omega (arith, t .loop-test .taken, s .pre .0), s .pre .1)
+
+-- the marks with those of the page
+counted :
+    (c : tie.After-count Inv-loop μ-loop) →
+    let q = c .before .before .before .before .before .loop in
+    let a = c .before .before .before .before .before .before .before .before .before .before .args in
+    q .marks + c .count .result ≡ length (marksTo (seenBy (a .t) (recordAt (a .g) (a .dump .now))) (a .g .layout .«data») (a .o .0) (a .h .0) (q .i + 1))
+counted c =
+    let m = c .before in
+    let s = m .before .before in
+    let q = s .before .before .loop in
+    let a = s .before .before .before .before .before .before .before .args in
+    rw (q .inv .1 .0, c .count .ensures, m .marks-of .ensures, s .seen-at2 .ensures)
+    (sym (count-more (seenBy (a .t) (recordAt (a .g) (a .dump .now))) (a .g .layout .«data») (a .o .0) (a .h .0) (q .i)))
+
+add-marks : tie.Need-add-marks Inv-loop μ-loop
+add-marks c =
+    let t = c .before .before .before .before in
+    let q = t .before .loop in
+    let e = t .before .before .before .before .before .before in
+    let a = e .args in
+    record {
+      fits =
+          omega (
+            arith,
+            counted c,
+            marks-few (seenBy (a .t) (recordAt (a .g) (a .dump .now))) (a .g .layout .«data») (a .o .0) (a .h .0) (q .i + 1),
+            t .loop-test .taken,
+            e .pre .0,
+          );
+    }
+
+loop-again : tie.Need-loop-again Inv-loop μ-loop
+loop-again c =
+    let e = c .before .before in
+    let s = e .before in
+    let q = s .before .before .loop in
+    let r = s .before .before .before in
+    let a = r .before .before .before .before .args in
+    let says = seenBy (a .t) (recordAt (a .g) (a .dump .now)) in (
+      search needs,
+      (
+        counted c,
+        e .end-by .ensures ∙ rw (q .inv .1 .1, s .seen-at2 .ensures) (sym (end-step says (a .g .layout .«data») (a .o .0) (r .order-of .result) (q .i))),
+      ),
+    )
+
+returns : tie.Need-returns Inv-loop μ-loop
+unfolding sizeOf
+returns c =
+    let q = c .before .before .before .loop in
+    let r = c .before .before .before .before in
+    let k = r .before .before in
+    let e : q .i ≡ k .before .before .args .pages = omega (arith, c .before .before .loop-test .left) in (
+      rw e at (q .inv .1 .0),
+      rw (← k .seen-at .ensures, ← r .before .sequence-of .ensures, ← r .order-of .ensures, ← e, ← q .inv .1 .1, ← c .before .file-size .ensures) (c .larger .ensures),
+    )
+
+pub measure-spec : {M : Type 1} → statement M
+measure-spec =
+    tie.close
+    (tie.spec
+    Inv-loop
+    μ-loop
+    (search needs)
+    (search needs)
+    (search needs)
+    loop-holds
+    (search needs)
+    (search needs)
+    marks-of-requires
+    (search needs)
+    add-marks
+    (search needs)
+    (search needs)
+    loop-again
+    (search needs)
+    (search needs)
+    (search needs)
+    returns)
