@@ -1,9 +1,11 @@
 -- Marks put into words one behind another.
 use Prim.Native.Nat.{ℕ, zero, suc, _+_, _*_, _≤_, _<_, zero-le}
+use mathlib.Core.Bool.{false}
 use mathlib.Core.List.{List, [], _∷_, _++_}
 use mathlib.Core.Logic.{⊎-elim}
 use mathlib.Core.Path.{_≡_, refl, sym, ap, _∙_}
 use native.Mathlib.Nat.{not-suc-le-zero, le-of-suc-le-suc, eq-or-lt-of-le}
+use native.Mathlib.Numerals.{add-one}
 use native.Mathlib.Omega.{arith}
 use lib.Dec.{eqb, ltb, leb}
 use lib.ListN.{length, drop, set, length-append}
@@ -13,10 +15,12 @@ use Rattle.page.specs.declared.record.Record.{Record}
 use Rattle.page.specs.declared.record.Record.the-variants.{Other, Header, Data}
 use Rattle.page.proofs.Searching.{by-test}
 use Rattle.chunk.specs.Lists.{inFront}
+use Rattle.chunk.specs.Newest.{records}
+use Rattle.chunk.specs.Records.{isOf}
 use Rattle.chunk.specs.Cuts.{cutOf}
 use Rattle.chunk.specs.declared.cut.Cut.{Cut}
 use Rattle.chunk.specs.declared.cut.Cut.the-variants.{At, Nowhere}
-use Rattle.chunk.proofs.Gathering.{gather-step}
+use Rattle.chunk.proofs.Gathering.{gather-step, since-one, since-skip}
 use Rattle.why.specs.Marks.{places, noPage, markOf, cutMarks, marksOf, marksTo}
 use Rattle.why.proofs.Marking.{marks-none, marks-suc}
 
@@ -76,6 +80,22 @@ module _ (says : ℕ → Record) (P o h : ℕ) where
   pub marks-some : (n : ℕ) → 0 < length (marksTo says P o h n)
   marks-some zero = rw (marks-none says P o h) (omega arith)
   marks-some (suc n) = omega (arith, count-suc n, marks-some n)
+
+  -- those of the object's records alone: a page that is none makes no mark
+  of-other : (p : ℕ) (r : Record) → isOf o r ≡ false → marksOf P o h p r ≡ []
+  of-other p Other t = refl
+  of-other p (Header k) t = rw t
+  of-other p (Data d) t = rw t
+
+  pub marks-records : (n : ℕ) → length (marksTo says P o h n) ≤ 3 * records says o n + 1
+  marks-records zero = rw (marks-none says P o h) (omega arith)
+  marks-records (suc n) =
+      by-test (isOf o (says n)) _
+      (λ t. let s = since-one says o 0 n t zero-le in rw (← add-one n) (omega (arith, s, count-more n, marks-records n, of-few n (says n))))
+      (λ t.
+      let s = since-skip says o 0 n t in
+      let z : length (marksOf P o h n (says n)) ≡ 0 = ap length (of-other n (says n) t) in
+      rw (← add-one n) (omega (arith, s, z, count-more n, marks-records n)))
 
   -- those of a page are among those of all
   pub marks-within : (n i : ℕ) → i < n → length (marksTo says P o h i) + length (marksOf P o h i (says i)) ≤ length (marksTo says P o h n)

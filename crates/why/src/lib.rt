@@ -1,8 +1,8 @@
 // Why each byte of a file is what it is, from the dump alone.
 pub mod byte;
-pub mod marks;
+mod marks;
 pub mod moment;
 pub mod reason;
-pub mod setter;
+mod setter;
 pub mod spans;
-pub mod sweep;
+mod sweep;
