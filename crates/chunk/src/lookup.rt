@@ -3,7 +3,6 @@ ghost use mathlib.Core.Path.{_≡_};
 ghost use Rattle.page.specs.Records.{recordAt};
 ghost use Prim.Native.Nat.{min, _-_};
 ghost use Rattle.chunk.specs.Records.{ageOf};
-ghost use Rattle.chunk.specs.Takes.{seenBy};
 ghost use Rattle.chunk.specs.Cuts.{leaves};
 ghost use Rattle.chunk.specs.Sizes.{sizeOf};
 ghost use Rattle.chunk.specs.Lookups.{fileAt, fileOf, sizedOf, copyAt, chunkBy, lookedOf};
@@ -28,7 +27,6 @@ use crate::scan::lowest_cut;
 use crate::scan::newest_page;
 use crate::scan::records_since;
 use crate::takes::Takes;
-use crate::takes::seen_at;
 use page::geometry::Geometry;
 use page::geometry::Opened;
 use page::number::ChunkNumber;
@@ -55,29 +53,29 @@ pub fn file_at(r: Record, h: PageNumber, visits: u32) -> File
 }
 
 // The live file that object o is, if it is one.
-pub fn file_of(dump: &[u8], g: Geometry, t: Takes, pages: u32, o: ObjectId) -> File
-    ensures { λ r. ⌜ r ≡ fileOf (seenBy t (recordAt g (now (dump .entry)))) (o .0) pages ⌝ }
+fn file_of(dump: &[u8], g: Geometry, pages: u32, o: ObjectId) -> File
+    ensures { λ r. ⌜ r ≡ fileOf (recordAt g (now (dump .entry))) (o .0) pages ⌝ }
 {
-    let all = records_since(dump, g, t, pages, o, 0);
+    let all = records_since(dump, g, Takes::Every, pages, o, 0);
     if all == 0 {
         return File::Refused(Refusal::NoObject, 0);
     }
-    let h = newest_page(dump, g, t, pages, o, Want::Header);
+    let h = newest_page(dump, g, Takes::Every, pages, o, Want::Header);
     match h {
         Newest::Nothing => File::Refused(Refusal::NoHeader, all),
         Newest::At(page, age) => {
-            let visits = records_since(dump, g, t, pages, o, age);
-            file_at(seen_at(dump, g, t, page), page, visits)
+            let visits = records_since(dump, g, Takes::Every, pages, o, age);
+            file_at(record_at(dump, g, page), page, visits)
         }
     }
 }
 
 // The size of a file whose newest header is page h.
-pub fn size_of(dump: &[u8], g: Geometry, t: Takes, pages: u32, o: ObjectId, h: PageNumber) -> u64
-    ensures { λ r. ⌜ r ≡ sizeOf (seenBy t (recordAt g (now (dump .entry)))) (g .layout .«data») (o .0) (h .0) pages ⌝ }
+fn size_of(dump: &[u8], g: Geometry, pages: u32, o: ObjectId, h: PageNumber) -> u64
+    ensures { λ r. ⌜ r ≡ sizeOf (recordAt g (now (dump .entry))) (g .layout .«data») (o .0) (h .0) pages ⌝ }
 {
-    let r = seen_at(dump, g, t, h);
-    let end = data_end(dump, g, t, pages, o, order_of(sequence_of(r), h));
+    let r = record_at(dump, g, h);
+    let end = data_end(dump, g, Takes::Every, pages, o, order_of(sequence_of(r), h));
     larger(file_size(r) as u64, end)
 }
 
@@ -88,10 +86,10 @@ fn size_in(dump: &[u8], g: Geometry, pages: u32, o: ObjectId) -> Sized
     if o.is_bad() {
         return Sized::Refused(Refusal::BadObject, 0);
     }
-    let f = file_of(dump, g, Takes::Every, pages, o);
+    let f = file_of(dump, g, pages, o);
     match f {
         File::Refused(r, visits) => Sized::Refused(r, visits),
-        File::Header(h, visits) => Sized::Size(size_of(dump, g, Takes::Every, pages, o, h), visits),
+        File::Header(h, visits) => Sized::Size(size_of(dump, g, pages, o, h), visits),
     }
 }
 
@@ -188,7 +186,7 @@ fn look_in(dump: &[u8], g: Geometry, pages: u32, o: ObjectId, c: ChunkNumber) ->
     if c.is_bad() {
         return Looked::Refused(Refusal::BadChunk, 0, 0);
     }
-    let f = file_of(dump, g, Takes::Every, pages, o);
+    let f = file_of(dump, g, pages, o);
     match f {
         File::Refused(r, visits) => Looked::Refused(r, visits, 0),
         File::Header(h, visits) => chunk_by(
@@ -199,7 +197,7 @@ fn look_in(dump: &[u8], g: Geometry, pages: u32, o: ObjectId, c: ChunkNumber) ->
             c,
             h,
             visits,
-            size_of(dump, g, Takes::Every, pages, o, h),
+            size_of(dump, g, pages, o, h),
         ),
     }
 }

@@ -4,7 +4,6 @@ use mathlib.Core.Option.{none}
 use borrow.Author.Needs.{needs}
 use borrow.Author.Tests.{eq-eqb, ne-eqb}
 use Rattle.page.specs.Records.{recordAt}
-use Rattle.chunk.specs.Takes.{seenBy}
 use Rattle.chunk.specs.Newest.{newestHeader}
 use Rattle.chunk.specs.Lookups.{fileOf, fileBy}
 use Rattle.chunk.proofs.Gathering.{in-none, in-some}
@@ -21,7 +20,7 @@ returns-2 c =
     let w = c .before .before in
     let e = w .before in
     let a = e .before .before .before .args in
-    let says = seenBy (a .t) (recordAt (a .g) (a .dump .now)) in
+    let says = recordAt (a .g) (a .dump .now) in
     let n : newestHeader says (a .o .0) (a .pages) ≡ none = in-none says _ (sym (w .newest-page .ensures) ∙ c .enum-told .given .1) in
     rw (← e .before .records-since .ensures, ne-eqb _ _ (e .if1 .left), n, ← e .before .records-since .ensures)
 
@@ -33,9 +32,9 @@ returns-3 c =
     let w = h .before .before in
     let e = w .before in
     let a = e .before .before .before .args in
-    let says = seenBy (a .t) (recordAt (a .g) (a .dump .now)) in
+    let says = recordAt (a .g) (a .dump .now) in
     let f = in-some says (newestHeader says (a .o .0) (a .pages)) _ _ (sym (w .newest-page .ensures) ∙ h .h .given .1) in
-    rw (← e .before .records-since .ensures, ne-eqb _ _ (e .if1 .left), f .0, f .1, ← r .records-since2 .ensures, ← c .before .seen-at .ensures) (c .file-at .ensures)
+    rw (← e .before .records-since .ensures, ne-eqb _ _ (e .if1 .left), f .0, f .1, ← r .records-since2 .ensures, ← c .before .record-at .ensures) (c .file-at .ensures)
 
 pub file-of-spec : {M : Type 1} → statement M
 file-of-spec =

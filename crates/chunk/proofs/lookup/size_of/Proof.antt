@@ -10,7 +10,7 @@ returns c =
     let d = c .before .before in
     let k = d .before .before .before in
     rw (
-      ← k .seen-at .ensures,
+      ← k .record-at .ensures,
       ← d .before .before .sequence-of .ensures,
       ← d .before .order-of .ensures,
       ← d .data-end .ensures,
