@@ -179,7 +179,8 @@ typedef struct {
  * header, the copy, or the page that sets the size, and 0 where no copy exists;
  * byte is which of the page's data bytes is held, and else 0; value is the byte
  * that a read shows, 0 past the end too; until is the first later position where
- * reason or page is another. Beside ShortBuffer, need is how many words it needs. */
+ * reason or page is another, and 2^64 - 1 past the end. Beside ShortBuffer, need is
+ * how many words it needs. */
 typedef struct {
     uint32_t refusal;
     uint32_t need;
