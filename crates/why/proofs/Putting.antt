@@ -1,6 +1,7 @@
 -- Marks put into words one behind another.
 use Prim.Native.Nat.{ℕ, zero, suc, _+_, _*_, _≤_, _<_, zero-le}
-use mathlib.Core.List.{List, [], _∷_, _++_}
+use mathlib.Core.Bool.{false}
+use mathlib.Core.List.{List, [], _∷_, _++_, append-nil}
 use mathlib.Core.Logic.{⊎-elim}
 use mathlib.Core.Path.{_≡_, refl, sym, ap, _∙_}
 use native.Mathlib.Nat.{not-suc-le-zero, le-of-suc-le-suc, eq-or-lt-of-le}
@@ -13,6 +14,7 @@ use Rattle.page.specs.declared.record.Record.{Record}
 use Rattle.page.specs.declared.record.Record.the-variants.{Other, Header, Data}
 use Rattle.page.proofs.Searching.{by-test}
 use Rattle.chunk.specs.Lists.{inFront}
+use Rattle.chunk.specs.Records.{isOf}
 use Rattle.chunk.specs.Cuts.{cutOf}
 use Rattle.chunk.specs.declared.cut.Cut.{Cut}
 use Rattle.chunk.specs.declared.cut.Cut.the-variants.{At, Nowhere}
@@ -54,10 +56,19 @@ module _ (says : ℕ → Record) (P o h : ℕ) where
       (λ u. by-test (leb P (d .count)) _ (λ v. rw (t, u, v) (omega arith)) (λ v. rw (t, u, v) (omega arith))))
       (λ t. rw t (omega arith))
 
+  -- one that is no record of the object makes none
+  of-none : (p : ℕ) (r : Record) → isOf o r ≡ false → marksOf P o h p r ≡ []
+  of-none p Other t = refl
+  of-none p (Header k) t = rw t
+  of-none p (Data d) t = rw t
+
   -- one page more
   pub marks-more : (n : ℕ) → marksTo says P o h (n + 1) ≡ marksTo says P o h n ++ marksOf P o h n (says n)
   unfolding marksTo
   marks-more n = gather-step (λ p marks. marks ++ marksOf P o h p (says p)) (markOf 0 noPage ∷ []) n
+
+  pub marks-same : (n : ℕ) → isOf o (says n) ≡ false → marksTo says P o h (n + 1) ≡ marksTo says P o h n
+  marks-same n t = marks-more n ∙ ap (λ (r : List ℕ). marksTo says P o h n ++ r) (of-none n (says n) t) ∙ append-nil (marksTo says P o h n)
 
   pub count-more : (n : ℕ) → length (marksTo says P o h (n + 1)) ≡ length (marksTo says P o h n) + length (marksOf P o h n (says n))
   count-more n = ap length (marks-more n) ∙ length-append (marksTo says P o h n) (marksOf P o h n (says n))
@@ -94,6 +105,12 @@ module _ (says : ℕ → Record) (P o h : ℕ) where
       pub place : at ≡ length (marksTo says P o h i)
       pub long : length w ≡ length w₀
       pub front : w ≡ inFront (marksTo says P o h i) w₀
+
+    -- a page that is no record of the object is passed over
+    pub fill-skip : (w : List ℕ) (at i : ℕ) → Filled w at i → i < n → isOf o (says i) ≡ false → Filled w at (i + 1)
+    fill-skip w at i f k t =
+        let e = marks-same i t in
+        record { inside = omega arith; place = f .place ∙ ap length (sym e); long = f .long; front = f .front ∙ ap (λ (r : List ℕ). inFront r w₀) (sym e) }
 
     module _ (room : length (marksTo says P o h n) ≤ length w₀) (w : List ℕ) (at i : ℕ) (f : Filled w at i) (k : i < n) (F : List ℕ) (e : F ≡ marksOf P o h i (says i)) where
       -- the next page's have room
