@@ -104,6 +104,10 @@ module _ (says : ℕ → Record) where
   unfolding endWith
   end-skip P o x n t = end-step P o x n ∙ by-test (isOf o (says n)) _ (λ u. rw (u, t)) (λ u. rw u)
 
+  pub end-other : (P o x n : ℕ) → isOf o (says n) ≡ false → dataEnd says P o x (n + 1) ≡ dataEnd says P o x n
+  unfolding endWith
+  end-other P o x n t = end-step P o x n ∙ rw t
+
   pub cut-none : (o h x : ℕ) → lowestCut says o h x 0 ≡ Nowhere
   unfolding lowestCut gather
   cut-none o h x = refl
@@ -121,3 +125,7 @@ module _ (says : ℕ → Record) where
   pub cut-skip : (o h x n : ℕ) → isHeader (says n) ≡ false → lowestCut says o h x (n + 1) ≡ lowestCut says o h x n
   unfolding cutWith
   cut-skip o h x n t = cut-step o h x n ∙ by-test (isOf o (says n)) _ (λ u. rw (u, t)) (λ u. rw u)
+
+  pub cut-other : (o h x n : ℕ) → isOf o (says n) ≡ false → lowestCut says o h x (n + 1) ≡ lowestCut says o h x n
+  unfolding cutWith
+  cut-other o h x n t = cut-step o h x n ∙ rw t

@@ -1,14 +1,22 @@
 -- The records of an object, by the object that each has.
 use Prim.Native.Nat.{ℕ}
 use mathlib.Core.Bool.{true, false}
-use mathlib.Core.Path.{_≡_, refl}
+use mathlib.Core.List.{List}
+use mathlib.Core.Path.{_≡_, refl, sym, _∙_}
 use native.Mathlib.Omega.{arith}
-use lib.Dec.{eqb}
-use borrow.Author.Tests.{eq-eqb, eqb-true}
+use lib.Dec.{eqb, ltb}
+use borrow.Author.Tests.{eq-eqb, ne-eqb, eqb-true}
+use Rattle.page.specs.Records.{recordAt}
+use Rattle.page.specs.Tags.{namesAt}
+use Rattle.page.specs.declared.geometry.Geometry.{Geometry}
 use Rattle.page.specs.declared.record.Record.{Record}
 use Rattle.page.specs.declared.record.Record.the-variants.{Other, Header, Data}
-use Rattle.page.proofs.Searching.{clash}
-use Rattle.chunk.specs.Records.{objectOf, isOf}
+use Rattle.page.proofs.Searching.{clash, by-test}
+use Rattle.page.proofs.Within.{header-within, data-within}
+use Rattle.chunk.specs.Records.{ageOf, objectOf, isOf}
+use Rattle.chunk.specs.Takes.{seenBy}
+use Rattle.chunk.specs.declared.takes.Takes.{Takes}
+use Rattle.chunk.specs.declared.takes.Takes.the-variants.{Every, Older}
 
 -- a record of object o has that object
 pub of-object : (o : ℕ) (r : Record) → isOf o r ≡ true → objectOf r ≡ o
@@ -27,3 +35,17 @@ pub other-object : (o : ℕ) (r : Record) → eqb (objectOf r) o ≡ false → i
 other-object o Other e = refl
 other-object o (Header h) e = e
 other-object o (Data d) e = e
+
+-- a page whose tags do not name object o is no record of it, and so not where only some are taken
+module _ (g : Geometry) (dump : List ℕ) (p o : ℕ) (t : namesAt g dump p o ≡ false) where
+  unnamed : isOf o (recordAt g dump p) ≡ false
+  unnamed = go (recordAt g dump p) refl
+    where
+      go : (r : Record) → recordAt g dump p ≡ r → isOf o r ≡ false
+      go Other e = refl
+      go (Header h) e = ne-eqb (h .object .0) o (λ q. let z : false ≡ true = sym t ∙ rw q at (header-within g dump p h e .named) in clash (cc))
+      go (Data d) e = ne-eqb (d .object .0) o (λ q. let z : false ≡ true = sym t ∙ rw q at (data-within g dump p d e .named) in clash (cc))
+
+  pub seen-unnamed : (k : Takes) → isOf o (seenBy k (recordAt g dump) p) ≡ false
+  seen-unnamed Every = unnamed
+  seen-unnamed (Older b) = by-test (ltb (ageOf (recordAt g dump) p) b) _ (λ u. rw u unnamed) (λ u. rw u)

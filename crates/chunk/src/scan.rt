@@ -1,4 +1,4 @@
-// Scans over the pages of a dump that are taken, each a single pass.
+// Scans over the pages of a dump that are taken, each a single pass. A page whose tags do not name the object is passed over unread.
 ghost use mathlib.Core.Path.{_≡_};
 ghost use Rattle.page.specs.Records.{recordAt};
 ghost use Rattle.page.specs.declared.record.Record.the-variants as Record;
@@ -23,6 +23,7 @@ use page::number::PageNumber;
 use page::record::Data;
 use page::record::Header;
 use page::record::Record;
+use page::tags::names_object;
 
 // The newest page of a scan with its age, if there is one.
 pub enum Newest {
@@ -55,8 +56,11 @@ pub fn newest_page(dump: &[u8], g: Geometry, t: Takes, pages: u32, o: ObjectId, 
     let mut i: u32 = 0;
     while i < pages {
         let n = PageNumber(i);
-        let r = seen_at(dump, g, t, n);
         i += 1;
+        if !names_object(dump, g, n, o) {
+            continue;
+        }
+        let r = seen_at(dump, g, t, n);
         if !is_wanted(r, o, w) {
             continue;
         }
@@ -73,8 +77,11 @@ pub fn records_since(dump: &[u8], g: Geometry, t: Takes, pages: u32, o: ObjectId
     let mut i: u32 = 0;
     while i < pages {
         let n = PageNumber(i);
-        let r = seen_at(dump, g, t, n);
         i += 1;
+        if !names_object(dump, g, n, o) {
+            continue;
+        }
+        let r = seen_at(dump, g, t, n);
         if !is_wanted(r, o, Want::Record) {
             continue;
         }
@@ -107,8 +114,11 @@ pub fn data_end(dump: &[u8], g: Geometry, t: Takes, pages: u32, o: ObjectId, age
     let mut i: u32 = 0;
     while i < pages {
         let n = PageNumber(i);
-        let r = seen_at(dump, g, t, n);
         i += 1;
+        if !names_object(dump, g, n, o) {
+            continue;
+        }
+        let r = seen_at(dump, g, t, n);
         let Record::Data(d) = r else {
             continue;
         };
@@ -146,8 +156,11 @@ pub fn lowest_cut(
     let mut i: u32 = 0;
     while i < pages {
         let n = PageNumber(i);
-        let r = seen_at(dump, g, t, n);
         i += 1;
+        if !names_object(dump, g, n, o) {
+            continue;
+        }
+        let r = seen_at(dump, g, t, n);
         let Record::Header(header) = r else {
             continue;
         };

@@ -1,7 +1,7 @@
 -- What the values of a record are bounded by: what the crates above cite, so that they need not see through the definitions.
 -- A record's tags passed every test before the one that made them a header or data, so each limit is the failed test of a worse
 -- kind; the tests on a header's types stand behind those. A page that is not in the dump is blank, so a record's page is in it.
-use Prim.Native.Nat.{ℕ, _+_, _*_, _<_, _≤_, _^_}
+use Prim.Native.Nat.{ℕ, _+_, _*_, _%_, _<_, _≤_, _^_}
 use mathlib.Core.Bool.{Bool, true, false, not, _||_}
 use mathlib.Core.List.{List}
 use mathlib.Core.Path.{_≡_, refl, _∙_}
@@ -9,7 +9,7 @@ use lib.Dec.{eqb, ltb}
 use lib.ListN.{length, getD, take, drop, length-take, List·getD-eq-default}
 use lib.Seq.{getD-take, getD-drop}
 use native.Mathlib.Omega.{arith}
-use borrow.Author.Tests.{eqb-false, ltb-true, ltb-false, lt-ltb, le-ltb, ne-eqb}
+use borrow.Author.Tests.{eqb-false, ltb-true, ltb-false, lt-ltb, le-ltb, eq-eqb, ne-eqb}
 use Rattle.page.specs.Choice.{pick}
 use Rattle.page.specs.Words.{le32}
 use Rattle.page.specs.Numbers.{mostObject, mostChunk, badObject, badChunk}
@@ -17,7 +17,7 @@ use Rattle.page.specs.Lengths.{inBlocks, pageIn, openedOf}
 use Rattle.page.specs.Pages.{pageAt}
 use Rattle.page.specs.Layouts.{pageLen}
 use Rattle.page.specs.Headers.{atType, atParent, atSize, atShrink, fieldsOf}
-use Rattle.page.specs.Tags.{blankSequence, leastSequence, mostSequence, isTyped, objectIn, tagsOf, tagBytes, headerClaim, dataClaim, claimOf, claimOn}
+use Rattle.page.specs.Tags.{blankSequence, leastSequence, mostSequence, ids, isTyped, objectIn, tagsOf, tagBytes, headerClaim, dataClaim, claimOf, claimOn, namesAt}
 use Rattle.page.specs.Records.{recordOf, recordAt}
 use Rattle.page.specs.Kinds.{badType, typeDiffers, headerOf, kindBy, kindOf, kindAt}
 use Rattle.page.specs.declared.geometry.Geometry.{Geometry}
@@ -85,13 +85,23 @@ pub type-within : (t : ℕ) → badType t ≡ false → Between 1 5 t
 unfolding badType
 type-within t e = not-zero-or-above 5 t e
 
+-- the low 28 bits of the object word are the object of a header, and of data
+object-word : (n : ℕ) → badObject n ≡ false → n % ids ≡ n
+object-word n e = let b = object-within n e in omega (arith, b .most)
+
+header-word : (t : Tags) → badObject (objectIn t) ≡ false → t .object % ids ≡ objectIn t
+unfolding objectIn
+header-word t e = by-test (isTyped t) _ (λ u. rw u) (λ u. rw u (object-word (t .object) (rw u at e)))
+
 -- what tags that claim a header are
-pub record HeaderClaimed (s : ℕ) (o : ObjectId) : Type 0 where
+pub record HeaderClaimed (t : Tags) (s : ℕ) (o : ObjectId) : Type 0 where
+  pub named : t .object % ids ≡ o .0
   pub sequence : Between leastSequence mostSequence s
   pub object : Between 1 mostObject (o .0)
 
 -- what tags that claim data are, on a page of p data bytes
-pub record DataClaimed (p : ℕ) (d : «data».Data) : Type 0 where
+pub record DataClaimed (p : ℕ) (t : Tags) (d : «data».Data) : Type 0 where
+  pub named : t .object % ids ≡ d .object .0
   pub sequence : Between leastSequence mostSequence (d .sequence)
   pub object : Between 1 mostObject (d .object .0)
   pub chunk : Between 1 mostChunk (d .chunk .0)
@@ -118,51 +128,52 @@ module _ (p : ℕ) (t : Tags) where
       (λ h₃ e₃. f (record { least = ltb-false (t .sequence) leastSequence h₂; most = ltb-false mostSequence (t .sequence) h₃ }) e₃)))
 
   module _ (s : ℕ) (o : ObjectId) where
-    by-header : Between leastSequence mostSequence (t .sequence) → headerClaim t ≡ claim.Header s o → HeaderClaimed s o
+    by-header : Between leastSequence mostSequence (t .sequence) → headerClaim t ≡ claim.Header s o → HeaderClaimed t s o
     unfolding headerClaim
     by-header w e =
-        pick-cases (badObject (objectIn t)) _ _ _ (HeaderClaimed s o) e (λ _ q. clash (cc))
+        pick-cases (badObject (objectIn t)) _ _ _ (HeaderClaimed t s o) e (λ _ q. clash (cc))
         (λ h q.
         let a : t .sequence ≡ s = cc in
         let b : objectIn t ≡ o .0 = cc in
-        record { sequence = rw a at w; object = rw b at (object-within (objectIn t) h) })
+        record { named = header-word t h ∙ b; sequence = rw a at w; object = rw b at (object-within (objectIn t) h) })
 
-    no-header : dataClaim p t ≡ claim.Header s o → HeaderClaimed s o
+    no-header : dataClaim p t ≡ claim.Header s o → HeaderClaimed t s o
     unfolding dataClaim
     no-header e =
-        pick-cases (badObject (t .object)) _ _ _ (HeaderClaimed s o) e (λ _ q. clash (cc))
-        (λ _ e₁. pick-cases (ltb mostChunk (t .chunk)) _ _ _ (HeaderClaimed s o) e₁ (λ _ q. clash (cc))
-        (λ _ e₂. pick-cases (eqb (t .count) 0) _ _ _ (HeaderClaimed s o) e₂ (λ _ q. clash (cc))
-        (λ _ e₃. pick-cases (ltb p (t .count)) _ _ _ (HeaderClaimed s o) e₃ (λ _ q. clash (cc)) (λ _ q. clash (cc)))))
+        pick-cases (badObject (t .object)) _ _ _ (HeaderClaimed t s o) e (λ _ q. clash (cc))
+        (λ _ e₁. pick-cases (ltb mostChunk (t .chunk)) _ _ _ (HeaderClaimed t s o) e₁ (λ _ q. clash (cc))
+        (λ _ e₂. pick-cases (eqb (t .count) 0) _ _ _ (HeaderClaimed t s o) e₂ (λ _ q. clash (cc))
+        (λ _ e₃. pick-cases (ltb p (t .count)) _ _ _ (HeaderClaimed t s o) e₃ (λ _ q. clash (cc)) (λ _ q. clash (cc)))))
 
     -- tags that claim a header have the sequence and the object of a record
-    pub header-claimed : claimOf p t ≡ claim.Header s o → HeaderClaimed s o
+    pub header-claimed : claimOf p t ≡ claim.Header s o → HeaderClaimed t s o
     unfolding claimBehind
     header-claimed e =
-        passed (claim.Header s o) (HeaderClaimed s o) e (λ q. clash (cc)) (λ q. clash (cc))
-        (λ w e₁. pick-cases (isTyped t) _ _ _ (HeaderClaimed s o) e₁ (λ _ q. by-header w q)
-        (λ _ e₂. pick-cases (eqb (t .chunk) 0) _ _ _ (HeaderClaimed s o) e₂ (λ _ q. by-header w q) (λ _ q. no-header q)))
+        passed (claim.Header s o) (HeaderClaimed t s o) e (λ q. clash (cc)) (λ q. clash (cc))
+        (λ w e₁. pick-cases (isTyped t) _ _ _ (HeaderClaimed t s o) e₁ (λ _ q. by-header w q)
+        (λ _ e₂. pick-cases (eqb (t .chunk) 0) _ _ _ (HeaderClaimed t s o) e₂ (λ _ q. by-header w q) (λ _ q. no-header q)))
 
   module _ (d : «data».Data) where
-    no-data : headerClaim t ≡ claim.Data d → DataClaimed p d
+    no-data : headerClaim t ≡ claim.Data d → DataClaimed p t d
     unfolding headerClaim
-    no-data e = pick-cases (badObject (objectIn t)) _ _ _ (DataClaimed p d) e (λ _ q. clash (cc)) (λ _ q. clash (cc))
+    no-data e = pick-cases (badObject (objectIn t)) _ _ _ (DataClaimed p t d) e (λ _ q. clash (cc)) (λ _ q. clash (cc))
 
     by-data :
         Between leastSequence mostSequence (t .sequence) →
         eqb (t .chunk) 0 ≡ false →
         dataClaim p t ≡ claim.Data d →
-        DataClaimed p d
+        DataClaimed p t d
     unfolding dataClaim
     by-data w z e =
-        pick-cases (badObject (t .object)) _ _ _ (DataClaimed p d) e (λ _ q. clash (cc))
-        (λ h₁ e₁. pick-cases (ltb mostChunk (t .chunk)) _ _ _ (DataClaimed p d) e₁ (λ _ q. clash (cc))
-        (λ h₂ e₂. pick-cases (eqb (t .count) 0) _ _ _ (DataClaimed p d) e₂ (λ _ q. clash (cc))
-        (λ h₃ e₃. pick-cases (ltb p (t .count)) _ _ _ (DataClaimed p d) e₃ (λ _ q. clash (cc))
+        pick-cases (badObject (t .object)) _ _ _ (DataClaimed p t d) e (λ _ q. clash (cc))
+        (λ h₁ e₁. pick-cases (ltb mostChunk (t .chunk)) _ _ _ (DataClaimed p t d) e₁ (λ _ q. clash (cc))
+        (λ h₂ e₂. pick-cases (eqb (t .count) 0) _ _ _ (DataClaimed p t d) e₂ (λ _ q. clash (cc))
+        (λ h₃ e₃. pick-cases (ltb p (t .count)) _ _ _ (DataClaimed p t d) e₃ (λ _ q. clash (cc))
         (λ h₄ q.
         let v : d ≡ record { sequence = t .sequence; object = record { 0 = t .object }; chunk = record { 0 = t .chunk }; count = t .count } = cc in
         rw v
         (record {
+          named = object-word (t .object) h₁;
           sequence = w;
           object = object-within (t .object) h₁;
           chunk = above-zero mostChunk (t .chunk) z h₂;
@@ -170,16 +181,17 @@ module _ (p : ℕ) (t : Tags) where
         })))))
 
     -- tags that claim data have the sequence, the object, the chunk and the byte count of a record
-    pub data-claimed : claimOf p t ≡ claim.Data d → DataClaimed p d
+    pub data-claimed : claimOf p t ≡ claim.Data d → DataClaimed p t d
     unfolding claimBehind
     data-claimed e =
-        passed (claim.Data d) (DataClaimed p d) e (λ q. clash (cc)) (λ q. clash (cc))
-        (λ w e₁. pick-cases (isTyped t) _ _ _ (DataClaimed p d) e₁ (λ _ q. no-data q)
-        (λ _ e₂. pick-cases (eqb (t .chunk) 0) _ _ _ (DataClaimed p d) e₂ (λ _ q. no-data q) (λ z q. by-data w z q)))
+        passed (claim.Data d) (DataClaimed p t d) e (λ q. clash (cc)) (λ q. clash (cc))
+        (λ w e₁. pick-cases (isTyped t) _ _ _ (DataClaimed p t d) e₁ (λ _ q. no-data q)
+        (λ _ e₂. pick-cases (eqb (t .chunk) 0) _ _ _ (DataClaimed p t d) e₂ (λ _ q. no-data q) (λ z q. by-data w z q)))
 
 -- what a header's values are bounded by, and that its page is in the dump
 pub record HeaderWithin (g : Geometry) (dump : List ℕ) (i : ℕ) (h : header.Header) : Type 0 where
   pub page : pageIn g (length dump) i ≡ true
+  pub named : namesAt g dump i (h .object .0) ≡ true
   pub sequence : Between leastSequence mostSequence (h .sequence)
   pub object : Between 1 mostObject (h .object .0)
   pub page-type : Between 1 5 (h .«page_type»)
@@ -187,6 +199,7 @@ pub record HeaderWithin (g : Geometry) (dump : List ℕ) (i : ℕ) (h : header.H
 -- what a data page's values are bounded by, and that it is in the dump
 pub record DataWithin (g : Geometry) (dump : List ℕ) (i : ℕ) (d : «data».Data) : Type 0 where
   pub page : pageIn g (length dump) i ≡ true
+  pub named : namesAt g dump i (d .object .0) ≡ true
   pub sequence : Between leastSequence mostSequence (d .sequence)
   pub object : Between 1 mostObject (d .object .0)
   pub chunk : Between 1 mostChunk (d .chunk .0)
@@ -245,6 +258,11 @@ module _ (g : Geometry) (dump : List ℕ) (i : ℕ) where
   abbrev tags : Tags
   tags = tagsOf (tagBytes (g .layout) (pageAt g dump i))
 
+  -- the object word of a page that is in the dump
+  names-word : (o : ℕ) → pageIn g (length dump) i ≡ true → tags .object % ids ≡ o → namesAt g dump i o ≡ true
+  unfolding namesAt
+  names-word o p e = rw p (eq-eqb (tags .object % ids) o e)
+
   -- a header's values are within their limits
   kind-header : (h : header.Header) → kindAt g dump i ≡ Header h → HeaderWithin g dump i h × HeaderSays (fieldsOf (pageAt g dump i)) h
   unfolding kindAt kindOf claimOn
@@ -253,7 +271,7 @@ module _ (g : Geometry) (dump : List ℕ) (i : ℕ) where
       (λ p q.
       let b = header-by (pageAt g dump i) tags h (claimOf (g .layout .«data») tags) q in
       let w = header-claimed (g .layout .«data») tags (h .sequence) (h .object) (b .claimed) in
-      (record { page = p; sequence = w .sequence; object = w .object; page-type = b .page-type }, b .says))
+      (record { page = p; named = names-word (h .object .0) p (w .named); sequence = w .sequence; object = w .object; page-type = b .page-type }, b .says))
       (λ _ q. clash (cc))
 
   kind-data : (d : «data».Data) → kindAt g dump i ≡ Data d → DataWithin g dump i d
@@ -262,7 +280,7 @@ module _ (g : Geometry) (dump : List ℕ) (i : ℕ) where
       pick-cases (pageIn g (length dump) i) _ _ _ (DataWithin g dump i d) e
       (λ h q.
       let w = data-claimed (g .layout .«data») tags d (data-by (pageAt g dump i) tags d (claimOf (g .layout .«data») tags) q) in
-      record { page = h; sequence = w .sequence; object = w .object; chunk = w .chunk; count = w .count })
+      record { page = h; named = names-word (d .object .0) h (w .named); sequence = w .sequence; object = w .object; chunk = w .chunk; count = w .count })
       (λ _ q. clash (cc))
 
   -- a page that is a record is of that kind

@@ -1,6 +1,6 @@
 -- Page kinds, first match wins (document 01, "Page kinds"): what the tags alone say.
 use Prim.Native.Nat.{ℕ, _/_, _%_}
-use mathlib.Core.Bool.{Bool}
+use mathlib.Core.Bool.{Bool, _&&_}
 use mathlib.Core.List.{List}
 use lib.ListN.{length, take, drop}
 use lib.Dec.{ltb, leb, eqb}
@@ -83,3 +83,7 @@ claimOn l page = claimOf (l .«data») (tagsOf (tagBytes l page))
 -- what the tags of page i say; one that is not in the dump says nothing, as a blank one
 unfoldable pub claimAt : Geometry → (dump : List ℕ) (page : ℕ) → Claim
 claimAt g dump i = pick (pageIn g (length dump) i) (claimOn (g .layout) (pageAt g dump i)) Blank
+
+-- whether the tags of page i name object o, by the low 28 bits of their object word alone; one that is not in the dump names none
+unfoldable pub namesAt : Geometry → (dump : List ℕ) (page object : ℕ) → Bool
+namesAt g dump i o = pageIn g (length dump) i && eqb (tagsOf (tagBytes (g .layout) (pageAt g dump i)) .object % ids) o

@@ -6,7 +6,7 @@ ghost use mathlib.Core.Bool.{true};
 ghost use Rattle.page.specs.Layouts.{tagLength, pageLen, roomy};
 ghost use Rattle.page.specs.Lengths.{pageIn};
 ghost use Rattle.page.specs.Pages.{pageAt};
-ghost use Rattle.page.specs.Tags.{tagsOf, tagBytes, objectIn, headerClaim, dataClaim, claimOf, claimAt};
+ghost use Rattle.page.specs.Tags.{tagsOf, tagBytes, objectIn, headerClaim, dataClaim, claimOf, claimAt, namesAt};
 use crate::geometry::Geometry;
 use crate::layout::Layout;
 use crate::number::ChunkNumber;
@@ -167,4 +167,14 @@ pub fn claim_at(dump: &[u8], g: Geometry, n: PageNumber) -> Claim
         return Claim::Blank;
     }
     tags_at(dump, g, n).claim(g.layout.data)
+}
+
+// Whether the tags of page n name object o, by their object word alone: a page of which they do not is no record of it.
+pub fn names_object(dump: &[u8], g: Geometry, n: PageNumber, o: ObjectId) -> bool
+    ensures { λ r. ⌜ r ≡ namesAt g (now (dump .entry)) (n .0) (o .0) ⌝ }
+{
+    if !g.holds(dump.len(), n) {
+        return false;
+    }
+    tags_at(dump, g, n).object % Tags::IDS == o.0
 }

@@ -1,7 +1,7 @@
 -- Marks put into words one behind another.
 use Prim.Native.Nat.{ℕ, zero, suc, _+_, _*_, _≤_, _<_, zero-le}
 use mathlib.Core.Bool.{false}
-use mathlib.Core.List.{List, [], _∷_, _++_}
+use mathlib.Core.List.{List, [], _∷_, _++_, append-nil}
 use mathlib.Core.Logic.{⊎-elim}
 use mathlib.Core.Path.{_≡_, refl, sym, ap, _∙_}
 use native.Mathlib.Nat.{not-suc-le-zero, le-of-suc-le-suc, eq-or-lt-of-le}
@@ -58,10 +58,19 @@ module _ (says : ℕ → Record) (P o h : ℕ) where
       (λ u. by-test (leb P (d .count)) _ (λ v. rw (t, u, v) (omega arith)) (λ v. rw (t, u, v) (omega arith))))
       (λ t. rw t (omega arith))
 
+  -- one that is no record of the object makes none
+  of-none : (p : ℕ) (r : Record) → isOf o r ≡ false → marksOf P o h p r ≡ []
+  of-none p Other t = refl
+  of-none p (Header k) t = rw t
+  of-none p (Data d) t = rw t
+
   -- one page more
   pub marks-more : (n : ℕ) → marksTo says P o h (n + 1) ≡ marksTo says P o h n ++ marksOf P o h n (says n)
   unfolding marksTo
   marks-more n = gather-step (λ p marks. marks ++ marksOf P o h p (says p)) (markOf 0 noPage ∷ []) n
+
+  pub marks-same : (n : ℕ) → isOf o (says n) ≡ false → marksTo says P o h (n + 1) ≡ marksTo says P o h n
+  marks-same n t = marks-more n ∙ ap (λ (r : List ℕ). marksTo says P o h n ++ r) (of-none n (says n) t) ∙ append-nil (marksTo says P o h n)
 
   pub count-more : (n : ℕ) → length (marksTo says P o h (n + 1)) ≡ length (marksTo says P o h n) + length (marksOf P o h n (says n))
   count-more n = ap length (marks-more n) ∙ length-append (marksTo says P o h n) (marksOf P o h n (says n))
@@ -81,12 +90,7 @@ module _ (says : ℕ → Record) (P o h : ℕ) where
   marks-some zero = rw (marks-none says P o h) (omega arith)
   marks-some (suc n) = omega (arith, count-suc n, marks-some n)
 
-  -- those of the object's records alone: a page that is none makes no mark
-  of-other : (p : ℕ) (r : Record) → isOf o r ≡ false → marksOf P o h p r ≡ []
-  of-other p Other t = refl
-  of-other p (Header k) t = rw t
-  of-other p (Data d) t = rw t
-
+  -- no more than three for each of the object's records: a page that is none makes no mark
   pub marks-records : (n : ℕ) → length (marksTo says P o h n) ≤ 3 * records says o n + 1
   marks-records zero = rw (marks-none says P o h) (omega arith)
   marks-records (suc n) =
@@ -94,8 +98,7 @@ module _ (says : ℕ → Record) (P o h : ℕ) where
       (λ t. let s = since-one says o 0 n t zero-le in rw (← add-one n) (omega (arith, s, count-more n, marks-records n, of-few n (says n))))
       (λ t.
       let s = since-skip says o 0 n t in
-      let z : length (marksOf P o h n (says n)) ≡ 0 = ap length (of-other n (says n) t) in
-      rw (← add-one n) (omega (arith, s, z, count-more n, marks-records n)))
+      rw (← add-one n, marks-same n t) (omega (arith, s, marks-records n)))
 
   -- those of a page are among those of all
   pub marks-within : (n i : ℕ) → i < n → length (marksTo says P o h i) + length (marksOf P o h i (says i)) ≤ length (marksTo says P o h n)
@@ -114,6 +117,12 @@ module _ (says : ℕ → Record) (P o h : ℕ) where
       pub place : at ≡ length (marksTo says P o h i)
       pub long : length w ≡ length w₀
       pub front : w ≡ inFront (marksTo says P o h i) w₀
+
+    -- a page that is no record of the object is passed over
+    pub fill-skip : (w : List ℕ) (at i : ℕ) → Filled w at i → i < n → isOf o (says i) ≡ false → Filled w at (i + 1)
+    fill-skip w at i f k t =
+        let e = marks-same i t in
+        record { inside = omega arith; place = f .place ∙ ap length (sym e); long = f .long; front = f .front ∙ ap (λ (r : List ℕ). inFront r w₀) (sym e) }
 
     module _ (room : length (marksTo says P o h n) ≤ length w₀) (w : List ℕ) (at i : ℕ) (f : Filled w at i) (k : i < n) (F : List ℕ) (e : F ≡ marksOf P o h i (says i)) where
       -- the next page's have room

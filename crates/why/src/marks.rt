@@ -29,6 +29,7 @@ use page::number::PAGE_VALUES;
 use page::number::PageNumber;
 use page::record::Data;
 use page::record::Record;
+use page::tags::names_object;
 
 // How many places marks tell apart; no chunk has a byte behind them.
 const PLACES: u64 = 0x100_0000_0000;
@@ -209,11 +210,14 @@ pub(crate) fn measure(
     let mut i: u32 = 0;
     while i < pages {
         let p = PageNumber(i);
+        i += 1;
+        if !names_object(dump, g, p, o) {
+            continue;
+        }
         let r = seen_at(dump, g, t, p);
         end = end_by(end, g.layout.data, o, age, p, r);
         let made = marks_of(g.layout.data, o, h, p, r);
         marks += made.count();
-        i += 1;
     }
     Measured {
         marks,
@@ -241,8 +245,11 @@ pub(crate) fn fill_marks(
     let mut i: u32 = 0;
     while i < pages {
         let p = PageNumber(i);
+        i += 1;
+        if !names_object(dump, g, p, o) {
+            continue;
+        }
         let made = marks_of(g.layout.data, o, h, p, seen_at(dump, g, t, p));
         at = made.put(rows, at);
-        i += 1;
     }
 }

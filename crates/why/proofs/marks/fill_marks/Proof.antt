@@ -1,13 +1,18 @@
 -- The loop's invariant: the marks of the pages passed stand in front of the words, and the place behind them is known.
 use Prim.Native.Nat.{_≤_, _-_}
+use mathlib.Core.Bool.{false}
 use mathlib.Core.Path.{_≡_, _∙_}
 use native.Mathlib.Omega.{arith}
 use borrow.Author.Needs.{needs}
+use borrow.Author.Tests.{not-true}
 use lib.ListN.{length, set, length-set}
 use Rattle.page.specs.Records.{recordAt}
+use Rattle.page.specs.Tags.{namesAt}
+use Rattle.chunk.specs.Records.{isOf}
 use Rattle.chunk.specs.Takes.{seenBy}
 use Rattle.why.specs.Marks.{marksIn, marksOf, marksTo}
-use Rattle.why.proofs.Putting.{Filled, marks-some, fill-none, fill-room, fill-more, fill-end}
+use Rattle.chunk.proofs.Records.{seen-unnamed}
+use Rattle.why.proofs.Putting.{Filled, marks-some, fill-none, fill-skip, fill-room, fill-more, fill-end}
 use Rattle.why.proofs.marks.fill_marks.Statement.{statement}
 use Rattle.why.proofs.marks.fill_marks.Tie as tie
 
@@ -31,6 +36,17 @@ loop-holds c =
     fill-none says (a .g .layout .«data») (a .o .0) (a .h .0) (a .pages) (c .mark .result) (a .rows .now) (c .mark .ensures)
     (omega (arith, marks-some says (a .g .layout .«data») (a .o .0) (a .h .0) (a .pages), s .pre .1 .1))
 
+loop-again : tie.Need-loop-again Inv-loop μ-loop
+loop-again c =
+    let k = c .before in
+    let q = k .before .before .loop in
+    let m = k .before .before .before in
+    let a = m .before .before .before .args in
+    let says = seenBy (a .t) (recordAt (a .g) (a .dump .now)) in
+    let u : namesAt (a .g) (a .dump .now) (q .i) (a .o .0) ≡ false = rw (← k .names-object .ensures) (not-true (k .names-object .result) (c .if1 .taken)) in
+    let t : isOf (a .o .0) (says (q .i)) ≡ false = seen-unnamed (a .g) (a .dump .now) (q .i) (a .o .0) u (a .t) in
+    fill-skip says (a .g .layout .«data») (a .o .0) (a .h .0) (a .pages) (set (a .rows .now) 0 (m .mark .result)) (q .rows) (q .at) (q .i) (q .inv) (k .before .loop-test .taken) t
+
 -- all marks have room in the words, and those of the page are the definition's
 room :
     (c : tie.After-mark Inv-loop μ-loop) →
@@ -40,26 +56,26 @@ room c = let s = c .before .before .before in rw (length-set (s .args .rows .now
 
 made :
     (c : tie.After-marks-of Inv-loop μ-loop) →
-    let q = c .before .before .before .loop in
-    let a = c .before .before .before .before .before .before .before .args in
+    let q = c .before .before .before .before .before .loop in
+    let a = c .before .before .before .before .before .before .before .before .before .args in
     marksIn (c .marks-of .result) ≡ marksOf (a .g .layout .«data») (a .o .0) (a .h .0) (q .i) (seenBy (a .t) (recordAt (a .g) (a .dump .now)) (q .i))
 made c = rw (← c .before .seen-at .ensures) (c .marks-of .ensures)
 
 put-requires : tie.Need-put-requires Inv-loop μ-loop
 put-requires c κs =
     let m = c .before in
-    let t = m .before .before in
+    let t = m .before .before .before .before in
     let q = t .before .loop in
     let k = t .before .before in
     let a = k .before .before .before .args in
     fill-room (seenBy (a .t) (recordAt (a .g) (a .dump .now))) (a .g .layout .«data») (a .o .0) (a .h .0) (a .pages) (set (a .rows .now) 0 (k .mark .result)) (room k)
     (q .rows) (q .at) (q .i) (q .inv) (t .loop-test .taken) (marksIn (m .marks-of .result)) (made m)
 
-loop-again : tie.Need-loop-again Inv-loop μ-loop
-loop-again c =
+loop-again-2 : tie.Need-loop-again-2 Inv-loop μ-loop
+loop-again-2 c =
     let p = c .before .before in
     let m = p .before .before in
-    let t = m .before .before in
+    let t = m .before .before .before .before in
     let q = t .before .loop in
     let k = t .before .before in
     let a = k .before .before .before .args in
@@ -88,10 +104,13 @@ fill-marks-spec =
     slice-write-rows
     loop-holds
     (search needs)
-    (λ c κs. (omega (arith, c .before .loop-test .taken, c .before .before .before .before .before .before .pre .0), c .before .before .before .before .before .before .pre .1 .0))
-    put-requires
     (search needs)
     (search needs)
     loop-again
+    (search needs)
+    (λ c κs. (omega (arith, c .before .before .before .loop-test .taken, c .before .before .before .before .before .before .before .before .pre .0), c .before .before .before .before .before .before .before .before .pre .1 .0))
+    put-requires
+    (search needs)
+    loop-again-2
     same-length
     returns)

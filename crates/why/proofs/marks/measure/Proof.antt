@@ -1,15 +1,20 @@
 -- The loop's invariant: how many marks the pages passed make, and the largest end of those that are newer than the newest header.
 use Prim.Native.Nat.{_+_, _≤_, _-_}
-use mathlib.Core.Path.{_≡_, sym, _∙_}
+use mathlib.Core.Bool.{false}
+use mathlib.Core.Path.{_≡_, sym, ap, _∙_}
 use native.Mathlib.Omega.{arith}
 use borrow.Author.Needs.{needs}
+use borrow.Author.Tests.{not-true}
 use lib.ListN.{length}
 use Rattle.page.specs.Records.{recordAt}
+use Rattle.page.specs.Tags.{namesAt}
+use Rattle.chunk.specs.Records.{isOf}
 use Rattle.chunk.specs.Takes.{seenBy}
 use Rattle.chunk.specs.Sizes.{dataEnd, sizeOf}
-use Rattle.chunk.proofs.Gathering.{end-none, end-step}
+use Rattle.chunk.proofs.Records.{seen-unnamed}
+use Rattle.chunk.proofs.Gathering.{end-none, end-other, end-step}
 use Rattle.why.specs.Marks.{marksTo}
-use Rattle.why.proofs.Putting.{count-none, count-more, marks-few}
+use Rattle.why.proofs.Putting.{count-none, count-more, marks-same, marks-few}
 use Rattle.why.proofs.marks.measure.Statement.{statement}
 use Rattle.why.proofs.marks.measure.Tie as tie
 
@@ -27,29 +32,45 @@ loop-holds c =
     let says = seenBy (a .t) (recordAt (a .g) (a .dump .now)) in
     (search needs, (sym (count-none says (a .g .layout .«data») (a .o .0) (a .h .0)), rw end-none))
 
+loop-again : tie.Need-loop-again Inv-loop μ-loop
+loop-again c =
+    let k = c .before in
+    let q = k .before .before .loop in
+    let r = k .before .before .before in
+    let a = r .before .before .before .before .args in
+    let says = seenBy (a .t) (recordAt (a .g) (a .dump .now)) in
+    let u : namesAt (a .g) (a .dump .now) (q .i) (a .o .0) ≡ false = rw (← k .names-object .ensures) (not-true (k .names-object .result) (c .if1 .taken)) in
+    let t : isOf (a .o .0) (says (q .i)) ≡ false = seen-unnamed (a .g) (a .dump .now) (q .i) (a .o .0) u (a .t) in (
+      search needs,
+      (
+        q .inv .1 .0 ∙ ap length (sym (marks-same says (a .g .layout .«data») (a .o .0) (a .h .0) (q .i) t)),
+        q .inv .1 .1 ∙ sym (end-other says (a .g .layout .«data») (a .o .0) (r .order-of .result) (q .i) t),
+      ),
+    )
+
 marks-of-requires : tie.Need-marks-of-requires Inv-loop μ-loop
 marks-of-requires c κs =
-    let t = c .before .before in
+    let t = c .before .before .before .before in
     let s = t .before .before .before .before .before .before in
     (omega (arith, t .loop-test .taken, s .pre .0), s .pre .1)
 
 -- the marks with those of the page
 counted :
     (c : tie.After-count Inv-loop μ-loop) →
-    let q = c .before .before .before .before .before .loop in
-    let a = c .before .before .before .before .before .before .before .before .before .before .args in
+    let q = c .before .before .before .before .before .before .before .loop in
+    let a = c .before .before .before .before .before .before .before .before .before .before .before .before .args in
     q .marks + c .count .result ≡ length (marksTo (seenBy (a .t) (recordAt (a .g) (a .dump .now))) (a .g .layout .«data») (a .o .0) (a .h .0) (q .i + 1))
 counted c =
     let m = c .before in
     let s = m .before .before in
-    let q = s .before .before .loop in
-    let a = s .before .before .before .before .before .before .before .args in
+    let q = s .before .before .before .before .loop in
+    let a = s .before .before .before .before .before .before .before .before .before .args in
     rw (q .inv .1 .0, c .count .ensures, m .marks-of .ensures, s .seen-at2 .ensures)
     (sym (count-more (seenBy (a .t) (recordAt (a .g) (a .dump .now))) (a .g .layout .«data») (a .o .0) (a .h .0) (q .i)))
 
 add-marks : tie.Need-add-marks Inv-loop μ-loop
 add-marks c =
-    let t = c .before .before .before .before in
+    let t = c .before .before .before .before .before .before in
     let q = t .before .loop in
     let e = t .before .before .before .before .before .before in
     let a = e .args in
@@ -64,12 +85,12 @@ add-marks c =
           );
     }
 
-loop-again : tie.Need-loop-again Inv-loop μ-loop
-loop-again c =
+loop-again-2 : tie.Need-loop-again-2 Inv-loop μ-loop
+loop-again-2 c =
     let e = c .before .before in
     let s = e .before in
-    let q = s .before .before .loop in
-    let r = s .before .before .before in
+    let q = s .before .before .before .before .loop in
+    let r = s .before .before .before .before .before in
     let a = r .before .before .before .before .args in
     let says = seenBy (a .t) (recordAt (a .g) (a .dump .now)) in (
       search needs,
@@ -102,12 +123,15 @@ measure-spec =
     loop-holds
     (search needs)
     (search needs)
+    (search needs)
+    loop-again
+    (search needs)
+    (search needs)
     marks-of-requires
     (search needs)
     add-marks
     (search needs)
-    (search needs)
-    loop-again
+    loop-again-2
     (search needs)
     (search needs)
     (search needs)
