@@ -1,7 +1,10 @@
 // The page that sets the size of a file: its newest header by the file size that it has, or data newer than that by where its bytes end; the newest if
 // several do.
+ghost use mathlib.Core.Bool.{_||_};
 ghost use mathlib.Core.Path.{_≡_};
+ghost use lib.Dec.{eqb};
 ghost use Rattle.page.specs.Records.{recordAt};
+ghost use Rattle.page.specs.Tags.{namesAt};
 ghost use Rattle.chunk.specs.Sizes.{sizeOf};
 ghost use Rattle.chunk.specs.Takes.{seenBy};
 ghost use Rattle.why.specs.Reasons.{setsBy, setter};
@@ -16,6 +19,7 @@ use page::geometry::Geometry;
 use page::number::ObjectId;
 use page::number::PageNumber;
 use page::record::Record;
+use page::tags::names_object;
 
 // Whether page p, which is this record, sets a size: it is page h, and has it as its file size; or it is data of object o that is newer than an age, and ends there.
 fn sets_size(
@@ -49,6 +53,16 @@ fn sets_size(
     }
 }
 
+// Whether page p may set the size of the file of object o: it is page h, or its tags name the object.
+fn may_set(dump: &[u8], g: Geometry, o: ObjectId, h: PageNumber, p: PageNumber) -> bool
+    ensures { λ b. ⌜ b ≡ eqb (p .0) (h .0) || namesAt g (now (dump .entry)) (p .0) (o .0) ⌝ }
+{
+    if p.0 == h.0 {
+        return true;
+    }
+    names_object(dump, g, p, o)
+}
+
 // The newest page that sets the size of the file of object o, whose newest header is page h.
 pub(crate) fn setter(
     dump: &[u8],
@@ -67,8 +81,11 @@ pub(crate) fn setter(
     let mut i: u32 = 0;
     while i < pages {
         let p = PageNumber(i);
-        let r = seen_at(dump, g, t, p);
         i += 1;
+        if !may_set(dump, g, o, h, p) {
+            continue;
+        }
+        let r = seen_at(dump, g, t, p);
         if !sets_size(g.layout.data, o, h, age, size, p, r) {
             continue;
         }

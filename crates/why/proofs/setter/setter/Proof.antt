@@ -1,18 +1,20 @@
 -- The loop's invariant: the newest page of those passed that sets the size.
 use Prim.Native.Nat.{ℕ, _≤_, _-_}
-use mathlib.Core.Bool.{Bool, true, false}
+use mathlib.Core.Bool.{Bool, true, false, _||_}
 use mathlib.Core.Path.{_≡_, sym, ap, _∙_}
 use native.Mathlib.Omega.{arith}
 use borrow.Author.Needs.{needs}
 use borrow.Author.Tests.{not-true, not-false}
+use lib.Dec.{eqb}
 use Rattle.page.specs.Records.{recordAt}
+use Rattle.page.specs.Tags.{namesAt}
 use Rattle.chunk.specs.Takes.{seenBy}
 use Rattle.chunk.specs.Records.{ageOf}
 use Rattle.chunk.specs.Newest.{newestWhere}
 use Rattle.chunk.specs.Scans.{newestIn}
 use Rattle.chunk.proofs.Gathering.{where-none, where-skip, where-take, later-in}
 use Rattle.why.specs.Reasons.{setsBy}
-use Rattle.why.proofs.Setting.{setter-none, setter-some}
+use Rattle.why.proofs.Setting.{unnamed-sets, setter-none, setter-some}
 use Rattle.why.proofs.setter.setter.Statement.{statement}
 use Rattle.why.proofs.setter.setter.Tie as tie
 
@@ -29,27 +31,38 @@ loop-holds c = (search needs, rw where-none)
 
 loop-again : tie.Need-loop-again Inv-loop μ-loop
 loop-again c =
-    let k = c .before .before in
+    let k = c .before in
     let q = k .before .before .loop in
     let age = k .before .before .before .order-of .result in
     let a = k .before .before .before .before .before .before .before .args in
     let says = seenBy (a .t) (recordAt (a .g) (a .dump .now)) in
-    let t : setsBy (a .g .layout .«data») (a .o .0) (a .h .0) age (a .size) (q .i) (says (q .i)) ≡ false =
-    rw (← k .seen-at2 .ensures, ← c .before .sets-size .ensures) (not-true (c .before .sets-size .result) (c .if1 .taken))
-    in
+    let u : eqb (q .i) (a .h .0) || namesAt (a .g) (a .dump .now) (q .i) (a .o .0) ≡ false = rw (← k .may-set .ensures) (not-true (k .may-set .result) (c .if1 .taken)) in
+    let t = unnamed-sets (a .g) (a .dump .now) (a .t) (a .g .layout .«data») (a .o .0) (a .h .0) age (a .size) (q .i) u in
     (search needs, q .inv .1 ∙ ap (newestIn says) (sym (where-skip says (λ p. setsBy (a .g .layout .«data») (a .o .0) (a .h .0) age (a .size) p (says p)) (q .i) t)))
 
 loop-again-2 : tie.Need-loop-again-2 Inv-loop μ-loop
 loop-again-2 c =
+    let k = c .before .before in
+    let q = k .before .before .before .before .loop in
+    let age = k .before .before .before .before .before .order-of .result in
+    let a = k .before .before .before .before .before .before .before .before .before .args in
+    let says = seenBy (a .t) (recordAt (a .g) (a .dump .now)) in
+    let t : setsBy (a .g .layout .«data») (a .o .0) (a .h .0) age (a .size) (q .i) (says (q .i)) ≡ false =
+    rw (← k .seen-at2 .ensures, ← c .before .sets-size .ensures) (not-true (c .before .sets-size .result) (c .if2 .taken))
+    in
+    (search needs, q .inv .1 ∙ ap (newestIn says) (sym (where-skip says (λ p. setsBy (a .g .layout .«data») (a .o .0) (a .h .0) age (a .size) p (says p)) (q .i) t)))
+
+loop-again-3 : tie.Need-loop-again-3 Inv-loop μ-loop
+loop-again-3 c =
     let e = c .before .before .before in
     let k = e .before .before in
-    let q = k .before .before .loop in
-    let age = k .before .before .before .order-of .result in
-    let a = k .before .before .before .before .before .before .before .args in
+    let q = k .before .before .before .before .loop in
+    let age = k .before .before .before .before .before .order-of .result in
+    let a = k .before .before .before .before .before .before .before .before .before .args in
     let says = seenBy (a .t) (recordAt (a .g) (a .dump .now)) in
     let test : ℕ → Bool = λ p. setsBy (a .g .layout .«data») (a .o .0) (a .h .0) age (a .size) p (says p) in
     let t : test (q .i) ≡ true =
-    rw (← k .seen-at2 .ensures, ← e .before .sets-size .ensures) (not-false (e .before .sets-size .result) (e .if1 .left))
+    rw (← k .seen-at2 .ensures, ← e .before .sets-size .ensures) (not-false (e .before .sets-size .result) (e .if2 .left))
     in
     let g : c .before .order-of2 .result ≡ ageOf says (q .i) = rw (← k .seen-at2 .ensures, ← c .before .before .sequence-of2 .ensures) (c .before .order-of2 .ensures) in (
       search needs,
@@ -99,13 +112,16 @@ setter-spec =
     (search needs)
     (search needs)
     (search needs)
-    (search needs)
     loop-again
     (search needs)
     (search needs)
     (search needs)
-    (search needs)
     loop-again-2
+    (search needs)
+    (search needs)
+    (search needs)
+    (search needs)
+    loop-again-3
     (search needs)
     (search needs)
     returns
