@@ -1,4 +1,5 @@
-// Why the bytes of a file are what they are, on a dump alone, at a moment: the dump as it stands, or as it stood before the record on a page was written.
+// Why the bytes of a file are what they are, on a dump alone, at a moment: the dump as it stands, or as it stood before the record on a page was
+// written.
 ghost use mathlib.Core.Path.{_≡_};
 ghost use lib.ListN.{length};
 ghost use Rattle.why.specs.Answers.{spanOf, whyOn, whyLeft, spansOn, spansLeft};
@@ -16,8 +17,8 @@ use why::moment::Moment;
 use why::spans::Spanned;
 use why::spans::spans;
 
-// Why a byte is what it is: the number of the reason's kind, the page that it goes by, the data byte of a held one, the byte that is shown, and up to where the
-// reason and its page hold. Beside ShortBuffer `need` is how many words it needs, and 0 else.
+// Why a byte is what it is: the number of the reason's kind, the page that it goes by, the data byte of a held one, the byte that is shown, and up to
+// where the reason and its page hold. Beside ShortBuffer `need` is how many words it needs, and 0 else.
 #[repr(C)]
 pub struct WhyAnswer {
     pub refusal: u32,
@@ -140,8 +141,8 @@ pub extern "C" fn lohenarr_dump_why(
     why_answer(dump, geometry, t)
 }
 
-// The spans of a whole file, a row of one number for each, ascending. The rest of the words that were needed is cleared, words past those stay, and a refusal
-// writes nothing.
+// The spans of a whole file, a row of one number for each, ascending. The rest of the words that were needed is cleared, words past those stay, and a
+// refusal writes nothing.
 #[no_mangle]
 pub extern "C" fn lohenarr_dump_spans(
     dump: &[u8],

@@ -1,5 +1,5 @@
--- W's bytes, computed from the definitions: why the first and the last byte of each of its spans are what they are, and the first past the end. What W's pages
--- are is known from the crate of pages.
+-- W's bytes, computed from the definitions: why the first and the last byte of each of its spans are what they are, and the first past the end. What
+-- W's pages are is known from the crate of pages.
 use Prim.Native.Nat.{ℕ}
 use mathlib.Core.List.{List, [], _∷_, map}
 use mathlib.Core.Path.{_≡_, refl, ap, _∙_, fun-ext}

@@ -1,6 +1,6 @@
--- What a sweep has taken in, by the marks that it has passed: the newest header that cuts, and the newest copy of the highest chunk, among those whose marks were
--- passed. A mark more takes in its page. And where all marks up to a place were passed, what was taken in gives the reason there: a header newer than the copy cuts
--- it exactly if the newest header passed is newer, since whatever cuts at or below the place was passed.
+-- What a sweep has taken in, by the marks that it has passed: the newest header that cuts, and the newest copy of the highest chunk, among those whose
+-- marks were passed. A mark more takes in its page. And where all marks up to a place were passed, what was taken in gives the reason there: a header
+-- newer than the copy cuts it exactly if the newest header passed is newer, since whatever cuts at or below the place was passed.
 use Prim.Native.Nat.{ℕ, _≤_, _<_}
 use mathlib.Core.Bool.{true, false, _&&_}
 use mathlib.Core.List.{List, [], _∷_, _++_}

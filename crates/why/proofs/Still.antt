@@ -1,5 +1,5 @@
--- Between marks nothing changes. The reason or its page changes from one position to the next only where a mark is: where a header cuts, where a copy's bytes end,
--- or where a chunk begins of which it or the one before it has a copy.
+-- Between marks nothing changes. The reason or its page changes from one position to the next only where a mark is: where a header cuts, where a copy's
+-- bytes end, or where a chunk begins of which it or the one before it has a copy.
 use Prim.Native.Nat.{ℕ, _+_, _-_, _≤_, _<_}
 use mathlib.Core.Bool.{Bool, true, false, _&&_}
 use mathlib.Core.Option.{Option, none, some}

@@ -1,5 +1,5 @@
--- The sweep makes the spans. Behind the last mark of a place all that decides the reason there was taken in (Sighted), and up to the next place nothing changes (Still). So
--- what is made from a place on are the rows of the positions from there on where the reason or its page changes.
+-- The sweep makes the spans. Behind the last mark of a place all that decides the reason there was taken in (Sighted), and up to the next place nothing
+-- changes (Still). So what is made from a place on are the rows of the positions from there on where the reason or its page changes.
 use Prim.Native.Nat.{ℕ, zero, suc, _+_, _-_, _≤_, _<_, min}
 use mathlib.Core.Bool.{Bool, true, false}
 use mathlib.Core.List.{List, [], _∷_, _++_, append-nil, append-assoc}

@@ -105,7 +105,8 @@ shownBy g dump (PastEnd p) = 0
 abbrev pub spanOf : (P row : ℕ) → Span
 spanOf P row = record { from = fromOf row; reason = reasonOf (codeIn row) (pick (eqb P 0) 0 (byteAt P (fromOf row))) }
 
--- the code of the span that position x lies in, and where that ends: of rows that ascend, the last that does not begin behind x, and the next one's begin
+-- the code of the span that position x lies in, and where that ends: of rows that ascend, the last that does not begin behind x, and the next one's
+-- begin
 unfoldable pub foundIn : (position end code : ℕ) (rows : List ℕ) → Found
 foundIn x end code [] = record { code = code; until = end }
 foundIn x end code (row ∷ rows) = pick (ltb x (fromOf row)) (record { code = code; until = fromOf row }) (foundIn x end (codeIn row) rows)

@@ -37,7 +37,8 @@ foundOr other (some p) = p
 abbrev pub heldBy : (says : ℕ → Record) (P page position : ℕ) → Reason
 heldBy says P q x = pick (leb (countOf (says q)) (byteAt P x)) (Count (record { 0 = q })) (Held (record { 0 = q }) (byteAt P x))
 
--- whether page p, which says k, sets a size: it is the newest header h, and has it as its file size; or it is data of object o that is newer than an age, and ends there
+-- whether page p, which says k, sets a size: it is the newest header h, and has it as its file size; or it is data of object o that is newer than an
+-- age, and ends there
 abbrev pub setsBy : (P object header age size page : ℕ) → Record → Bool
 setsBy P o h x size p k =
     (eqb p h && eqb (fileSize k) size) || (dataOf o k && (ltb x (orderOf (sequenceOf k) p) && eqb (endOf P k) size))

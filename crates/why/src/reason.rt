@@ -4,8 +4,8 @@ ghost use Prim.Native.Nat.{_<_};
 ghost use Rattle.why.specs.Codes.{kindOf, pageIn, byteIn, codeValues, codeOf, reasonOf};
 use page::number::PageNumber;
 
-// Held by a page at a data byte; zero because its chunk has no copy, because the header on a page cut it, or because the byte count of the copy on a page
-// ends before it; or past the end, which a page sets.
+// Held by a page at a data byte; zero because its chunk has no copy, because the header on a page cut it, or because the byte count of the copy on a
+// page ends before it; or past the end, which a page sets.
 pub enum Reason {
     Held(PageNumber, u32),
     NoCopy,

@@ -21,7 +21,8 @@ use page::number::PageNumber;
 use page::record::Record;
 use page::tags::names_object;
 
-// Whether page p, which is this record, sets a size: it is page h, and has it as its file size; or it is data of object o that is newer than an age, and ends there.
+// Whether page p, which is this record, sets a size: it is page h, and has it as its file size; or it is data of object o that is newer than an age,
+// and ends there.
 fn sets_size(
     data: u32,
     o: ObjectId,

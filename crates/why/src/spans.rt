@@ -78,7 +78,8 @@ pub(crate) fn file_in(
     }
 }
 
-// Fills rows with the spans of the file of object o, of this size, whose newest header is page h and which has so many marks. Answers how many they are.
+// Fills rows with the spans of the file of object o, of this size, whose newest header is page h and which has so many marks. Answers how many they
+// are.
 pub(crate) fn fill(
     dump: &[u8],
     g: Geometry,

@@ -1,5 +1,5 @@
-// The spans of a file, by a sweep over its marks in order: each mark takes in the page that begins to matter there, and behind the last mark of a place all that
-// decides the reason there has been taken in. Between two places nothing changes.
+// The spans of a file, by a sweep over its marks in order: each mark takes in the page that begins to matter there, and behind the last mark of a place
+// all that decides the reason there has been taken in. Between two places nothing changes.
 ghost use mathlib.Core.Bool.{not};
 ghost use mathlib.Core.Path.{_≡_};
 ghost use Prim.Native.Nat.{_≤_, _<_, _^_};
