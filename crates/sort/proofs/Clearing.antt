@@ -6,7 +6,8 @@ use native.Mathlib.Numerals.{add-one}
 use native.Mathlib.Omega.{arith}
 use lib.ListN.{length, take, drop, set, getD, replicate, length-append, length-replicate, take-append-drop, replicate-append-replicate}
 use lib.Seq.{length-take-le, drop-cons, set-at, append-snoc}
-use Rattle.sort.specs.Room.{inRoom}
+use borrow.Author.Tests.{le-leb}
+use Rattle.sort.specs.Room.{inRoom, clearedIn}
 
 -- the words w once those from f to before i are cleared
 module _ (f : ℕ) (w : List ℕ) where
@@ -29,3 +30,7 @@ module _ (f : ℕ) (w : List ℕ) where
 
   pub clear-all : (to : ℕ) → f ≤ length w → clearedTo to ≡ inRoom (take f w) to w
   clear-all to h = rw (length-take-le f w h)
+
+-- words that are there are cleared
+pub clear-inside : (from to : ℕ) (w : List ℕ) → from ≤ to → to ≤ length w → clearedIn from to w ≡ inRoom (take from w) to w
+clear-inside from to w h k = rw (le-leb from to h, le-leb to (length w) k)

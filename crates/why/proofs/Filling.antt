@@ -16,8 +16,9 @@ use Rattle.page.specs.declared.record.Record.{Record}
 use Rattle.page.proofs.Layouts.{listed-data, roomy-facts}
 use Rattle.page.proofs.Lengths.{opened-facts, opened-pages}
 use Rattle.sort.specs.Arranged.{arranged, Every}
-use Rattle.sort.specs.Room.{inRoom}
+use Rattle.sort.specs.Room.{inRoom, clearedIn}
 use Rattle.sort.proofs.Arranging.{arranged-length}
+use Rattle.sort.proofs.Clearing.{clear-inside}
 use Rattle.chunk.specs.Lists.{inFront}
 use Rattle.chunk.specs.Sizes.{sizeOf}
 use Rattle.chunk.proofs.Sorting.{sort-front}
@@ -92,12 +93,12 @@ module _ (S w : List ℕ) (need : ℕ) (room : need ≤ length w) (v : List ℕ)
   rows-front = rw e (rw (append-assoc S (replicate (need - length S) 0) (drop need w)) (take-append-seam S _))
 
   -- cleared, they are the words with their room cleared
-  pub rows-cleared : (u : List ℕ) → u ≡ inRoom [] need v → u ≡ inRoom [] need w
+  pub rows-cleared : (u : List ℕ) → u ≡ clearedIn 0 need v → u ≡ inRoom [] need w
   rows-cleared u c =
       let k : length (S ++ replicate (need - length S) 0) ≡ need =
       length-append S (replicate (need - length S) 0) ∙ rw (length-replicate {A = ℕ} (need - length S) 0) (omega (arith, rows-fit)) in
       let d : drop need v ≡ drop need w = ap (drop need) e ∙ drop-at (S ++ replicate (need - length S) 0) (drop need w) need k in
-      c ∙ rw d
+      c ∙ clear-inside 0 need v (omega arith) (omega (arith, room, long)) ∙ rw d
 
 -- the span that a position of the file lies in tells its reason, and up to where it holds
 pub found-tells :

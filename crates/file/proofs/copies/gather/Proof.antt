@@ -3,6 +3,7 @@ use Prim.Native.Nat.{_-_}
 use mathlib.Core.Path.{refl, _∙_}
 use native.Mathlib.Omega.{arith}
 use borrow.Author.Needs.{needs}
+use Rattle.sort.proofs.Clearing.{clear-inside}
 use Rattle.file.proofs.Gathering.{Gathered, gather-none, key-below, gather-more, gather-end}
 use Rattle.file.proofs.copies.gather.Statement.{statement}
 use Rattle.file.proofs.copies.gather.Tie as tie
@@ -30,12 +31,6 @@ loop-again c =
     rw (c .key-of .ensures, f .take-first .ensures .1, f .take-first .ensures .0)
     (gather-more (s .args .rows .now) (s .args .n) (s .pre .0) (q .rows) (q .last) (q .m) (q .i) (q .inv) _ refl (t .loop-test .taken))
 
-clear-requires : tie.Need-clear-requires Inv-loop μ-loop
-clear-requires c κs =
-    let q = c .before .before .before .loop in
-    let r = c .before .room-for .ensures in
-    (omega (arith, q .inv .order, q .inv .inside), omega (arith, q .inv .long, c .before .before .before .before .before .pre .0))
-
 returns : tie.Need-returns Inv-loop μ-loop
 returns c =
     let k = c .before .before in
@@ -43,7 +38,12 @@ returns c =
     let t = r .before in
     let q = t .before .loop in
     let s = t .before .before .before in
-    let e = gather-end (s .args .rows .now) (s .args .n) (s .pre .0) (q .rows) (q .last) (q .m) (q .i) (q .inv) _ _ (r .room-for .ensures) (k .clear .ensures) (t .loop-test .left) in
+    let room = r .room-for .ensures in
+    let cleared =
+    k .clear .ensures
+    ∙ clear-inside (q .m) (r .room-for .result) (q .rows) (omega (arith, q .inv .order, q .inv .inside, room)) (omega (arith, q .inv .long, s .pre .0, room))
+    in
+    let e = gather-end (s .args .rows .now) (s .args .n) (s .pre .0) (q .rows) (q .last) (q .m) (q .i) (q .inv) _ _ room cleared (t .loop-test .left) in
     (e .0, (e .1, e .2))
 
 pub gather-spec : {M : Type 1} → statement M
@@ -61,6 +61,6 @@ gather-spec =
     (search needs)
     loop-again
     (λ c κs. omega (arith, c .before .before .before .pre .0))
-    clear-requires
+    (search needs)
     (λ c. c .before .rows2 .given ∙ c .before .before .before .before .before .before .loop .inv .long)
     returns)

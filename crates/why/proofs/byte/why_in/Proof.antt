@@ -9,6 +9,7 @@ use lib.ListN.{length}
 use Rattle.page.specs.Records.{recordAt}
 use Rattle.chunk.specs.Sizes.{sizeOf}
 use Rattle.chunk.specs.Takes.{seenBy}
+use Rattle.sort.proofs.Clearing.{clear-inside}
 use Rattle.why.specs.Reasons.{spansOf}
 use Rattle.why.specs.Answers.{foundIn, whyOn, whyLeft}
 use Rattle.why.proofs.Filling.{opened-sized, rows-inside, rows-front, rows-cleared, found-tells, past-tells}
@@ -50,7 +51,8 @@ returns-2 c =
     past-tells (seenBy (t .takes .result) (recordAt (a .g) (a .dump .now))) (a .g .layout .«data») (a .o .0) (a .pages) (f .f2 .given .0 .0 .0) (a .x)
     (rw (n .measure .ensures .1) at (x .if2 .taken)) in (
       rw (s .pre, ← t .takes .ensures, ← k .file-in .ensures, f .f2 .given .1, ← n .measure .ensures .0, le-ltb _ _ (b .if1 .left), ← p .0, ← p .1, ← c .setter .ensures),
-      rw (s .pre, ← t .takes .ensures, ← k .file-in .ensures, f .f2 .given .1, ← n .measure .ensures .0, le-ltb _ _ (b .if1 .left)) (l .clear .ensures),
+      rw (s .pre, ← t .takes .ensures, ← k .file-in .ensures, f .f2 .given .1, ← n .measure .ensures .0, le-ltb _ _ (b .if1 .left))
+          (l .clear .ensures ∙ clear-inside 0 (n .measure .result .marks) (a .rows .now) (omega arith) (b .if1 .left)),
     )
 
 fill-requires : tie.Need-fill-requires

@@ -9,6 +9,7 @@ use Rattle.chunk.specs.Takes.{seenBy}
 use Rattle.why.specs.Codes.{codeOf}
 use Rattle.why.specs.Marks.{places}
 use Rattle.why.specs.Sweeps.{reasonSeen}
+use Rattle.sort.proofs.Clearing.{clear-inside}
 use Rattle.why.proofs.InPlace.{Swept, SeenBelow, taken-below, sweep-none, mark-inside, code-below, sweep-goes, sweep-past, sweep-same, sweep-row, sweep-end}
 use Rattle.why.proofs.sweep.sweep.Statement.{statement}
 use Rattle.why.proofs.sweep.sweep.Tie as tie
@@ -126,11 +127,6 @@ slice-write-rows c =
     let q = t .before .loop in
     omega (arith, q .inv .order, q .inv .long, t .loop-test .taken, t .before .before .before .before .pre .0)
 
-clear-requires : tie.Need-clear-requires Inv-loop μ-loop
-clear-requires c κs =
-    let q = c .before .before .loop in
-    (omega (arith, q .inv .order, q .inv .inside), omega (arith, q .inv .long, c .before .before .before .before .before .pre .0))
-
 cast-result : tie.Need-cast-result Inv-loop μ-loop
 cast-result c =
     let q = c .before .before .before .before .before .loop in
@@ -144,7 +140,10 @@ returns c =
     let s = t .before .before .before .before in
     let a = s .args in
     sweep-end (seenBy (a .t) (recordAt (a .g) (a .dump .now))) (a .g .layout .«data») (a .size) (a .rows .now) (a .count) (s .pre .0)
-    (q .rows) (q .seen) (q .last) (q .at) (q .j) (q .inv) _ (k .clear .ensures) (t .loop-test .left)
+    (q .rows) (q .seen) (q .last) (q .at) (q .j) (q .inv) _
+    (k .clear .ensures
+    ∙ clear-inside (q .at) (a .count) (q .rows) (omega (arith, q .inv .order, q .inv .inside)) (omega (arith, q .inv .long, s .pre .0)))
+    (t .loop-test .left)
 
 pub sweep-spec : {M : Type 1} → statement M
 sweep-spec =
@@ -173,7 +172,7 @@ sweep-spec =
     (search needs)
     (search needs)
     loop-again-4
-    clear-requires
+    (search needs)
     cast-result
     (λ c. c .before .rows .given ∙ c .before .before .before .before .before .loop .inv .long)
     returns)
