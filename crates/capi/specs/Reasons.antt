@@ -10,8 +10,8 @@ use Rattle.why.specs.Codes.{kindOf, pageIn, byteIn}
 use Rattle.why.specs.declared.byte.Span.{Span}
 use Rattle.why.specs.declared.byte.Told.{Told}
 use Rattle.why.specs.declared.byte.Told.the-variants as told
-use Rattle.why.specs.declared.moment.Moment.{Moment}
-use Rattle.why.specs.declared.moment.Moment.the-variants.{Now, Before}
+use Rattle.chunk.specs.declared.moment.Moment.{Moment}
+use Rattle.chunk.specs.declared.moment.Moment.the-variants.{Now, Before}
 use Rattle.why.specs.declared.spans.Spanned.{Spanned}
 use Rattle.why.specs.declared.spans.Spanned.the-variants as spanned
 use Rattle.capi.specs.declared.reasons.WhyAnswer.{WhyAnswer}

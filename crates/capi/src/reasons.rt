@@ -7,13 +7,13 @@ ghost use Rattle.capi.specs.Layouts.{geometryAt};
 ghost use Rattle.capi.specs.Reasons.{momentAt, whyAnswer, spansAnswer, spanAnswer};
 use crate::layout::Geometry;
 use crate::layout::geometry_at;
+use chunk::moment::Moment;
 use page::number::ObjectId;
 use page::number::PageNumber;
 use why::byte::Span;
 use why::byte::Told;
 use why::byte::shown;
 use why::byte::why;
-use why::moment::Moment;
 use why::spans::Spanned;
 use why::spans::spans;
 

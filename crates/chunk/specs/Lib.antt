@@ -1,6 +1,7 @@
 pub mod Gather
 pub mod Records
 pub mod Takes
+pub mod Moments
 pub mod Newest
 pub mod Cuts
 pub mod Sizes

@@ -3,6 +3,7 @@ pub mod answer;
 pub mod cut;
 pub mod list;
 pub mod lookup;
+pub mod moment;
 pub mod read;
 pub mod record;
 pub mod scan;

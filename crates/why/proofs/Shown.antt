@@ -47,10 +47,10 @@ use Rattle.chunk.proofs.Cases.{copy-missing, copy-hidden, copy-shown, looked-pa
 use Rattle.chunk.proofs.Laying.{zero-at}
 use Rattle.chunk.proofs.Meaning.{lowest-cut-hides, hides-lowest-cut}
 use Rattle.why.specs.Answers.{filedBy, filedIn, onFile, saysAt, roomFor, whyOn, shownBy}
-use Rattle.why.specs.Moments.{isMissing}
+use Rattle.chunk.specs.Moments.{isMissing}
 use Rattle.why.specs.declared.byte.Told.{Told}
 use Rattle.why.specs.declared.byte.Told.the-variants as told
-use Rattle.why.specs.declared.moment.Moment.{Moment}
+use Rattle.chunk.specs.declared.moment.Moment.{Moment}
 use Rattle.why.specs.Reasons.{lastPosition, chunkAt, byteAt, copyFor, cutter, reasonAt, untilOf}
 use Rattle.why.specs.declared.reason.Reason.{Reason}
 use Rattle.why.specs.declared.reason.Reason.the-variants as reason

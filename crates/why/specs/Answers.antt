@@ -22,9 +22,9 @@ use Rattle.chunk.specs.declared.answer.File.{File}
 use Rattle.chunk.specs.declared.answer.File.the-variants as file
 use Rattle.why.specs.Codes.{reasonOf, fromOf, codeIn}
 use Rattle.why.specs.Marks.{marksTo}
-use Rattle.why.specs.Moments.{isMissing, takesAt}
+use Rattle.chunk.specs.Moments.{isMissing, takesAt}
 use Rattle.why.specs.Reasons.{byteAt, reasonAt, untilOf, spansOf}
-use Rattle.why.specs.declared.moment.Moment.{Moment}
+use Rattle.chunk.specs.declared.moment.Moment.{Moment}
 use Rattle.why.specs.declared.reason.Reason.{Reason}
 use Rattle.why.specs.declared.reason.Reason.the-variants.{Held, NoCopy, Cut, Count, PastEnd}
 use Rattle.why.specs.declared.spans.Filed.{Filed}

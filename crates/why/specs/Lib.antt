@@ -1,6 +1,5 @@
 pub mod Codes
 pub mod Reasons
-pub mod Moments
 pub mod Marks
 pub mod Sweeps
 pub mod Answers

@@ -1,7 +1,6 @@
 // Why each byte of a file is what it is, from the dump alone.
 pub mod byte;
 mod marks;
-pub mod moment;
 pub mod reason;
 mod setter;
 pub mod spans;

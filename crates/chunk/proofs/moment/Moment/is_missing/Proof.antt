@@ -1,7 +1,7 @@
 -- Each arm of the match is a case of the definition.
 use borrow.Author.Needs.{needs}
-use Rattle.why.proofs.moment.Moment.is_missing.Statement.{statement}
-use Rattle.why.proofs.moment.Moment.is_missing.Tie as tie
+use Rattle.chunk.proofs.moment.Moment.is_missing.Statement.{statement}
+use Rattle.chunk.proofs.moment.Moment.is_missing.Tie as tie
 
 returns-2 : tie.Need-returns-2
 returns-2 c = rw (c .before .before .self .given .1)

@@ -1,10 +1,10 @@
 // When a dump is looked at: as it stands, or as it stood before a record was written.
 ghost use mathlib.Core.Path.{_≡_};
 ghost use Rattle.page.specs.Records.{recordAt};
-ghost use Rattle.why.specs.Moments.{isMissing, takesAt};
-use chunk::record::order_of;
-use chunk::record::sequence_of;
-use chunk::takes::Takes;
+ghost use Rattle.chunk.specs.Moments.{isMissing, takesAt};
+use crate::record::order_of;
+use crate::record::sequence_of;
+use crate::takes::Takes;
 use page::geometry::Geometry;
 use page::number::PageNumber;
 use page::record::record_at;
@@ -17,7 +17,7 @@ pub enum Moment {
 
 impl Moment {
     // Whether a dump of so many pages does not have its page.
-    pub(crate) fn is_missing(self, pages: u32) -> bool
+    pub fn is_missing(self, pages: u32) -> bool
         ensures { λ r. ⌜ r ≡ isMissing pages self ⌝ }
     {
         match self {
@@ -27,7 +27,7 @@ impl Moment {
     }
 
     // Which records are read.
-    pub(crate) fn takes(self, dump: &[u8], g: Geometry) -> Takes
+    pub fn takes(self, dump: &[u8], g: Geometry) -> Takes
         ensures { λ r. ⌜ r ≡ takesAt (recordAt g (now (dump .entry))) self ⌝ }
     {
         match self {

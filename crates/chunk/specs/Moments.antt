@@ -3,11 +3,11 @@ use Prim.Native.Nat.{ℕ}
 use mathlib.Core.Bool.{Bool, false}
 use lib.Dec.{leb}
 use Rattle.page.specs.declared.record.Record.{Record}
 use Rattle.chunk.specs.Records.{ageOf}
 use Rattle.chunk.specs.declared.takes.Takes.{Takes}
 use Rattle.chunk.specs.declared.takes.Takes.the-variants.{Every, Older}
-use Rattle.why.specs.declared.moment.Moment.{Moment}
-use Rattle.why.specs.declared.moment.Moment.the-variants.{Now, Before}
+use Rattle.chunk.specs.declared.moment.Moment.{Moment}
+use Rattle.chunk.specs.declared.moment.Moment.the-variants.{Now, Before}
 
 -- whether a dump of n pages does not have the page
 abbrev pub isMissing : (pages : ℕ) → Moment → Bool
