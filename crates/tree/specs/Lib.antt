@@ -1,0 +1,4 @@
+pub mod Objects
+pub mod Paths
+pub mod Ways
+pub mod Tree

@@ -1,0 +1,2 @@
+// The tree of a dump's live objects as the operator saw it: paths from the root, and why an object has none.
+pub mod reason;
