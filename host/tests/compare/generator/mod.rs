@@ -6,6 +6,7 @@
 //! - `shelf`: the shelf dump W.
 //! - `dump`: dumps that crowd the edges of the rules.
 //! - `rewritten`: dumps of files that are cut and grow again.
+//! - `trees`: dumps of directories, loops and what has no path.
 //! - `decoy`: tags of other layouts, and lengths that fit none.
 //! - `pages`: its pages, of each kind.
 //! - `arguments`: what a request asks for.
@@ -22,6 +23,7 @@ pub mod requests;
 mod rewritten;
 pub mod rng;
 pub mod shelf;
+mod trees;
 
 #[cfg(test)]
 mod tests;
@@ -41,14 +43,16 @@ pub struct Case {
     pub requests: Vec<Request>,
 }
 
-/// One of so many seeds makes a dump of files that are written over and over.
-const REWRITTEN: u64 = 6;
+/// Of so many seeds one makes a dump of files that are written over and over, and
+/// one a tree.
+const SORTS: u64 = 6;
 
 /// The case of a seed.
 pub fn case(seed: u64) -> Case {
     let mut rng = Rng::new(seed);
-    let dump = match seed % REWRITTEN {
+    let dump = match seed % SORTS {
         0 => rewritten::dump(&mut rng),
+        3 => trees::dump(&mut rng),
         _ => dump::dump(&mut rng),
     };
     let requests = requests::requests(&mut rng, &dump);

@@ -9,8 +9,8 @@ use crate::second::page::tags;
 use crate::second::script::Request;
 
 /// Requests to this dump: about it as a whole, lookups on it alone, one or two
-/// lists of additions and lookups on an index, calls on other cells, and why
-/// bytes are what they are.
+/// lists of additions and lookups on an index, calls on other cells, why bytes are
+/// what they are, and trees.
 pub fn requests(rng: &mut Rng, dump: &Dump) -> Vec<Request> {
     let list = Vec::new();
     let mut asker = Asker {
@@ -33,6 +33,10 @@ pub fn requests(rng: &mut Rng, dump: &Dump) -> Vec<Request> {
     }
     for _ in 0..asker.rng.between(8, 14) {
         asker.why();
+    }
+    for _ in 0..asker.rng.between(1, 4) {
+        let on = asker.past();
+        asker.list.push(Request::Tree { on });
     }
     asker.list
 }

@@ -61,7 +61,7 @@ fn every_answer_and_refusal_occurs() {
         );
     }
     let others =
-        "done size page hole part ids layout pages blank foreign damaged header data type objects";
+        "done size page hole part ids layout pages blank foreign damaged header data type objects listed";
     let reasons = ["held", "no copy", "cut", "count", "past end"];
     let reasons = reasons.map(|reason| format!("reason={reason}"));
     for word in others.split(' ').chain(reasons.iter().map(String::as_str)) {

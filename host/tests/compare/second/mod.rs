@@ -16,6 +16,7 @@
 //! - `lookup`: size, chunk, read and part.
 //! - `table`: the chunks of a file, by the lookup of each.
 //! - `whole`: the calls that read the dump whatever was added.
+//! - `tree`: paths from the root, and what has none.
 //! - `why`: why a byte of a file is what it is.
 //! - `script`: requests and their answer lines.
 //! - `report`: the ten lines of the report.
@@ -35,6 +36,7 @@ pub mod report;
 pub mod rules;
 pub mod script;
 pub mod table;
+pub mod tree;
 pub mod whole;
 pub mod why;
 pub mod wrong;

@@ -10,6 +10,7 @@ use super::layout::{Layout, Named};
 use super::lookup::Chunk;
 use super::page::{Body, Field, Kind};
 use super::refusal::Refusal;
+use super::tree::Tree;
 use super::why::{Past, Spans, Why};
 
 /// One request with everything that its call is given. Lookups are over the
@@ -111,6 +112,9 @@ pub enum Request {
         on: Past,
         object: u64,
     },
+    Tree {
+        on: Past,
+    },
     Fill {
         word: u32,
     },
@@ -121,8 +125,8 @@ pub enum Request {
 }
 
 /// An answer: its line, and the lent buffer as the call left it. What a line leaves
-/// out stands there too: the byte of a position, and the data byte with which
-/// each run of a file begins.
+/// out stands there too: the byte of a position, the data byte with which each run
+/// of a file begins, and of a tree its text and two words for each object.
 #[derive(Clone, Debug, Default, PartialEq, Eq)]
 pub struct Answer {
     pub line: String,
@@ -190,7 +194,10 @@ fn lookup(f: &mut fmt::Formatter<'_>, name: &str, over: Over, arguments: &str) -
 /// A request about the dump alone, perhaps as it once stood.
 fn past(f: &mut fmt::Formatter<'_>, name: &str, on: Past, arguments: &str) -> fmt::Result {
     let Past { layout, k, before } = on;
-    write!(f, "{name} {layout} {k} {arguments}")?;
+    write!(f, "{name} {layout} {k}")?;
+    if !arguments.is_empty() {
+        write!(f, " {arguments}")?;
+    }
     match before {
         Some(page) => write!(f, " before={page}"),
         None => Ok(()),
@@ -269,6 +276,7 @@ impl fmt::Display for Request {
                 position,
             } => past(f, "dwhy", on, &format!("{object} {position}")),
             Request::Spans { on, object } => past(f, "dspans", on, &object.to_string()),
+            Request::Tree { on } => past(f, "dtree", on, ""),
             Request::Fill { word } => write!(f, "fill {word:#x}"),
             Request::Poke { at, word } => write!(f, "poke {at} {word:#x}"),
         }
@@ -384,6 +392,15 @@ pub fn answer(reader: &mut Reader<'_>, request: &Request) -> Answer {
             }
             Ok(spans.map_or_else(number_line, spans_line))
         }
+        Request::Tree { on } => {
+            let tree = reader.tree(on);
+            if let Ok(tree) = &tree {
+                (answer.bytes, answer.words) = (tree.text(), tree.rows());
+            }
+            let text = &answer.bytes;
+            tree.map(|tree| tree_line(&tree, text))
+                .map_err(Refused::from)
+        }
         Request::Fill { word } => {
             reader.fill(word);
             done(Ok(()))
@@ -443,6 +460,12 @@ fn spans_line(spans: Spans) -> String {
     });
     let runs: Vec<String> = runs.collect();
     format!("size={} spans={}", spans.size, runs.join(","))
+}
+
+fn tree_line(tree: &Tree, text: &[u8]) -> String {
+    let (listed, others) = (tree.listed.len(), tree.others.len());
+    let (length, crc) = (text.len(), crc32(text));
+    format!("listed={listed} others={others} text={length}/{crc:08x}")
 }
 
 fn done(result: Result<(), Refusal>) -> Result<String, Refused> {

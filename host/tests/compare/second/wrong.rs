@@ -376,6 +376,95 @@ wrong_rules! {
     /// The runs of a file come in the order of their pages.
     SpansByPage,
 
+    // The tree.
+    /// An object of depth 33 is listed.
+    TreeDepth33Listed,
+    /// Depth 31 is the last that is listed.
+    TreeDepth32NotListed,
+    /// Where more than 32 directories stand above an object it is too deep,
+    /// wherever its parents lead.
+    TreeTooDeepFirst,
+    /// Parents are followed round a loop, until it is too deep.
+    TreeLoopFollowed,
+    /// The object itself does not make a loop.
+    TreeStartNotMet,
+    /// A loop that the object is not on itself is followed.
+    TreeLoopToStartAlone,
+    /// A deleted parent is missing.
+    TreeDeletedIsMissing,
+    /// Parents are followed beyond a deleted directory.
+    TreeDeletedPassed,
+    /// A missing parent is deleted.
+    TreeMissingIsDeleted,
+    /// A parent that has data alone is no directory.
+    TreeHeadlessNoDirectory,
+    /// That a parent is no directory is asked before whether it is deleted.
+    TreeNonDirectoryFirst,
+    /// A symbolic link has entries.
+    TreeLinksFollowed,
+    /// A hard link has entries.
+    TreeHardLinksFollowed,
+    /// Entries are listed in the order of their pages.
+    TreeEntriesByPage,
+    /// Entries are listed by name.
+    TreeEntriesByName,
+    /// Entries are listed from the highest id down.
+    TreeEntriesDescending,
+    /// Directories are listed before the other entries.
+    TreeDirectoriesFirst,
+    /// The entries of directories follow all entries beside these.
+    TreeEntriesAfterAll,
+    /// Object 1 is listed where it is an entry.
+    TreeRootAsEntry,
+    /// Object 1 is in the second list.
+    TreeRootAmongOthers,
+    /// Object 1 is the root only if it has a header.
+    TreeRootNeedsHeader,
+    /// Object 1 is the root only if it is a directory.
+    TreeRootNeedsDirectory,
+    /// Object 1 is the root only if it is not deleted.
+    TreeRootNeedsLive,
+    /// An object with parent 0 stands under the root.
+    TreeParentZeroIsRoot,
+    /// Of a parent the low 28 bits count.
+    TreeHighParentMasked,
+    /// The parent is the one that the tags name.
+    TreeParentOfTags,
+    /// The parent is that of the oldest header.
+    TreeParentOfOldest,
+    /// The type is that of the oldest header.
+    TreeTypeOfOldest,
+    /// The name is that of the oldest header.
+    TreeNameOfOldest,
+    /// A name has all of its 256 bytes.
+    TreeNameWhole,
+    /// A name ends at a newline.
+    TreeNameEndsAtNewline,
+    /// A name has at most 255 bytes.
+    TreeName255,
+    /// A slash in a name is shown as something else.
+    TreeSlashInNameShown,
+    /// A newline in a name is escaped in the text.
+    TreeNewlineEscaped,
+    /// A name of two dots leads upwards.
+    TreeDotsFollowed,
+    /// An empty name makes no step.
+    TreeEmptyNameNoStep,
+    /// A path is the name alone.
+    TreePathOfNameAlone,
+    /// The second list is in the order of pages.
+    TreeOthersByPage,
+    /// The second list goes by reasons.
+    TreeOthersByReason,
+    /// Deleted objects are in the second list.
+    TreeDeletedListed,
+    /// Objects of data alone are in the second list.
+    TreeHeadlessListed,
+    /// An unlinked object is live.
+    TreeUnlinkedLive,
+    /// The tree is that of the dump as it stands, before every record.
+    TreeAsItStands,
+
     // Counting.
     /// Only live objects are counted.
     CountOfLive,

@@ -2,4 +2,5 @@ mod corpus;
 mod length;
 mod marked;
 mod script;
+mod tree;
 mod why;
