@@ -209,6 +209,33 @@ typedef struct {
     uint32_t byte;
 } lohenarr_span_answer;
 
+/* The tree: how many of the live objects other than 1 have a path from the root,
+ * and how many have none. Beside ShortBuffer need is how many words each of the
+ * slices needs. */
+typedef struct {
+    uint32_t refusal;
+    uint32_t need;
+    uint32_t listed;
+    uint32_t others;
+} lohenarr_tree_answer;
+
+/* A row of the tree: the page of the object's newest header, and a key. Of an object
+ * that has a path the key is the number of its directory's row plus 1, or 0 where
+ * that is the root; of one that has none it is the reason: 1 too deep, 2 loop,
+ * 3 missing, 4 deleted, 5 non-directory. */
+typedef struct {
+    uint32_t key;
+    uint32_t page;
+} lohenarr_row_answer;
+
+/* The length of a text that was written. Beside ShortBuffer need is how many bytes it
+ * needs. */
+typedef struct {
+    uint32_t refusal;
+    uint64_t need;
+    uint64_t length;
+} lohenarr_text_answer;
+
 /* The most bytes that a dump has. */
 size_t lohenarr_most_bytes(void);
 
@@ -342,6 +369,26 @@ lohenarr_spans_answer lohenarr_dump_spans(const uint8_t *dump, size_t len, lohen
 
 /* The run that a row tells. */
 lohenarr_span_answer lohenarr_span(lohenarr_geometry geometry, uint64_t row);
+
+/* The live objects other than 1, from the dump alone, as it stood before a record or
+ * with 0xFFFFFFFF as it stands: a row for each. Those that have a path from object 1
+ * come first, a directory's entries right after it, ascending by id; then those that
+ * have none, ascending by id. Each slice takes as many words as the dump has header
+ * records. Words behind the rows stay; heads and work are working memory, of which the
+ * words that are needed are cleared, and those past them stay. */
+lohenarr_tree_answer lohenarr_dump_tree(const uint8_t *dump, size_t len, lohenarr_geometry geometry, uint32_t before, uint64_t *rows, size_t rows_len, uint64_t *heads, size_t heads_len, uint64_t *work, size_t work_len);
+
+/* What a row of the tree tells. */
+lohenarr_row_answer lohenarr_tree_row(uint64_t row);
+
+/* The text of the tree: for each row a line object= and a line path=, or reason= for
+ * those behind the first listed ones. The rows are those that lohenarr_dump_tree left,
+ * and no more. Bytes past the text stay as they were. */
+lohenarr_text_answer lohenarr_tree_text(const uint8_t *dump, size_t len, lohenarr_geometry geometry, const uint64_t *rows, size_t rows_len, uint32_t listed, uint8_t *buf, size_t buf_len);
+
+/* The path of one of the first listed rows: for each step down a / and the name up to
+ * its first zero byte, as it is. 32 * 257 bytes are enough for every path. */
+lohenarr_text_answer lohenarr_tree_path(const uint8_t *dump, size_t len, lohenarr_geometry geometry, const uint64_t *rows, size_t rows_len, uint32_t row, uint8_t *buf, size_t buf_len);
 
 #ifdef __cplusplus
 }

@@ -34,7 +34,8 @@ macro_rules! answers {
 
 answers! {
     LayoutAnswer PagesAnswer CountsAnswer KindAnswer HeaderAnswer PartAnswer SizeAnswer ChunkAnswer
-    ListAnswer TallyAnswer TableAnswer CopiesAnswer RunAnswer WhyAnswer SpansAnswer
+    ListAnswer TallyAnswer TableAnswer CopiesAnswer RunAnswer WhyAnswer SpansAnswer TreeAnswer
+    TextAnswer
 }
 
 /// How a dump is cut into pages and blocks: a layout by its number in the table,
@@ -301,6 +302,45 @@ pub struct SpanAnswer {
     pub byte: u32,
 }
 
+/// How many live objects other than 1 have a path from the root, and how many have
+/// none. Beside ShortBuffer `need` is how many words each of the slices needs.
+#[repr(C)]
+#[derive(Clone, Copy, Debug, PartialEq, Eq)]
+pub struct TreeAnswer {
+    pub refusal: u32,
+    pub need: u32,
+    pub listed: u32,
+    pub others: u32,
+}
+
+/// A row of the tree: the page of the object's newest header, and of an object that
+/// has a path the row of its directory plus 1, or 0 where that is the root; of one
+/// that has none the number of the reason.
+#[repr(C)]
+#[derive(Clone, Copy, Debug, PartialEq, Eq)]
+pub struct RowAnswer {
+    pub key: u32,
+    pub page: u32,
+}
+
+impl RowAnswer {
+    pub const TOO_DEEP: u32 = 1;
+    pub const LOOP: u32 = 2;
+    pub const MISSING: u32 = 3;
+    pub const DELETED: u32 = 4;
+    pub const NON_DIRECTORY: u32 = 5;
+}
+
+/// How many bytes a text has that was written. Beside ShortBuffer `need` is how many
+/// it needs.
+#[repr(C)]
+#[derive(Clone, Copy, Debug, PartialEq, Eq)]
+pub struct TextAnswer {
+    pub refusal: u32,
+    pub need: u64,
+    pub length: u64,
+}
+
 /// Stands for the page before which a dump is read, where it is read as it stands.
 pub const AS_IT_STANDS: u32 = u32::MAX;
 
@@ -344,6 +384,10 @@ extern "C" {
     fn lohenarr_dump_why(dump: *const u8, len: usize, geometry: Geometry, before: u32, object: u32, position: u64, rows: *mut u64, rows_len: usize) -> WhyAnswer;
     fn lohenarr_dump_spans(dump: *const u8, len: usize, geometry: Geometry, before: u32, object: u32, rows: *mut u64, rows_len: usize) -> SpansAnswer;
     fn lohenarr_span(geometry: Geometry, row: u64) -> SpanAnswer;
+    fn lohenarr_dump_tree(dump: *const u8, len: usize, geometry: Geometry, before: u32, rows: *mut u64, rows_len: usize, heads: *mut u64, heads_len: usize, work: *mut u64, work_len: usize) -> TreeAnswer;
+    fn lohenarr_tree_row(row: u64) -> RowAnswer;
+    fn lohenarr_tree_text(dump: *const u8, len: usize, geometry: Geometry, rows: *const u64, rows_len: usize, listed: u32, buf: *mut u8, buf_len: usize) -> TextAnswer;
+    fn lohenarr_tree_path(dump: *const u8, len: usize, geometry: Geometry, rows: *const u64, rows_len: usize, row: u32, buf: *mut u8, buf_len: usize) -> TextAnswer;
 }
 
 /// The most bytes that a dump has.
@@ -585,4 +629,42 @@ pub fn dump_spans(dump: &[u8], on: Geometry, before: u32, object: u32, rows: &mu
 /// The run that a row tells.
 pub fn span(on: Geometry, row: u64) -> SpanAnswer {
     unsafe { lohenarr_span(on, row) }
+}
+
+/// The live objects other than 1, a row for each: those that have a path in the order
+/// of the tree, then the others ascending by id, as the dump stood before the record
+/// on page `before` was written. `heads` and `work` are working memory: as many words
+/// as are needed are cleared.
+#[rustfmt::skip]
+pub fn dump_tree(dump: &[u8], on: Geometry, before: u32, rows: &mut [u64], heads: &mut [u64], work: &mut [u64]) -> TreeAnswer {
+    let (to, room) = (rows.as_mut_ptr(), rows.len());
+    let (head, heads) = (heads.as_mut_ptr(), heads.len());
+    let (at, words) = (work.as_mut_ptr(), work.len());
+    unsafe { lohenarr_dump_tree(dump.as_ptr(), dump.len(), on, before, to, room, head, heads, at, words) }
+}
+
+/// What a row of the tree tells.
+pub fn tree_row(row: u64) -> RowAnswer {
+    unsafe { lohenarr_tree_row(row) }
+}
+
+/// The text of the tree whose rows these are, written to the front of a buffer; so
+/// many of them have a path.
+pub fn tree_text(
+    dump: &[u8],
+    on: Geometry,
+    rows: &[u64],
+    listed: u32,
+    buf: &mut [u8],
+) -> TextAnswer {
+    let (at, count) = (rows.as_ptr(), rows.len());
+    let (to, room) = (buf.as_mut_ptr(), buf.len());
+    unsafe { lohenarr_tree_text(dump.as_ptr(), dump.len(), on, at, count, listed, to, room) }
+}
+
+/// The path of a row that has one, written to the front of a buffer.
+pub fn tree_path(dump: &[u8], on: Geometry, rows: &[u64], row: u32, buf: &mut [u8]) -> TextAnswer {
+    let (at, count) = (rows.as_ptr(), rows.len());
+    let (to, room) = (buf.as_mut_ptr(), buf.len());
+    unsafe { lohenarr_tree_path(dump.as_ptr(), dump.len(), on, at, count, row, to, room) }
 }

@@ -12,6 +12,7 @@
 //! - `failure`: why a command ends without its answer.
 //! - `objects`: the objects of a dump and their chunks, as the commands ask for them.
 //! - `table`: the chunks of a file and its bytes.
+//! - `tree`: the live objects with their paths.
 //! - `reasons`, `because`: why bytes of a file are what they are.
 //! - `fields`: answers as lines or as JSON.
 //! - `commands`: a file for each command.
@@ -41,5 +42,6 @@ mod second;
 pub mod signals;
 pub mod standard;
 pub mod table;
+pub mod tree;
 mod typed;
 mod usage;

@@ -61,6 +61,10 @@ fn places() -> String {
         ("spans_answer.size", offset_of!(SpansAnswer, size)),
         ("spans_answer.count", offset_of!(SpansAnswer, count)),
         ("span_answer.byte", offset_of!(SpanAnswer, byte)),
+        ("tree_answer.others", offset_of!(TreeAnswer, others)),
+        ("row_answer.page", offset_of!(RowAnswer, page)),
+        ("text_answer.need", offset_of!(TextAnswer, need)),
+        ("text_answer.length", offset_of!(TextAnswer, length)),
     ];
     let lines = fields.map(|(field, offset)| format!("lohenarr_{field} {offset}\n"));
     let sizes = [
@@ -82,6 +86,9 @@ fn places() -> String {
         size_of::<WhyAnswer>(),
         size_of::<SpansAnswer>(),
         size_of::<SpanAnswer>(),
+        size_of::<TreeAnswer>(),
+        size_of::<RowAnswer>(),
+        size_of::<TextAnswer>(),
     ];
     let sizes = sizes.map(|size| format!(" {size}"));
     format!("{}sizes{}\n", lines.concat(), sizes.concat())
@@ -124,6 +131,13 @@ why 0: reason 5 page 5 byte 0 value 0 until 18446744073709551615
 why 14: reason 0 page 0 byte 0 value 0 until 0
 spans 11: enough 1, 7
 spans 0: size 1034: 0/1/5/0 300/4/5/0 512/3/4/0 1024/1/6/0
+tree 11: need 3, 7
+tree 0: 1 and 0, 7, 0 7
+row 0 of page 4
+text 11: need 274
+text 0: 274, object=257
+path=
+path 0: 257, / 255
 ";
     let shelf = File::open(Path::new(HOST).join("tests/data/W")).unwrap();
     let output = Command::new(compiled()).stdin(shelf).output().unwrap();

@@ -9,6 +9,7 @@ use crate::ffi::{
 use crate::fields;
 use crate::reasons::Reason;
 use crate::refusal::{kind_name, SHORT_BUFFER};
+use crate::tree::Tree;
 
 /// A refusal with its visits; with the length needed if a buffer was too short.
 pub fn refused(number: u32, visits: u32, need: u32) -> String {
@@ -167,4 +168,11 @@ pub fn spans(answer: SpansAnswer, runs: &[SpanAnswer]) -> String {
     });
     let runs: Vec<String> = runs.collect();
     format!("size={} spans={}", answer.size, runs.join(","))
+}
+
+/// How many objects of a tree have a path and how many have none, and its text.
+pub fn tree(tree: &Tree<'_>, text: &[u8]) -> String {
+    let (listed, others) = (tree.listed(), tree.others());
+    let (length, crc) = (text.len(), crc32(text));
+    format!("listed={listed} others={others} text={length}/{crc:08x}")
 }

@@ -11,6 +11,7 @@ The requests of a script, one a line; # starts a comment:
   header L K PAGE   dsize L K OBJ     dchunk L K OBJ N  dpart L K OBJ N
   dlist L K WORDS   dobjects L K      copy ROW          dread L K OBJ N BUFLEN
   row L PLACE VALID                   dspans L K OBJ    dwhy L K OBJ POS
+  dtree L K
 
   start L K WORDS   add PAGE          size OBJ          chunk OBJ N
   part OBJ N        list WORDS        objects           read OBJ N BUFLEN
@@ -21,7 +22,7 @@ L is P/S/T or a layout's number. The first ask the dump alone, the others an
 index: under the layout and K of the last accepted start, with as many words.
 k=, words= and layout= behind the arguments of such a call give it others, and
 seed= behind those of a start gives it a seed, which is 0 if left out. before=PAGE
-behind those of dwhy and dspans asks the dump as it stood before that record.
+behind those of dwhy, dspans and dtree asks the dump as it stood before that record.
 ";
 
 /// What a call on the index is given by options of its own: layout, K and how
@@ -65,6 +66,7 @@ pub enum Request {
     Copy { row: u64 },
     Why { on: Geometry, before: Option<u32>, object: u32, position: u64 },
     Spans { on: Geometry, before: Option<u32>, object: u32 },
+    Tree { on: Geometry, before: Option<u32> },
     Fill { word: u32 },
     Poke { at: usize, word: u32 },
     Peek { at: usize },
@@ -193,6 +195,10 @@ impl Words<'_> {
                 before: self.before()?,
                 on: self.on()?,
                 object: self.number("OBJ")?,
+            },
+            "dtree" => Request::Tree {
+                before: self.before()?,
+                on: self.on()?,
             },
             "row" => Request::Row {
                 layout: self.next("L", layout)?,
@@ -392,6 +398,14 @@ mod tests {
                     object: 257,
                 },
             ),
+            ("dtree 6 4", Request::Tree { on, before: None }),
+            (
+                "dtree 512/16/0 4 before=0x7",
+                Request::Tree {
+                    on,
+                    before: Some(7),
+                },
+            ),
             (
                 "  dread 6 4 257 1 512",
                 Request::Read {
@@ -461,7 +475,7 @@ mod tests {
             assert!(request(&format!("{line} 1")).is_err(), "{form}");
             count += 1;
         }
-        assert_eq!(count, 30);
+        assert_eq!(count, 31);
     }
 
     #[test]
@@ -491,6 +505,8 @@ mod tests {
             ("dwhy 6 4 257 0 before=", "before cannot be "),
             ("dwhy 6 4 257 0 k=4", "dwhy does not take k=4"),
             ("dspans 6 4 257 0", "dspans does not take 0"),
+            ("dtree 6", "K is missing"),
+            ("dtree 6 4 257", "dtree does not take 257"),
         ];
         for (line, said) in wrong {
             assert_eq!(request(line), Err(said.to_string()), "{line}");

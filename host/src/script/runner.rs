@@ -7,6 +7,7 @@ use crate::commands::header::Header;
 use crate::failure::Failure;
 use crate::ffi::{self, Answer as _, Geometry};
 use crate::reasons::Reasons;
+use crate::tree::{Place, Tree};
 
 /// What a buffer holds before a call, and the index words before the first.
 const BYTE: u8 = 0xA5;
@@ -21,8 +22,8 @@ pub struct Runner<'d> {
 }
 
 /// An answer: its line, and the lent buffer as the call left it. What a line leaves
-/// out stands there too: the byte of a position, and the data byte with which
-/// each run of a file begins.
+/// out stands there too: the byte of a position, the data byte with which each run
+/// of a file begins, and of a tree its text and two words for each object.
 #[derive(Debug, Default, PartialEq, Eq)]
 pub struct Answer {
     pub line: String,
@@ -131,6 +132,15 @@ impl<'d> Runner<'d> {
                 answer.words = runs.iter().map(|run| run.byte).collect();
                 line::spans(spans, &runs)
             }
+            Request::Tree { on, before } => match Tree::of(self.dump, on, before) {
+                Ok(tree) => {
+                    let text = tree.text(u64::MAX);
+                    answer.bytes = text.ok_or_else(|| scarce("the text of the tree"))?;
+                    answer.words = rows(&tree);
+                    line::tree(&tree, &answer.bytes)
+                }
+                Err(number) => line::refused(number, 0, 0),
+            },
             Request::Row {
                 layout,
                 place,
@@ -289,11 +299,24 @@ impl<'d> Runner<'d> {
     }
 }
 
+/// Page and key of each row of a tree.
+fn rows(tree: &Tree<'_>) -> Vec<u32> {
+    let rows = tree.rows().flat_map(|row| match row.place {
+        Place::In(directory) => [row.page, directory.map_or(0, |row| row + 1)],
+        Place::Nowhere(reason) => [row.page, reason],
+    });
+    rows.collect()
+}
+
 /// Memory with the same value throughout.
 fn filled<T: Copy>(length: usize, value: T) -> Result<Vec<T>, Failure> {
     let mut memory = Vec::new();
-    let scarce = |_| Failure::File(format!("there is no memory for a length of {length}"));
+    let scarce = |_| scarce(&format!("a length of {length}"));
     memory.try_reserve_exact(length).map_err(scarce)?;
     memory.resize(length, value);
     Ok(memory)
+}
+
+fn scarce(what: &str) -> Failure {
+    Failure::File(format!("there is no memory for {what}"))
 }

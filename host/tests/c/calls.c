@@ -11,6 +11,9 @@ static uint32_t cells[48];
 static uint32_t table[7] = {7, 7, 7, 7, 7, 7, 7};
 static uint64_t shown[9] = {7, 7, 7, 7, 7, 7, 7, 7, 7};
 static uint64_t lent[256];
+static uint64_t branches[4] = {7, 7, 7, 7};
+static uint64_t heads[4] = {7, 7, 7, 7};
+static uint64_t work[4] = {7, 7, 7, 7};
 
 /* Why a byte of W's file is what it is. */
 static void why(size_t len, lohenarr_geometry geometry, uint32_t before, uint64_t position) {
@@ -97,6 +100,19 @@ int main(void) {
         printf(" %llu/%u/%u/%u", (unsigned long long)span.from, span.reason, span.page, span.byte);
     }
     printf("\n");
+    lohenarr_tree_answer tree = lohenarr_dump_tree(dump, len, geometry, 0xFFFFFFFF, branches, 4, heads, 2, work, 4);
+    printf("tree %u: need %u, %llu\n", tree.refusal, tree.need, (unsigned long long)heads[0]);
+    tree = lohenarr_dump_tree(dump, len, geometry, 0xFFFFFFFF, branches, 4, heads, 4, work, 4);
+    printf("tree %u: %u and %u, %llu, %llu %llu\n", tree.refusal, tree.listed, tree.others, (unsigned long long)branches[1],
+           (unsigned long long)heads[2], (unsigned long long)heads[3]);
+    lohenarr_row_answer row = lohenarr_tree_row(branches[0]);
+    printf("row %u of page %u\n", row.key, row.page);
+    lohenarr_text_answer text = lohenarr_tree_text(dump, len, geometry, branches, 1, 1, buffer, 9);
+    printf("text %u: need %llu\n", text.refusal, (unsigned long long)text.need);
+    text = lohenarr_tree_text(dump, len, geometry, branches, 1, 1, buffer, sizeof buffer);
+    printf("text %u: %llu, %.16s\n", text.refusal, (unsigned long long)text.length, buffer);
+    text = lohenarr_tree_path(dump, len, geometry, branches, 1, 0, buffer, sizeof buffer);
+    printf("path %u: %llu, %c %u\n", text.refusal, (unsigned long long)text.length, buffer[0], buffer[256]);
     FIELD(lohenarr_geometry, block);
     FIELD(lohenarr_layout_answer, tag);
     FIELD(lohenarr_kind_answer, count);
@@ -121,12 +137,17 @@ int main(void) {
     FIELD(lohenarr_spans_answer, size);
     FIELD(lohenarr_spans_answer, count);
     FIELD(lohenarr_span_answer, byte);
-    printf("sizes %zu %zu %zu %zu %zu %zu %zu %zu %zu %zu %zu %zu %zu %zu %zu %zu %zu %zu\n", sizeof(lohenarr_layout_answer), sizeof(lohenarr_pages_answer),
+    FIELD(lohenarr_tree_answer, others);
+    FIELD(lohenarr_row_answer, page);
+    FIELD(lohenarr_text_answer, need);
+    FIELD(lohenarr_text_answer, length);
+    printf("sizes %zu %zu %zu %zu %zu %zu %zu %zu %zu %zu %zu %zu %zu %zu %zu %zu %zu %zu %zu %zu %zu\n", sizeof(lohenarr_layout_answer), sizeof(lohenarr_pages_answer),
            sizeof(lohenarr_counts_answer), sizeof(lohenarr_kind_answer), sizeof(lohenarr_header_answer),
            sizeof(lohenarr_part_answer), sizeof(lohenarr_size_answer), sizeof(lohenarr_chunk_answer),
            sizeof(lohenarr_place_answer), sizeof(lohenarr_list_answer), sizeof(lohenarr_tally_answer),
            sizeof(lohenarr_table_answer), sizeof(lohenarr_copies_answer), sizeof(lohenarr_copy_answer),
            sizeof(lohenarr_run_answer), sizeof(lohenarr_why_answer), sizeof(lohenarr_spans_answer),
-           sizeof(lohenarr_span_answer));
+           sizeof(lohenarr_span_answer), sizeof(lohenarr_tree_answer), sizeof(lohenarr_row_answer),
+           sizeof(lohenarr_text_answer));
     return 0;
 }

@@ -4,7 +4,8 @@
 //! - `second`: the second reader, written from the documents alone.
 //! - `generator`: dumps and requests from a seed.
 //! - `library`: the library's answers to the same requests.
-//! - `lent`: what reasons leave in the memory that they are lent.
+//! - `lent`, `lent_tree`: what reasons and trees leave in the memory that they are
+//!   lent.
 //! - `corpus`: dumps that the YAFFS2 driver wrote.
 //! - `replay`: the vectors that the program of that name is held to.
 //! - `scores`: the scores of layouts, by which K is found.
@@ -17,6 +18,8 @@ mod corpus;
 mod generator;
 #[cfg(test)]
 mod lent;
+#[cfg(test)]
+mod lent_tree;
 mod library;
 #[cfg(test)]
 mod replay;
