@@ -5,6 +5,7 @@ use std::ffi::OsString;
 use clap::{Args, CommandFactory, Parser, Subcommand};
 use clap_complete::Shell;
 
+use crate::paths::Named;
 use crate::script::request::FORMS;
 use crate::typed::{self, Typed};
 use crate::usage;
@@ -19,8 +20,9 @@ pub struct Arguments {
 
 const NOTES: &str = "\
 A command is followed by DUMP, a file that is opened read-only, or - for standard
-input. Numbers are decimal, or hexadecimal with 0x. A refusal prints refusal=N and
-ends with status 1; bad usage and files that fail end with status 2.
+input. Numbers are decimal, or hexadecimal with 0x. An object is named by its id, or
+by its path, as tree prints it. A refusal prints refusal=N and ends with status 1;
+bad usage and files that fail end with status 2.
 `lohenarr help COMMAND` has the options of a command.
 ";
 
@@ -57,6 +59,14 @@ pub enum Command {
     List {
         #[command(flatten)]
         on: Past,
+        /// Type, size and path of each too
+        #[arg(long)]
+        long: bool,
+    },
+    /// The live objects with their paths, and why some have none
+    Tree {
+        #[command(flatten)]
+        on: Past,
     },
     /// The size of a file
     Size {
@@ -90,9 +100,9 @@ pub enum Command {
     Extract {
         #[command(flatten)]
         on: Past,
-        /// The object's id; every live file if left out
-        #[arg(value_parser = Typed::number, allow_negative_numbers = true)]
-        object: Option<Typed>,
+        /// The object's id, or its path from /; every live file if left out
+        #[arg(value_parser = Named::parser(), allow_negative_numbers = true)]
+        object: Option<Named>,
     },
     /// Why a byte of a file is what it is, or by runs all of its bytes
     Why {
@@ -166,9 +176,9 @@ pub struct Form {
 
 #[derive(Debug, Args)]
 pub struct Object {
-    /// The object's id
-    #[arg(value_parser = Typed::number, allow_negative_numbers = true)]
-    pub object: Typed,
+    /// The object's id, or its path from /
+    #[arg(value_parser = Named::parser(), allow_negative_numbers = true)]
+    pub object: Named,
 }
 
 /// What is to be done.
@@ -199,7 +209,8 @@ impl Arguments {
             Command::Report { on } | Command::Pages { on } | Command::Header { on, .. } => {
                 on.form.json
             }
-            Command::List { on }
+            Command::List { on, .. }
+            | Command::Tree { on }
             | Command::Size { on, .. }
             | Command::Chunk { on, .. }
             | Command::Read { on, .. }

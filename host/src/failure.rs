@@ -8,6 +8,8 @@ pub enum Failure {
     Refused(u32, String),
     /// What was typed is no command.
     Usage(String),
+    /// A path that names no object, or more than one.
+    Path(String),
     /// A file that cannot be read or written.
     File(String),
 }

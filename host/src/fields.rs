@@ -129,7 +129,7 @@ fn before_zero(bytes: &[u8]) -> &[u8] {
 
 /// A name: printable ASCII as it stands, a backslash twice, and every other
 /// byte as \xHH.
-fn text(bytes: &[u8]) -> String {
+pub fn text(bytes: &[u8]) -> String {
     let text = before_zero(bytes).iter();
     text.map(|&byte| match byte {
         b'\\' => "\\\\".to_string(),

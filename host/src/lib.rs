@@ -6,6 +6,7 @@
 //! - `dump`: a dump as a slice of bytes.
 //! - `second`: a second thread on a long dump.
 //! - `arguments`, `typed`, `usage`: what was typed, and what is wrong with it.
+//! - `paths`: objects by an id or by a path.
 //! - `block`: K where nobody names it.
 //! - `refusal`: the names of the refusals, and what each means.
 //! - `looks`: what a file looks like that is no dump.
@@ -34,6 +35,7 @@ pub mod fields;
 mod looks;
 mod new_file;
 pub mod objects;
+mod paths;
 mod progress;
 pub mod reasons;
 pub mod refusal;

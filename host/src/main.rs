@@ -19,7 +19,7 @@ fn main() -> ExitCode {
         Ok(()) => return ExitCode::SUCCESS,
         Err(Failure::Refused(..)) => return ExitCode::from(1),
         Err(Failure::Usage(reason)) => format!("{reason}\ntry: lohenarr help"),
-        Err(Failure::File(reason)) => reason,
+        Err(Failure::Path(reason) | Failure::File(reason)) => reason,
     };
     say(&format!("lohenarr: {reason}"));
     ExitCode::from(2)

@@ -4,8 +4,8 @@ use std::collections::hash_map::RandomState;
 use std::hash::{BuildHasher, Hasher};
 use std::ops::Range;
 
-use crate::ffi::{self, Answer as _, ChunkAnswer, Geometry, SizeAnswer, TallyAnswer};
-use crate::refusal::{INDEX_DAMAGED, SHORT_BUFFER};
+use crate::ffi::{self, Answer as _, ChunkAnswer, Geometry, KindAnswer, SizeAnswer, TallyAnswer};
+use crate::refusal::{INDEX_DAMAGED, NO_HEADER, SHORT_BUFFER};
 use crate::table::{Piece, Table};
 
 /// Words that are mostly enough for a table, so that one call is.
@@ -128,6 +128,20 @@ impl<'d> Objects<'d> {
         let answer = ffi::list(self.dump, self.on, &self.cells, &mut ids);
         ids.truncate(answer.given()?.count as usize);
         Ok(ids)
+    }
+
+    /// The page of the newest header of an object, or the number of the refusal.
+    pub fn newest_header(&self, object: u32) -> Result<u32, u32> {
+        let (dump, on, cells) = (self.dump, self.on, &self.cells);
+        let mut pages = vec![0; SOME_ROWS];
+        let mut answer = ffi::records(dump, on, cells, object, &mut pages);
+        if answer.refusal == SHORT_BUFFER {
+            pages = vec![0; answer.need as usize];
+            answer = ffi::records(dump, on, cells, object, &mut pages);
+        }
+        pages.truncate(answer.given()?.count as usize);
+        let is_header = |&page: &u32| ffi::kind(dump, on, page).kind == KindAnswer::HEADER;
+        pages.into_iter().find(is_header).ok_or(NO_HEADER)
     }
 
     /// How many objects there are, live or not.

@@ -28,6 +28,7 @@ const NAMES: [&str; 16] = [
 
 /// Refusals that a command acts on or gives.
 pub const BAD_CHUNK: u32 = 5;
+pub const NO_HEADER: u32 = 7;
 pub const NOT_A_FILE: u32 = 9;
 pub const SHORT_BUFFER: u32 = 11;
 pub const INDEX_DAMAGED: u32 = 13;

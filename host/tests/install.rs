@@ -51,7 +51,7 @@ fn what_is_installed_works() {
     ];
     for name in completions {
         let completions = fs::read_to_string(usr.join(name)).unwrap();
-        for word in ["extract", "why", "block", "json"] {
+        for word in ["extract", "why", "tree", "block", "json", "long"] {
             assert!(completions.contains(word), "{name}: {word}");
         }
     }

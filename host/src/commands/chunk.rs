@@ -3,15 +3,17 @@
 use super::Opened;
 use crate::failure::Failure;
 use crate::fields::{Printer, Value};
+use crate::paths::Named;
 use crate::refusal::Asked;
 use crate::typed::Typed;
 
 pub fn chunk(
     opened: &Opened,
-    object: &Typed,
+    object: &Named,
     n: &Typed,
     out: &mut Printer<'_>,
 ) -> Result<(), Failure> {
+    let object = &opened.object(object)?;
     let (objects, asked) = opened.objects()?;
     let asked = Asked {
         chunk: n,

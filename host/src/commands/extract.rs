@@ -4,17 +4,18 @@ use super::Opened;
 use crate::failure::Failure;
 use crate::ffi;
 use crate::fields::Printer;
+use crate::paths::Named;
 use crate::refusal::NOT_A_FILE;
-use crate::typed::Typed;
 
 pub fn extract(
     opened: &Opened,
-    object: Option<&Typed>,
+    object: Option<&Named>,
     out: &mut Printer<'_>,
 ) -> Result<(), Failure> {
+    let object = object.map(|object| opened.object(object)).transpose()?;
     let (objects, asked) = opened.objects()?;
     let mut memory = Vec::new();
-    if let Some(object) = object {
+    if let Some(object) = &object {
         let rows = objects.copies(object.number, &mut memory);
         let rows = opened.done(rows, asked.of(object))?;
         return copies(rows, object.number, out);

@@ -13,6 +13,7 @@ mod read;
 mod report;
 mod script;
 mod size;
+mod tree;
 mod why;
 
 use std::io::Write;
@@ -30,7 +31,8 @@ pub fn run(arguments: &Arguments, out: &mut dyn Write) -> Result<(), Failure> {
         Command::Find { source, block, .. } => find::find(&Opened::open(source, None, block)?, out),
         Command::Pages { on } => pages::pages(&Opened::on(on)?, out),
         Command::Header { on, page } => header::header(&Opened::on(on)?, page, out),
-        Command::List { on } => list::list(&Opened::past(on)?, out),
+        Command::List { on, long } => list::list(&Opened::past(on)?, *long, out),
+        Command::Tree { on } => tree::tree(&Opened::past(on)?, out),
         Command::Size { on, of } => size::size(&Opened::past(on)?, &of.object, out),
         Command::Chunk { on, of, n } => chunk::chunk(&Opened::past(on)?, &of.object, n, out),
         Command::Read { on, of, out: name } => read::read(on, &of.object, name.as_deref(), out),

@@ -8,10 +8,12 @@ use crate::dump::Dump;
 use crate::failure::Failure;
 use crate::ffi::{self, Answer as _, Geometry, KindAnswer, LayoutAnswer};
 use crate::objects::{by_sequence, Objects, Started};
+use crate::paths::Named;
 use crate::progress::Progress;
 use crate::reasons::Reasons;
 use crate::refusal::{kind_name, meaning, Asked};
 use crate::standard::say;
+use crate::tree::Tree;
 use crate::typed::Typed;
 
 use super::guess::{self, Guess};
@@ -109,7 +111,7 @@ impl Opened {
             Some(started) => Ok(started),
             None => Started::of(&self.dump, on, by_sequence(&self.dump, on.layout)),
         };
-        let before = self.before.as_ref().map(|page| page.number);
+        let before = self.before();
         let objects = started.and_then(|s| Objects::telling(&self.dump, on, s, before, told));
         Ok((self.done(objects, asked)?, asked))
     }
@@ -119,8 +121,34 @@ impl Opened {
         Reasons {
             dump: &self.dump,
             on: self.geometry(),
-            before: self.before.as_ref().map(|page| page.number),
+            before: self.before(),
         }
+    }
+
+    /// The tree of this dump, by the dump alone.
+    pub fn tree(&self) -> Result<Tree<'_>, Failure> {
+        let _progress = Progress::new("going over the pages", None);
+        let tree = Tree::of(&self.dump, self.geometry(), self.before());
+        self.done(tree, self.asked())
+    }
+
+    /// An object that was typed, by its id: that of a path is asked of the tree.
+    pub fn object(&self, named: &Named) -> Result<Typed, Failure> {
+        let path = match named {
+            Named::Id(id) => return Ok(id.clone()),
+            Named::Path(path) => path,
+        };
+        path.object(&self.tree()?).map(Typed::from).map_err(|why| {
+            Failure::Path(match &self.before {
+                Some(page) => format!("{why}, as the dump stood before page {page}"),
+                None => why,
+            })
+        })
+    }
+
+    /// The page of the record before which the dump is read.
+    fn before(&self) -> Option<u32> {
+        self.before.as_ref().map(|page| page.number)
     }
 
     /// What is asked of this dump.

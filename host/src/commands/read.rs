@@ -12,9 +12,9 @@ use crate::failure::Failure;
 use crate::fields::{hex, Printer};
 use crate::new_file::NewFile;
 use crate::objects::Objects;
+use crate::paths::Named;
 use crate::progress::Progress;
 use crate::table::{Piece, Table};
-use crate::typed::Typed;
 
 /// How many parts are handed to the system at once: no more than it takes.
 const AT_ONCE: usize = 1024;
@@ -24,7 +24,7 @@ const HOLE: u64 = 4096;
 
 pub fn read(
     on: &Past,
-    object: &Typed,
+    object: &Named,
     name: Option<&OsStr>,
     out: &mut Printer<'_>,
 ) -> Result<(), Failure> {
@@ -34,6 +34,7 @@ pub fn read(
         return Err(Failure::Usage(alone.to_string()));
     }
     let opened = Opened::past(on)?;
+    let object = &opened.object(object)?;
     let (objects, asked) = opened.objects()?;
     let table = opened.done(objects.table(object.number), asked.of(object))?;
     let Some(name) = name else {

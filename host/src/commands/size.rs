@@ -3,9 +3,10 @@
 use super::Opened;
 use crate::failure::Failure;
 use crate::fields::Printer;
-use crate::typed::Typed;
+use crate::paths::Named;
 
-pub fn size(opened: &Opened, object: &Typed, out: &mut Printer<'_>) -> Result<(), Failure> {
+pub fn size(opened: &Opened, object: &Named, out: &mut Printer<'_>) -> Result<(), Failure> {
+    let object = &opened.object(object)?;
     let (objects, asked) = opened.objects()?;
     let size = opened
         .given(objects.size(object.number), asked.of(object))?

@@ -5,16 +5,18 @@ use super::Opened;
 use crate::failure::Failure;
 use crate::ffi::{self, WhyAnswer};
 use crate::fields::Printer;
+use crate::paths::Named;
 use crate::progress::Progress;
 use crate::reasons::Reason;
 use crate::typed::Typed;
 
 pub fn why(
     opened: &Opened,
-    object: &Typed,
+    object: &Named,
     position: Option<u64>,
     out: &mut Printer<'_>,
 ) -> Result<(), Failure> {
+    let object = &opened.object(object)?;
     match position {
         Some(position) => byte(opened, object, position, out),
         None => runs(opened, object, out),

@@ -33,7 +33,11 @@ fn answers_alike(folder: &Path, dump: &[u8], record: impl Fn(usize) -> bool) {
         fs::write(folder.join("older"), blanked(dump, page)).unwrap();
         for typed in [
             &["list"][..],
+            &["list", "--long"],
+            &["tree"],
+            &["tree", "--json"],
             &["size", "257"],
+            &["size", "/none"],
             &["chunk", "257", "1"],
             &["chunk", "257", "2"],
             &["chunk", "257", "3"],

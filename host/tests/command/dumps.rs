@@ -42,6 +42,7 @@ pub fn folder() -> TempDir {
     put("unlinked-and-anew", &anew(3));
     put("half-gib", &with(page(0), SIZE, 1 << 29));
     put("4-gib", &with(page(0), SIZE, u32::MAX));
+    put("forest", &forest());
     folder
 }
 
@@ -90,6 +91,48 @@ fn anew(parent: u32) -> Vec<u8> {
         &last,
     ]
     .concat()
+}
+
+/// A header page of an object of this type, under a parent, with a name.
+pub fn header(id: u32, file_type: u32, parent: u32, name: &[u8]) -> Vec<u8> {
+    let page = with(&with(&named(name), 0, file_type), 4, parent);
+    with(&page, DATA + 4, file_type << 28 | id)
+}
+
+/// 24 pages: directories, files of one name, names that are no words of a path, an
+/// object of each sort that has no path, and one that was moved (page 19).
+fn forest() -> Vec<u8> {
+    const FILE: u32 = 1;
+    const LINK: u32 = 2;
+    const DIRECTORY: u32 = 3;
+    let long = with(&header(259, FILE, 1, b"pass1.log"), SIZE, 612);
+    let pages = [
+        header(257, DIRECTORY, 1, b"old"),
+        header(258, FILE, 257, b"pass1.log"),
+        long,
+        header(260, FILE, 1, b"log"),
+        header(261, FILE, 1, b"log"),
+        header(262, DIRECTORY, 1, b"log"),
+        header(263, FILE, 262, b"x"),
+        header(264, FILE, 1, b"a/b"),
+        header(265, DIRECTORY, 1, b".."),
+        header(266, FILE, 1, b""),
+        header(267, FILE, 1, b"a\nobject=1"),
+        header(268, DIRECTORY, 268, b"loop"),
+        header(269, FILE, 99, b"missing"),
+        header(270, DIRECTORY, 4, b"gone"),
+        header(271, FILE, 270, b"deleted"),
+        header(272, FILE, 260, b"in-a-file"),
+        header(273, LINK, 257, b"link"),
+        header(274, FILE, 1, "ä\\".as_bytes()),
+        header(275, DIRECTORY, 1, b"was"),
+        header(275, DIRECTORY, 257, b"now"),
+        header(1, DIRECTORY, 1, b"root"),
+        with(page(1), DATA + 4, 259),
+        header(276, FILE, 265, b"up"),
+        vec![0xFF; PAGE],
+    ];
+    pages.concat()
 }
 
 /// One file of so many whole chunks, each page of which is in a block of its

@@ -10,6 +10,8 @@
 //! - `outputs`: standard output that is closed, full or left.
 //! - `out`: files that `read --out` writes.
 //! - `progress`: what is shown of long work.
+//! - `tree`: names and paths.
+//! - `terminal`: a terminal for the two before.
 
 mod before;
 mod dumps;
@@ -20,7 +22,9 @@ mod outputs;
 mod progress;
 mod shortened;
 mod spread;
+mod terminal;
 mod transcript;
+mod tree;
 
 use std::path::Path;
 use std::process::{Command, Output};

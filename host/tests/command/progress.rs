@@ -1,39 +1,18 @@
 //! How far a command is: shown where standard error is a terminal and the work
 //! takes long.
 
-use std::fs::File;
-use std::io::Read;
-use std::os::fd::FromRawFd;
 use std::process::Stdio;
-use std::ptr;
 
-use super::{dumps, lohenarr};
-
-/// A terminal's two sides: what is written to the second is read from the first.
-fn terminal() -> (File, File) {
-    let (mut ours, mut theirs) = (-1, -1);
-    let (name, modes, size) = (ptr::null_mut(), ptr::null_mut(), ptr::null_mut());
-    // Safety: two new descriptors, of which each gets an owner.
-    unsafe {
-        assert_eq!(libc::openpty(&mut ours, &mut theirs, name, modes, size), 0);
-        (File::from_raw_fd(ours), File::from_raw_fd(theirs))
-    }
-}
+use super::{dumps, lohenarr, terminal};
 
 /// What a command writes to a terminal as its standard error.
 fn shown(typed: &[&str]) -> String {
     let folder = dumps::folder();
-    let (mut ours, theirs) = terminal();
     let mut command = lohenarr(folder.path());
-    command.args(typed).stdout(Stdio::null()).stderr(theirs);
-    let mut child = command.spawn().unwrap();
-    // the terminal closes with the last descriptor of its other side
-    drop(command);
-    let mut shown = Vec::new();
-    // Linux ends the reading of a closed terminal with an error
-    let _ = ours.read_to_end(&mut shown);
-    assert!(child.wait().unwrap().success());
-    String::from_utf8(shown).unwrap()
+    command.args(typed).stdout(Stdio::null());
+    let (shown, status) = terminal::shown(command, |command, terminal| command.stderr(terminal));
+    assert!(status.success());
+    shown
 }
 
 #[test]

@@ -24,6 +24,8 @@ fn answers_alike(dump: &[u8], objects: usize) {
         &["report"],
         &["extract", "600"],
         &["why", "600"],
+        &["tree"],
+        &["list", "--long"],
     ] {
         let [mapped, piped] = ["long", "-"].map(|name| {
             let typed = [&typed[..1], &[name], &typed[1..]].concat();
