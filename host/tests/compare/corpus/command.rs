@@ -13,7 +13,7 @@ use super::{cases, value, Case, DRIVERS_OWN};
 use crate::sha256;
 
 /// What the command writes.
-fn run(command: &str, dump: &Path, rest: &[&str]) -> Vec<u8> {
+pub fn run(command: &str, dump: &Path, rest: &[&str]) -> Vec<u8> {
     let words = [OsString::from(command), dump.into()].into_iter();
     let words = words.chain(rest.iter().map(OsString::from));
     let Ok(Parsed::Run(arguments)) = Arguments::parse(words) else {
@@ -25,12 +25,12 @@ fn run(command: &str, dump: &Path, rest: &[&str]) -> Vec<u8> {
     out
 }
 
-fn lines(command: &str, dump: &Path, rest: &[&str]) -> String {
+pub fn lines(command: &str, dump: &Path, rest: &[&str]) -> String {
     String::from_utf8(run(command, dump, rest)).unwrap()
 }
 
 /// The dump of a case as a file in a test's own folder.
-fn written(case: &Case, folder: &TempDir) -> PathBuf {
+pub fn written(case: &Case, folder: &TempDir) -> PathBuf {
     let path = folder.path().join("dump");
     fs::write(&path, &case.dump).unwrap();
     path

@@ -1,10 +1,12 @@
 //! Dumps that a YAFFS2 driver wrote, and what the driver shows of them.
 //!
 //! - `command`: what the command reads of them.
+//! - `tree`: their paths.
 //!
 //! What the second reader makes of them is among its own tests.
 
 mod command;
+mod tree;
 
 use std::fs;
 use std::path::{Path, PathBuf};
@@ -18,6 +20,15 @@ pub struct Case {
     /// The ids of all objects, and the files among them.
     pub objects: Vec<u32>,
     pub files: Vec<File>,
+    pub paths: Vec<Shown>,
+}
+
+/// An object as the driver shows it.
+#[derive(Clone, Debug, PartialEq, Eq, PartialOrd, Ord)]
+pub struct Shown {
+    pub object: u32,
+    pub file_type: u32,
+    pub path: String,
 }
 
 pub struct File {
@@ -54,6 +65,11 @@ fn case(path: &Path) -> Case {
         size: value(line, "size").parse().unwrap(),
         sha256: value(line, "sha256").to_string(),
     };
+    let shown_as = |line| Shown {
+        object: object(line),
+        file_type: value(line, "type").parse().unwrap(),
+        path: value(line, "path").to_string(),
+    };
     let files = shown.lines().filter(|line| value(line, "type") == "1");
     Case {
         name: path.file_stem().unwrap().to_string_lossy().into_owned(),
@@ -62,6 +78,7 @@ fn case(path: &Path) -> Case {
         block: value(first, "block").to_string(),
         objects: shown.lines().map(object).collect(),
         files: files.map(file).collect(),
+        paths: shown.lines().map(shown_as).collect(),
     }
 }
 
