@@ -20,23 +20,28 @@
 //! `long` the long one, each by its table, and both sides copy each piece of the
 //! dump to the same buffer. `spans` is why each byte of the long file is what it
 //! is, and `spans short` of a short one, from the dump alone: plain Rust goes over
-//! it once, and keeps the object's records.
+//! it once, and keeps the object's records. `tree` is the text of the tree, and
+//! `tree full` the same on a dump in which every page is the header of an object of
+//! its own: plain Rust sorts what the library does.
 //!
 //! `bench hostile` measures the commands on dumps that are made to be slow.
 
 mod dump;
 mod find;
 mod find_rows;
+mod forest;
 mod hostile;
 mod index;
 mod plain;
 mod sleuthkit;
 mod spans;
 mod timing;
+mod tree;
 
 use std::cell::RefCell;
 use std::convert::Infallible;
 use std::env;
+use std::fmt;
 use std::fs;
 use std::hint::black_box;
 use std::path::{Path, PathBuf};
@@ -46,6 +51,7 @@ use lohenarr::dump::Dump;
 use lohenarr::ffi::{self, Geometry};
 use lohenarr::objects::Objects;
 use lohenarr::reasons::Reasons;
+use lohenarr::tree::Tree;
 
 use dump::LONG;
 use index::Index;
@@ -83,6 +89,7 @@ fn ended(measured: Result<(), String>) -> ExitCode {
 /// tags at 0 comes last and serves all other rows.
 fn measure(mib: usize, rounds: usize) -> Result<(), String> {
     timing::head();
+    full(mib, rounds)?;
     for tag in [30, 2] {
         let file = Temporary::new("dump");
         find_rows::measure(&generated(&file, mib, tag)?, tag, rounds);
@@ -102,6 +109,43 @@ fn generated(file: &Temporary, mib: usize, tag: u32) -> Result<Dump, String> {
     dump::write(path, mib, tag as usize)
         .map_err(|error| format!("cannot write {}: {error}", path.display()))?;
     Dump::open(path.as_os_str(), false)
+}
+
+/// The row of a dump whose pages are all headers.
+fn full(mib: usize, rounds: usize) -> Result<(), String> {
+    let file = Temporary::new("dump");
+    let path = &file.0;
+    forest::write(path, mib)
+        .map_err(|error| format!("cannot write {}: {error}", path.display()))?;
+    let dump = Dump::open(path.as_os_str(), false)?;
+    let layout = ffi::find(&dump, BLOCK);
+    assert_eq!(layout.refusal, 0, "the generated dump has a layout");
+    let on = Geometry {
+        layout: layout.number,
+        block: BLOCK,
+    };
+    tree("tree full", &dump, on, rounds);
+    Ok(())
+}
+
+/// The text of a tree, by the library and in plain Rust.
+fn tree(name: &str, dump: &[u8], on: Geometry, rounds: usize) {
+    timing::compare(
+        name,
+        rounds,
+        || Tree::of(dump, on, None).map(|tree| Bytes(tree.text(u64::MAX).unwrap_or_default())),
+        || Ok(Bytes(tree::text(dump, on.layout))),
+    );
+}
+
+/// Bytes that are not shown where they differ.
+#[derive(PartialEq)]
+struct Bytes(Vec<u8>);
+
+impl fmt::Debug for Bytes {
+    fn fmt(&self, f: &mut fmt::Formatter<'_>) -> fmt::Result {
+        write!(f, "{} bytes", self.0.len())
+    }
 }
 
 /// The rows of the dump that are not about its layout.
@@ -129,6 +173,7 @@ fn pages(dump: &[u8], rounds: usize) {
             || spans::spans(dump, on.layout, object),
         );
     }
+    tree("tree", dump, on, rounds);
     lookups(dump, on, rounds);
 }
 

@@ -220,14 +220,16 @@ impl<'r> Forest<'r> {
     }
 
     /// Directories that are each other's parents, and some objects below them. One
-    /// that is its own parent may be of any type.
+    /// that is its own parent may be of any type, and now and then another is no
+    /// directory.
     fn ring(&mut self) {
         let length = self.rng.pick(&[1, 1, 2, 3, 4, 7]);
         let ids: Vec<u32> = (0..length).map(|_| self.fresh_above()).collect();
+        let broken = self.rng.chance(30).then(|| self.rng.below(length as u64));
         for (place, &id) in ids.iter().enumerate() {
-            let file_type = match length {
-                1 => self.file_type(),
-                _ => DIRECTORY,
+            let file_type = match length == 1 || broken == Some(place as u64) {
+                true => self.file_type(),
+                false => DIRECTORY,
             };
             self.put(Header {
                 id,

@@ -249,12 +249,25 @@ impl Nodes {
                 (true, Wrong::TreeDeletedIsMissing) => return Stop::Missing,
                 (true, Wrong::TreeDeletedPassed) if is_directory => {}
                 (true, _) => return Stop::Deleted,
+                (false, Wrong::TreeLoopThroughFile) if !is_directory => {
+                    return match self.leads_to(above, start.id) {
+                        true => Stop::Loop,
+                        false => Stop::NonDirectory,
+                    };
+                }
                 (false, _) if !is_directory => return Stop::NonDirectory,
                 (false, _) => {}
             }
             met.push(parent);
             node = above;
         }
+    }
+
+    /// Whether an object is among the parents of another, whatever these are.
+    fn leads_to(&self, from: &Node, id: u32) -> bool {
+        let up = |node: &&Node| self.headed.get(&node.parent);
+        let mut above = std::iter::successors(Some(from), up).take(ENDLESS);
+        above.any(|node| node.parent == id)
     }
 
     /// The live objects that are not listed, but for the root.

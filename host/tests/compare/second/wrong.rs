@@ -390,6 +390,8 @@ wrong_rules! {
     TreeStartNotMet,
     /// A loop that the object is not on itself is followed.
     TreeLoopToStartAlone,
+    /// A loop may go through what is no directory.
+    TreeLoopThroughFile,
     /// A deleted parent is missing.
     TreeDeletedIsMissing,
     /// Parents are followed beyond a deleted directory.

@@ -19,13 +19,15 @@ const LAST_OBJECT: u32 = 0x0FFF_FFFF;
 const ONE: u32 = 300;
 const FIRST: u32 = 257;
 
-/// What a page says of its object: a file's size, with a shrink mark or without, or
-/// a full chunk.
+/// What a page says of its object: a file's size, with a shrink mark or without, a
+/// full chunk, or in which directory a file or a directory is.
 #[derive(Clone, Copy)]
 enum Says {
     Header { size: u32 },
     Shrunk { size: u32 },
     Data { chunk: u32 },
+    File { parent: u32 },
+    Directory { parent: u32 },
 }
 
 /// A record: its sequence, its object, and what it says.
@@ -37,7 +39,7 @@ pub struct Kind {
     records: fn(u32) -> Box<dyn Iterator<Item = Record>>,
 }
 
-pub const KINDS: [Kind; 10] = [
+pub const KINDS: [Kind; 16] = [
     Kind {
         name: "claims",
         records: claims,
@@ -78,6 +80,30 @@ pub const KINDS: [Kind; 10] = [
         name: "sparse",
         records: sparse,
     },
+    Kind {
+        name: "directory",
+        records: directory,
+    },
+    Kind {
+        name: "deep",
+        records: deep,
+    },
+    Kind {
+        name: "chain",
+        records: chain,
+    },
+    Kind {
+        name: "ring",
+        records: ring,
+    },
+    Kind {
+        name: "rings",
+        records: rings,
+    },
+    Kind {
+        name: "renamed",
+        records: renamed,
+    },
 ];
 
 impl Kind {
@@ -102,19 +128,22 @@ pub fn pages(mib: usize) -> u32 {
     ((mib << 20) / PAGE) as u32 / BLOCK * BLOCK
 }
 
-/// A page of 0xFF but for what it says; a header is of a file below the root.
+/// A page of 0xFF but for what it says, so that names are as long as can be; a header
+/// is of a file below the root if nothing else is said.
 fn bytes((sequence, object, says): Record) -> [u8; PAGE] {
     let mut page = [0xFF; PAGE];
     let mut put = |at: usize, word: u32| page[at..at + 4].copy_from_slice(&word.to_le_bytes());
-    let mut header = |size, shrink| {
-        for (at, word) in [(0, 1), (4, 1), (0x124, size), (0x1FC, shrink)] {
+    let mut header = |file_type, parent, size, shrink| {
+        for (at, word) in [(0, file_type), (4, parent), (0x124, size), (0x1FC, shrink)] {
             put(at, word);
         }
-        [sequence, object | 1 << 28, 1 << 31 | 1, 0]
+        [sequence, object | file_type << 28, 1 << 31 | 1, 0]
     };
     let tags = match says {
-        Says::Header { size } => header(size, 0),
-        Says::Shrunk { size } => header(size, 1),
+        Says::Header { size } => header(1, 1, size, 0),
+        Says::Shrunk { size } => header(1, 1, size, 1),
+        Says::File { parent } => header(1, parent, 0, 0),
+        Says::Directory { parent } => header(3, parent, 0, 0),
         Says::Data { chunk } => [sequence, object, chunk, DATA as u32],
     };
     for (i, word) in tags.into_iter().enumerate() {
@@ -245,6 +274,64 @@ fn sparse(pages: u32) -> Box<dyn Iterator<Item = Record>> {
         _ => Says::Data {
             chunk: 0xF_FFFFu32.saturating_sub(2 * p).max(1),
         },
+    };
+    Box::new((0..pages).map(move |p| (rising(p), ONE, says(p))))
+}
+
+/// One directory that has all other objects as entries, ids falling.
+fn directory(pages: u32) -> Box<dyn Iterator<Item = Record>> {
+    let says = |p| match p {
+        0 => Says::Directory { parent: 1 },
+        _ => Says::File { parent: ONE },
+    };
+    let id = move |p| if p == 0 { ONE } else { ONE + pages - p };
+    Box::new((0..pages).map(move |p| (rising(p), id(p), says(p))))
+}
+
+/// The same as deep as is listed: each path has more than 7,000 bytes.
+fn deep(pages: u32) -> Box<dyn Iterator<Item = Record>> {
+    let says = |p| match p {
+        0 => Says::Directory { parent: 1 },
+        1..30 => Says::Directory {
+            parent: ONE + p - 1,
+        },
+        _ => Says::File { parent: ONE + 29 },
+    };
+    Box::new((0..pages).map(move |p| (rising(p), ONE + p, says(p))))
+}
+
+/// Directories that each are in the one before.
+fn chain(pages: u32) -> Box<dyn Iterator<Item = Record>> {
+    let parent = |p| if p == 0 { 1 } else { FIRST + p - 1 };
+    let says = move |p| Says::Directory { parent: parent(p) };
+    Box::new((0..pages).map(move |p| (rising(p), FIRST + p, says(p))))
+}
+
+/// Directories that each are in the next, and the last in the first.
+fn ring(pages: u32) -> Box<dyn Iterator<Item = Record>> {
+    let parent = move |p| FIRST + (p + 1) % pages;
+    let says = move |p| Says::Directory { parent: parent(p) };
+    Box::new((0..pages).map(move |p| (rising(p), FIRST + p, says(p))))
+}
+
+/// Loops of every length from 1 on, until there are no more pages.
+fn rings(pages: u32) -> Box<dyn Iterator<Item = Record>> {
+    let (mut begin, mut length) = (0, 1);
+    Box::new((0..pages).map(move |p| {
+        if p == begin + length {
+            (begin, length) = (p, length + 1);
+        }
+        let end = (begin + length).min(pages);
+        let next = if p + 1 == end { begin } else { p + 1 };
+        let parent = FIRST + next;
+        (rising(p), FIRST + p, Says::Directory { parent })
+    }))
+}
+
+/// One directory with as many headers as pages, which moves in and out of the root.
+fn renamed(pages: u32) -> Box<dyn Iterator<Item = Record>> {
+    let says = |p: u32| Says::Directory {
+        parent: if p.is_multiple_of(2) { 1 } else { FIRST },
     };
     Box::new((0..pages).map(move |p| (rising(p), ONE, says(p))))
 }

@@ -11,7 +11,7 @@
 //! two doublings, since a dump that no longer fits into the memory close by makes
 //! one of them larger.
 
-mod kinds;
+pub mod kinds;
 mod runs;
 
 use std::env;
@@ -37,12 +37,14 @@ const NOISE: f64 = 1.5;
 
 /// The commands, with what stands behind the dump: `OBJECT` is that of its last
 /// page, which is `LAST`.
-const COMMANDS: [&[&str]; 11] = [
+const COMMANDS: [&[&str]; 13] = [
     &["report"],
     &["find"],
     &["pages"],
     &["list"],
     &["list", "--before", "LAST"],
+    &["list", "--long"],
+    &["tree"],
     &["size", "OBJECT"],
     &["chunk", "OBJECT", "1"],
     &["read", "OBJECT"],

@@ -98,6 +98,19 @@ fn where_parents_stop() {
     assert_eq!(tree(&headers), lists);
 }
 
+/// A file is on a loop that for its directories ends there.
+#[test]
+fn a_loop_through_a_file() {
+    let headers: [Header<'_>; 3] = [
+        (5, 1, 6, b"file"),
+        (6, 3, 7, b"in"),
+        (7, 3, 5, b"in a file"),
+    ];
+    let reasons = "object=5,reason=loop,object=6,reason=non-directory,\
+                   object=7,reason=non-directory";
+    assert_eq!(tree(&headers), reasons);
+}
+
 /// Object 1 is the root as a deleted file, and as the entry of its own entry.
 #[test]
 fn the_root_stands_whatever_its_header_says() {
