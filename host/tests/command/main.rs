@@ -3,6 +3,7 @@
 //! - `dumps`: W, and dumps made of it.
 //! - `transcript`: every command on W, every refusal and every habit, with stored output.
 //! - `before`: dumps as they once stood.
+//! - `crowded`: trees of very many objects.
 //! - `found`: K where it is not named.
 //! - `inputs`: dumps and scripts that are no plain files.
 //! - `spread`: dumps that are long enough for a second thread.
@@ -14,6 +15,7 @@
 //! - `terminal`: a terminal for the two before.
 
 mod before;
+mod crowded;
 mod dumps;
 mod found;
 mod inputs;

@@ -52,7 +52,7 @@ fn page(number: u32, file_type: u32, parent: u32) -> [u8; PAGE] {
     put(4, parent);
     let tags = [
         0x1000 + number / super::BLOCK,
-        file_type << 28 | FIRST + number,
+        (file_type << 28) | (FIRST + number),
         1 << 31 | 1,
         0,
     ];
