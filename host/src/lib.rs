@@ -35,7 +35,7 @@ pub mod fields;
 mod looks;
 mod new_file;
 pub mod objects;
-mod paths;
+pub mod paths;
 mod progress;
 pub mod reasons;
 pub mod refusal;

@@ -32,7 +32,7 @@ impl Named {
     }
 
     /// An id or a path, or what it has to be.
-    fn read(word: OsString) -> Result<Named, &'static str> {
+    pub fn read(word: OsString) -> Result<Named, &'static str> {
         let word = word.into_vec();
         if word.starts_with(b"/") {
             return Ok(Named::Path(Path(word)));

@@ -13,7 +13,7 @@ use super::{lohenarr, said};
 #[test]
 fn a_closed_pipe_ends_by_its_signal() {
     let folder = dumps::folder();
-    for typed in [&["pages", "-"][..], &["read", "-", "257"]] {
+    for typed in [&["pages", "-"][..], &["read", "-", "257"], &["tree", "-"]] {
         let mut command = lohenarr(folder.path());
         command.args(typed).args(["--block", "4"]);
         command.stdin(Stdio::piped()).stdout(Stdio::piped());
@@ -32,6 +32,8 @@ fn an_output_that_is_full() {
     let typed = [
         (&["pages", "W", "-b4"][..], false),
         (&["pages", "empty", "-b4"], true),
+        (&["tree", "forest", "-b8"], false),
+        (&["tree", "forest", "-b8", "--json"], false),
         (&["completions", "bash"], false),
         (&["help", "size"], false),
     ];
