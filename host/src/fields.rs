@@ -130,18 +130,34 @@ fn before_zero(bytes: &[u8]) -> &[u8] {
 /// A name: printable ASCII as it stands, a backslash twice, and every other
 /// byte as \xHH.
 pub fn text(bytes: &[u8]) -> String {
-    let text = before_zero(bytes).iter();
-    text.map(|&byte| match byte {
-        b'\\' => "\\\\".to_string(),
-        b' '..=b'~' => char::from(byte).to_string(),
-        _ => format!("\\x{byte:02X}"),
-    })
-    .collect()
+    let bytes = before_zero(bytes);
+    let mut text = String::with_capacity(bytes.len());
+    for &byte in bytes {
+        match byte {
+            b'\\' => text.push_str("\\\\"),
+            b' '..=b'~' => text.push(byte.into()),
+            _ => {
+                text.push_str("\\x");
+                let digits = digits(byte);
+                text.extend(digits.map(|digit| digit.to_ascii_uppercase()));
+            }
+        }
+    }
+    text
 }
 
 /// Bytes as hex digits.
 pub fn hex(bytes: &[u8]) -> String {
-    bytes.iter().map(|byte| format!("{byte:02x}")).collect()
+    let mut hex = String::with_capacity(2 * bytes.len());
+    for &byte in bytes {
+        hex.extend(digits(byte));
+    }
+    hex
+}
+
+/// The two hex digits of a byte.
+fn digits(byte: u8) -> [char; 2] {
+    [byte >> 4, byte & 0xF].map(|digit| char::from(b"0123456789abcdef"[usize::from(digit)]))
 }
 
 #[cfg(test)]
