@@ -2,3 +2,4 @@ pub mod Objects
 pub mod Paths
 pub mod Ways
 pub mod Tree
+pub mod Rows

@@ -1,2 +1,3 @@
 // The tree of a dump's live objects as the operator saw it: paths from the root, and why an object has none.
 pub mod reason;
+pub mod row;
