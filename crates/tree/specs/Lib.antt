@@ -3,3 +3,4 @@ pub mod Paths
 pub mod Ways
 pub mod Tree
 pub mod Rows
+pub mod Search
