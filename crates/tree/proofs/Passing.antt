@@ -54,11 +54,6 @@ module _ (test : ℕ → Bool) where
   pub none-passes : (k : ℕ) → anyBelow test k ≡ false → (j : ℕ) → j < k → test j ≡ false
   none-passes k e j h = by-test (test j) _ (λ t. let z = passes-any k j h t in clash (cc)) (λ t. t)
 
-  -- and where each fails, none passes
-  pub passes-none : (k : ℕ) → ((j : ℕ) → j < k → test j ≡ false) → anyBelow test k ≡ false
-  passes-none k f =
-      by-test (anyBelow test k) _ (λ t. let w = any-passes k t in let z = f (w .number) (w .below) in clash (cc (w .passes))) (λ t. t)
-
   -- the first is not behind another that passes
   pub first-least : (i k a : ℕ) → IsFirst test i k → i ≤ a → test a ≡ true → k ≤ a
   first-least i k a w h t =

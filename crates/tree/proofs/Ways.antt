@@ -1,14 +1,15 @@
--- The way up from an object. A step goes on if it leads to a directory other than the root; each object that goes on has a newest header page below n,
--- and different objects have different ones. So n steps that all go on come to one met before, by the pigeonhole.
+-- The way up from an object. Each object at which a way goes on has a newest header page below n, and different objects have different ones. So n
+-- steps that all go on come to one met before, by the pigeonhole: every way stops within n steps.
 --
--- And a way that comes to one met before goes round for ever: two steps that lead to the same object lead on alike. Where a step does not go on, none
--- before it has come to one met before, and the step itself comes to one only if that is the object that the way began at.
+-- A way that comes to one met before goes round for ever, since two steps that lead to the same object lead on alike. So where a step does not go on,
+-- none before it has come to one met before, and it comes to one itself only if that is the start.
+--
+-- The reason is what the first step that stops comes to. There is one such step only, so that each reason is true and no other would be.
 use Prim.Native.Nat.{ℕ, zero, suc, _+_, _-_, _≤_, _<_}
 use mathlib.Core.Bool.{Bool, true, false, not, _&&_, _||_}
 use mathlib.Core.Logic.{_⊎_, inl, inr, ⊎-elim}
 use mathlib.Core.Option.{Option, none, some}
 use mathlib.Core.Path.{_≡_, refl, sym, ap, _∙_}
-use native.Mathlib.Nat.{le-refl}
 use native.Mathlib.Omega.{arith}
 use lib.Dec.{eqb}
 use borrow.Author.Tests.{eqb-true, eqb-false, eq-eqb, ne-eqb, not-true, not-false}
@@ -20,18 +21,23 @@ use Rattle.page.proofs.Searching.{clash, by-test}
 use Rattle.chunk.specs.Records.{isOf, headerOf, isGone}
 use Rattle.chunk.proofs.Records.{of-object}
 use Rattle.chunk.proofs.Meaning.{newest-found}
-use Rattle.tree.specs.Objects.{Stand, missing, deleted, nonDirectory, directory, root, isDirectory, given, headOf, pageOf, parentOf, standOf, standBy, isStanding}
+use Rattle.tree.specs.Objects.{Stand, missing, deleted, nonDirectory, directory, standBy, isStanding}
+use Rattle.tree.specs.Objects.{root, isDirectory, given, headOf, pageOf, parentOf, standOf}
 use Rattle.tree.specs.Ways.{anyBelow, reasonBy, up, metAt, stopsAt, stopOf, reasonOf}
 use Rattle.tree.specs.declared.reason.Reason.{Reason}
 use Rattle.tree.specs.declared.reason.Reason.the-variants as reason
-use Rattle.tree.proofs.Passing.{IsFirst, any-passes, passes-any, none-passes, passes-none, first-least, first-only, first-found}
+use Rattle.tree.proofs.Passing.{IsFirst, any-passes, passes-any, none-passes, first-least, first-only, first-found}
 use Rattle.tree.proofs.Pigeons.{pigeons}
 
--- the tests of a stop, as: met before, or not going on
+-- a stop at the root, or at one met before, or at no directory, is one at one met before or where the way does not go on
 stop-test : (r m s : Bool) → r || (m || not s) ≡ m || not (not r && s)
 stop-test true true s = refl
 stop-test true false s = refl
 stop-test false m s = refl
+
+or-true : (b : Bool) → b || true ≡ true
+or-true true = refl
+or-true false = refl
 
 -- a dump of n pages
 module _ (says : ℕ → Record) (n : ℕ) where
@@ -88,6 +94,7 @@ module _ (says : ℕ → Record) (n : ℕ) where
 
   -- the steps from o
   module _ (o : ℕ) where
+    -- where step k leads
     abbrev at : ℕ → ℕ
     at k = up says n k o
 
@@ -97,7 +104,7 @@ module _ (says : ℕ → Record) (n : ℕ) where
       pub before : earlier < k
       pub same : up says n earlier o ≡ up says n k o
 
-    -- as the test of that says
+    -- which is what its test says
     pub met-means : (k : ℕ) → metAt says n o k ≡ true → Met k
     unfolding metAt
     met-means k t =
@@ -114,7 +121,7 @@ module _ (says : ℕ → Record) (n : ℕ) where
     pub means-unmet : (k : ℕ) → (Met k → ⊥) → metAt says n o k ≡ false
     means-unmet k f = by-test (metAt says n o k) _ (λ t. absurd (f (met-means k t))) (λ t. t)
 
-    -- a way stops where it comes to one met before, or does not go on
+    -- the way stops where it comes to one met before, or does not go on, and nowhere else
     stops-as : (k : ℕ) → stopsAt says n o k ≡ metAt says n o k || not (goesOn (at k))
     unfolding stopsAt
     stops-as k = stop-test (eqb (at k) root) (metAt says n o k) (isStanding (standOf says n (at k)))
@@ -124,13 +131,15 @@ module _ (says : ℕ → Record) (n : ℕ) where
 
     pub off-stops : (k : ℕ) → goesOn (up says n k o) ≡ false → stopsAt says n o k ≡ true
     off-stops k t = stops-as k ∙ rw t (or-true (metAt says n o k))
-      where
-        or-true : (b : Bool) → b || true ≡ true
-        or-true true = refl
-        or-true false = refl
 
     pub on-passes : (k : ℕ) → metAt says n o k ≡ false → goesOn (up says n k o) ≡ true → stopsAt says n o k ≡ false
     on-passes k t u = stops-as k ∙ rw (t, u)
+
+    pub passed-unmet : (k : ℕ) → stopsAt says n o k ≡ false → metAt says n o k ≡ false
+    passed-unmet k e = by-test (metAt says n o k) _ (λ t. let z = met-stops k t in clash (cc)) (λ t. t)
+
+    pub passed-on : (k : ℕ) → stopsAt says n o k ≡ false → goesOn (up says n k o) ≡ true
+    passed-on k e = by-test (goesOn (at k)) _ (λ t. t) (λ t. let z = off-stops k t in clash (cc))
 
     -- step a is the first that does not go on
     pub record EndsAt (a : ℕ) : Type 0 where
@@ -183,6 +192,7 @@ module _ (says : ℕ → Record) (n : ℕ) where
           let g : goesOn (at a) ≡ true = rw (← w .same) (end .on (w .earlier) (omega arith) (w .before)) in
           clash (cc (end .off)))
 
+      -- which is how the test of that comes out there
       end-met : metAt says n o a ≡ eqb (at a) o
       end-met =
           by-test (eqb (at a) o) _
@@ -200,26 +210,24 @@ module _ (says : ℕ → Record) (n : ℕ) where
 
     -- an object with a header
     module _ (p : ℕ) (head : headOf says n o ≡ some p) where
-      -- as long as a way goes on, its objects have newest headers
-      headed : (m : ℕ) → ((j : ℕ) → 1 ≤ j → j ≤ m → goesOn (at j) ≡ true) → (i : ℕ) → i ≤ m → headOf says n (at i) ≡ some (pageOf says n (at i))
-      headed m on i h =
-          by-test (eqb i 0) _
-          (λ t. let e : i ≡ 0 = eqb-true i 0 t in rw (e, up-none o) (head-page o p head))
-          (λ t. let z : i ≡ 0 → ⊥ = eqb-false i 0 t in on-headed (at i) (on i (omega arith) h))
+      -- of whose way n steps go on
+      module _ (on : (j : ℕ) → 1 ≤ j → j ≤ n → goesOn (at j) ≡ true) where
+        -- up to there its objects have newest headers
+        headed : (i : ℕ) → i ≤ n → headOf says n (at i) ≡ some (pageOf says n (at i))
+        headed i h =
+            by-test (eqb i 0) _
+            (λ t. let e : i ≡ 0 = eqb-true i 0 t in rw (e, up-none o) (head-page o p head))
+            (λ t. let z : i ≡ 0 → ⊥ = eqb-false i 0 t in on-headed (at i) (on i (omega arith) h))
 
-      -- where all of n steps go on, one of them comes to one met before
-      all-met : ((j : ℕ) → 1 ≤ j → j ≤ n → goesOn (at j) ≡ true) → (k : ℕ) × (1 ≤ k) × (k ≤ n) × Met k
-      all-met on =
-          let w = pigeons n (λ i. pageOf says n (at i)) (λ i h. head-below (at i) _ (headed n on i h)) in
-          let one = headed n on (w .one) (omega (arith, w .before, w .inside)) ∙ ap some (w .same) in
-          let other = headed n on (w .other) (w .inside) in (
-            w .other,
-            omega (arith, w .before),
-            w .inside,
-            record { earlier = w .one; before = w .before; same = same-head (at (w .one)) (at (w .other)) (pageOf says n (at (w .other))) one other },
-          )
+        -- and one of the steps comes to one met before
+        all-met : (k : ℕ) × (1 ≤ k) × (k ≤ n) × Met k
+        all-met =
+            let w = pigeons n (λ i. pageOf says n (at i)) (λ i h. head-below (at i) _ (headed i h)) in
+            let one = headed (w .one) (omega (arith, w .before, w .inside)) ∙ ap some (w .same) in
+            let same = same-head (at (w .one)) (at (w .other)) (pageOf says n (at (w .other))) one (headed (w .other) (w .inside)) in
+            (w .other, omega (arith, w .before), w .inside, record { earlier = w .one; before = w .before; same = same })
 
-      -- so that a way stops within n steps
+      -- a way stops within n steps
       some-stop : (k : ℕ) × (1 ≤ k) × (k ≤ n) × (stopsAt says n o k ≡ true)
       some-stop =
           ⊎-elim
@@ -227,7 +235,7 @@ module _ (says : ℕ → Record) (n : ℕ) where
           (λ on. let w = all-met on in (w .0, w .1, w .2, met-stops (w .0) (means-met (w .0) (w .3))))
           first-stop
 
-      -- the first step that stops is found
+      -- so that the first step that stops is found, within n steps, and is the only first
       pub stop-first : IsFirst (stopsAt says n o) 1 (stopOf says n o)
       unfolding stopOf
       stop-first = let w = some-stop in first-found (stopsAt says n o) 1 n (w .0) (w .1) (omega (arith, w .2)) (w .3)
@@ -263,3 +271,165 @@ module _ (says : ℕ → Record) (n : ℕ) where
           by-test (metAt says n o k) _ (λ t. t) (λ t. let z = on-passes k t g in clash (cc (stop-first .passes)))
           in
           rw (below, met)
+
+  -- ---- how an object stands
+
+  -- by its newest header
+  by-stand :
+      (x : ℕ) (P : Stand → Type 0) → (headOf says n x ≡ none → P missing) →
+      ((h : ℕ) → headOf says n x ≡ some h → isGone (says h) ≡ true → P deleted) →
+      ((h : ℕ) → headOf says n x ≡ some h → isGone (says h) ≡ false → isDirectory (says h) ≡ true → P directory) →
+      ((h : ℕ) → headOf says n x ≡ some h → isGone (says h) ≡ false → isDirectory (says h) ≡ false → P nonDirectory) → P (standOf says n x)
+  unfolding standOf
+  by-stand x P without gone here plain = go (headOf says n x) refl
+    where
+      go : (r : Option ℕ) → headOf says n x ≡ r → P (given missing (λ h. standBy (says h)) r)
+      go none e = without e
+      go (some h) e =
+          by-test (isGone (says h)) _
+          (λ t. rw t (gone h e t))
+          (λ t. by-test (isDirectory (says h)) _ (λ u. rw (t, u) (here h e t u)) (λ u. rw (t, u) (plain h e t u)))
+
+  -- an object with no header is missing
+  stand-missing : (x : ℕ) → headOf says n x ≡ none → standOf says n x ≡ missing
+  unfolding standOf
+  stand-missing x e = rw e
+
+  -- one whose newest header is gone is deleted
+  stand-deleted : (x h : ℕ) → headOf says n x ≡ some h → isGone (says h) ≡ true → standOf says n x ≡ deleted
+  unfolding standOf
+  stand-deleted x h e t = rw (e, t)
+
+  -- and one whose newest header is neither gone nor a directory's is no directory
+  stand-plain : (x h : ℕ) → headOf says n x ≡ some h → isGone (says h) ≡ false → isDirectory (says h) ≡ false → standOf says n x ≡ nonDirectory
+  unfolding standOf
+  stand-plain x h e t u = rw (e, t, u)
+
+  -- ---- what each reason says of an object
+
+  module _ (o : ℕ) where
+    -- the way comes to step k: each step before it goes on, and comes to none met before
+    pub record ComesTo (k : ℕ) : Type 0 where
+      pub first : 1 ≤ k
+      pub on : (j : ℕ) → 1 ≤ j → j < k → goesOn (up says n j o) ≡ true
+      pub unmet : (j : ℕ) → 1 ≤ j → j < k → Met o j → ⊥
+
+    -- and there to an object that is not the root and was not met before
+    pub record ComesToNew (k : ℕ) : Type 0 where
+      pub comes : ComesTo k
+      pub below : up says n k o ≡ root → ⊥
+      pub unmet : Met o k → ⊥
+
+    -- too deep: it comes to the root
+    pub record BecauseTooDeep : Type 0 where
+      pub step : ℕ
+      pub comes : ComesTo step
+      pub top : up says n step o ≡ root
+
+    -- loop: it comes, before the root, to the start or to one met before
+    pub record BecauseLoop : Type 0 where
+      pub step : ℕ
+      pub comes : ComesTo step
+      pub below : up says n step o ≡ root → ⊥
+      pub met : Met o step
+
+    -- missing: it comes to an object with no header
+    pub record BecauseMissing : Type 0 where
+      pub step : ℕ
+      pub comes : ComesToNew step
+      pub headless : headOf says n (up says n step o) ≡ none
+
+    -- deleted: it comes to an object whose newest header is under parent 3 or 4
+    pub record BecauseDeleted : Type 0 where
+      pub step : ℕ
+      pub comes : ComesToNew step
+      pub page : ℕ
+      pub head : headOf says n (up says n step o) ≡ some page
+      pub gone : isGone (says page) ≡ true
+
+    -- non-directory: it comes to an object whose newest header is neither that nor of type 3
+    pub record BecauseNonDirectory : Type 0 where
+      pub step : ℕ
+      pub comes : ComesToNew step
+      pub page : ℕ
+      pub head : headOf says n (up says n step o) ≡ some page
+      pub kept : isGone (says page) ≡ false
+      pub plain : isDirectory (says page) ≡ false
+
+  -- what a reason says
+  abbrev pub Reasoned : Reason → (object : ℕ) → Type 0
+  Reasoned reason.TooDeep o = BecauseTooDeep o
+  Reasoned reason.Loop o = BecauseLoop o
+  Reasoned reason.Missing o = BecauseMissing o
+  Reasoned reason.Deleted o = BecauseDeleted o
+  Reasoned reason.NonDirectory o = BecauseNonDirectory o
+
+  -- an object with a header
+  module _ (o p : ℕ) (head : headOf says n o ≡ some p) where
+    -- the step at which its way stops
+    abbrev stop : ℕ
+    stop = stopOf says n o
+
+    -- the way comes to where it stops
+    stop-comes : ComesTo o stop
+    stop-comes =
+        let w = stop-first o p head in
+        record {
+          first = w .from;
+          on = λ j b c. passed-on o j (w .before j b c);
+          unmet = λ j b c. unmet-means o j (passed-unmet o j (w .before j b c));
+        }
+
+    -- each reason is true
+    pub reason-means : Reasoned (reasonOf says n o) o
+    unfolding reasonOf
+    reason-means =
+        by-test (eqb (up says n stop o) root) _
+        (λ t. rw t record { step = stop; comes = stop-comes; top = eqb-true _ _ t })
+        (λ t.
+        by-test (metAt says n o stop) _
+        (λ u. rw (t, u) record { step = stop; comes = stop-comes; below = eqb-false _ _ t; met = met-means o stop u })
+        (λ u. rw (t, u) (beside t u)))
+      where
+        beside : eqb (up says n stop o) root ≡ false → metAt says n o stop ≡ false → Reasoned (reasonBy (standOf says n (up says n stop o))) o
+        beside t u =
+            let new : ComesToNew o stop = record { comes = stop-comes; below = eqb-false _ _ t; unmet = unmet-means o stop u } in
+            by-stand (up says n stop o) (λ s. standOf says n (up says n stop o) ≡ s → Reasoned (reasonBy s) o)
+            (λ e _. record { step = stop; comes = new; headless = e })
+            (λ h e g _. record { step = stop; comes = new; page = h; head = e; gone = g })
+            (λ h e g d s. let z = on-passes o stop u (rw (t, s)) in clash (cc (stop-first o p head .passes)))
+            (λ h e g d _. record { step = stop; comes = new; page = h; head = e; kept = g; plain = d })
+            refl
+
+    -- the reason is what is at a step that stops, if the way comes to it
+    reason-at :
+        (k : ℕ) → ComesTo o k → stopsAt says n o k ≡ true →
+        reasonOf says n o
+        ≡ pick (eqb (up says n k o) root) reason.TooDeep (pick (metAt says n o k) reason.Loop (reasonBy (standOf says n (up says n k o))))
+    unfolding reasonOf
+    reason-at k w t =
+        rw
+        (stop-is o p head k record {
+          from = w .first;
+          passes = t;
+          before = λ j b c. on-passes o j (means-unmet o j (w .unmet j b c)) (w .on j b c);
+        })
+
+    -- which is how an object stands that is not the root and was not met before
+    reason-new : (k : ℕ) (s : Stand) → ComesToNew o k → standOf says n (up says n k o) ≡ s → isStanding s ≡ false → reasonOf says n o ≡ reasonBy s
+    reason-new k s w e f =
+        let t : eqb (up says n k o) root ≡ false = ne-eqb _ _ (w .below) in
+        reason-at k (w .comes) (off-stops o k (rw (t, e) f)) ∙ rw (t, means-unmet o k (w .unmet), e)
+
+    -- and no other would be
+    pub means-reason : (r : Reason) → Reasoned r o → reasonOf says n o ≡ r
+    means-reason reason.TooDeep w =
+        let t : eqb (up says n (w .step) o) root ≡ true = eq-eqb _ _ (w .top) in
+        reason-at (w .step) (w .comes) (off-stops o (w .step) (rw t)) ∙ rw t
+    means-reason reason.Loop w =
+        let t : eqb (up says n (w .step) o) root ≡ false = ne-eqb _ _ (w .below) in
+        let u = means-met o (w .step) (w .met) in
+        reason-at (w .step) (w .comes) (met-stops o (w .step) u) ∙ rw (t, u)
+    means-reason reason.Missing w = reason-new (w .step) missing (w .comes) (stand-missing _ (w .headless)) refl
+    means-reason reason.Deleted w = reason-new (w .step) deleted (w .comes) (stand-deleted _ (w .page) (w .head) (w .gone)) refl
+    means-reason reason.NonDirectory w = reason-new (w .step) nonDirectory (w .comes) (stand-plain _ (w .page) (w .head) (w .kept) (w .plain)) refl
