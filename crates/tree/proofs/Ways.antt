@@ -35,6 +35,7 @@ stop-test true true s = refl
 stop-test true false s = refl
 stop-test false m s = refl
 
+-- of two tests one holds, if the second does
 or-true : (b : Bool) → b || true ≡ true
 or-true true = refl
 or-true false = refl
@@ -75,11 +76,12 @@ module _ (says : ℕ → Record) (n : ℕ) where
 
   -- ---- steps
 
-  -- no step, and one step more
+  -- no step leads nowhere else
   pub up-none : (o : ℕ) → up says n 0 o ≡ o
   unfolding up
   up-none o = refl
 
+  -- and one step more leads to the parent
   pub up-more : (k o : ℕ) → up says n (suc k) o ≡ parentOf says n (up says n k o)
   unfolding up
   up-more k o = refl
@@ -104,20 +106,23 @@ module _ (says : ℕ → Record) (n : ℕ) where
       pub before : earlier < k
       pub same : up says n earlier o ≡ up says n k o
 
-    -- which is what its test says
+    -- where the test of that holds, it does
     pub met-means : (k : ℕ) → metAt says n o k ≡ true → Met k
     unfolding metAt
     met-means k t =
         let w = any-passes (λ j. eqb (at j) (at k)) k t in
         record { earlier = w .number; before = w .below; same = eqb-true _ _ (w .passes) }
 
+    -- where it does, the test holds
     pub means-met : (k : ℕ) → Met k → metAt says n o k ≡ true
     unfolding metAt
     means-met k w = passes-any (λ j. eqb (at j) (at k)) k (w .earlier) (w .before) (eq-eqb _ _ (w .same))
 
+    -- where the test fails, it does not
     pub unmet-means : (k : ℕ) → metAt says n o k ≡ false → Met k → ⊥
     unmet-means k t w = let z = means-met k w in clash (cc)
 
+    -- and where it does not, the test fails
     pub means-unmet : (k : ℕ) → (Met k → ⊥) → metAt says n o k ≡ false
     means-unmet k f = by-test (metAt says n o k) _ (λ t. absurd (f (met-means k t))) (λ t. t)
 
@@ -126,18 +131,23 @@ module _ (says : ℕ → Record) (n : ℕ) where
     unfolding stopsAt
     stops-as k = stop-test (eqb (at k) root) (metAt says n o k) (isStanding (standOf says n (at k)))
 
+    -- it stops at one met before
     pub met-stops : (k : ℕ) → metAt says n o k ≡ true → stopsAt says n o k ≡ true
     met-stops k t = stops-as k ∙ rw t
 
+    -- it stops where it does not go on
     pub off-stops : (k : ℕ) → goesOn (up says n k o) ≡ false → stopsAt says n o k ≡ true
     off-stops k t = stops-as k ∙ rw t (or-true (metAt says n o k))
 
+    -- it does not stop at a new one where it goes on
     pub on-passes : (k : ℕ) → metAt says n o k ≡ false → goesOn (up says n k o) ≡ true → stopsAt says n o k ≡ false
     on-passes k t u = stops-as k ∙ rw (t, u)
 
+    -- where it does not stop, it comes to a new one
     pub passed-unmet : (k : ℕ) → stopsAt says n o k ≡ false → metAt says n o k ≡ false
     passed-unmet k e = by-test (metAt says n o k) _ (λ t. let z = met-stops k t in clash (cc)) (λ t. t)
 
+    -- and goes on
     pub passed-on : (k : ℕ) → stopsAt says n o k ≡ false → goesOn (up says n k o) ≡ true
     passed-on k e = by-test (goesOn (at k)) _ (λ t. t) (λ t. let z = off-stops k t in clash (cc))
 
@@ -235,16 +245,18 @@ module _ (says : ℕ → Record) (n : ℕ) where
           (λ on. let w = all-met on in (w .0, w .1, w .2, met-stops (w .0) (means-met (w .0) (w .3))))
           first-stop
 
-      -- so that the first step that stops is found, within n steps, and is the only first
+      -- so that the first step that stops is found
       pub stop-first : IsFirst (stopsAt says n o) 1 (stopOf says n o)
       unfolding stopOf
       stop-first = let w = some-stop in first-found (stopsAt says n o) 1 n (w .0) (w .1) (omega (arith, w .2)) (w .3)
 
+      -- within n steps
       pub stop-within : stopOf says n o ≤ n
       stop-within =
           let w = some-stop in
           omega (arith, w .2, first-least (stopsAt says n o) 1 (stopOf says n o) (w .0) stop-first (w .1) (w .3))
 
+      -- and no other is the first
       pub stop-is : (k : ℕ) → IsFirst (stopsAt says n o) 1 k → stopOf says n o ≡ k
       stop-is k w = first-only (stopsAt says n o) 1 (stopOf says n o) k stop-first w
 
