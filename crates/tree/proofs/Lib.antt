@@ -1,1 +1,4 @@
 pub mod Searching
+pub mod Passing
+pub mod Pigeons
+pub mod Ways
