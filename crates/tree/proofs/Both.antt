@@ -20,7 +20,7 @@ use Rattle.tree.proofs.Lists.{keep-in, keep-of, keep-ascends}
 use Rattle.tree.proofs.Paths.{listed-below}
 
 module _ (says : ℕ → Record) (names : ℕ → List ℕ) (n : ℕ) where
-  -- a member of the second list is live, not the root, and not in the first
+  -- a member of the second list is live, not the root, and not in the first list
   pub others-of : (o : ℕ) → In o (others says names n) → In o (liveIds says n) × (o ≡ root → ⊥) × (isIn o (listed says names n) ≡ false)
   unfolding others
   others-of o i =
@@ -33,6 +33,7 @@ module _ (says : ℕ → Record) (names : ℕ → List ℕ) (n : ℕ) where
   unfolding others
   others-in o i r e = keep-in _ o (liveIds says n) i (rw (ne-eqb o root r, e))
 
+  -- a member of the second list is live, and not the root
   pub others-live : (o : ℕ) → In o (others says names n) → In o (liveIds says n) × (o ≡ root → ⊥)
   others-live o i = let r = others-of o i in (r .0, r .1)
 

@@ -22,12 +22,13 @@ Has x (y ∷ ys) = (x ≡ y) ⊎ Has x ys
 -- ---- a list joined of two
 
 module _ {A : Type 0} where
-  -- what is in the first is in both, and so is what is in the second
+  -- what is in the first list is in the joined one
   pub has-left : (x : A) (L M : List A) → Has x L → Has x (L ++ M)
   has-left x [] M i = absurd i
   has-left x (y ∷ L) M (inl e) = inl e
   has-left x (y ∷ L) M (inr i) = inr (has-left x L M i)
 
+  -- so is what is in the second
   pub has-right : (x : A) (L M : List A) → Has x M → Has x (L ++ M)
   has-right x [] M i = i
   has-right x (y ∷ L) M i = inr (has-right x L M i)
@@ -38,7 +39,7 @@ module _ {A : Type 0} where
   has-either x (y ∷ L) M (inl e) = inl (inl e)
   has-either x (y ∷ L) M (inr i) = ⊎-elim (λ k. inl (inr k)) (λ k. inr k) (has-either x L M i)
 
-  -- what is kept of both is what is kept of each
+  -- what is kept of the joined list is what is kept of each
   pub keep-join : (t : A → Bool) (L M : List A) → keep t (L ++ M) ≡ keep t L ++ keep t M
   unfolding keep
   keep-join t [] M = refl
@@ -53,7 +54,7 @@ module _ {A : Type 0} where
       (λ e. by-test (t x) _ (λ f. rw (e, f) (ap (λ (r : List A). x ∷ r) (keep-twice t u L))) (λ f. rw (e, f) (keep-twice t u L)))
       (λ e. rw e (keep-twice t u L))
 
-  -- what each of both gives
+  -- what each of the joined list gives is what each of the first gives, and then of the second
   pub each-join : {B : Type 0} (f : A → List B) (L M : List A) → each f (L ++ M) ≡ each f L ++ each f M
   unfolding each
   each-join f [] M = refl

@@ -1,7 +1,10 @@
 -- The first list has exactly the live objects other than the root whose way up comes to the root over directories that stand, in at most 32 steps.
 -- An entry below a directory is one of its children, or below a child that stands as a directory: so its way up, which passes that child,
 -- is one step longer; and the step at the top can be taken off again. The names of its path are those that its way passes, from the top.
-use Prim.Native.Nat.{ℕ, zero, suc, _≤_, _<_}
+--
+-- No object is there twice. The root does not go on, so a way meets it at one step only, the object's depth; the children of a directory all have one
+-- depth, so that an object's way passes one of them at most, and a child is not below itself.
+use Prim.Native.Nat.{ℕ, zero, suc, _+_, _≤_, _<_, zero-le}
 use mathlib.Core.Bool.{Bool, true, false, not, _&&_}
 use mathlib.Core.List.{List, [], _∷_, _++_, append-assoc, append-nil}
 use mathlib.Core.Logic.{_⊎_, inl, inr, ⊎-elim}
@@ -9,20 +12,21 @@ use mathlib.Core.Option.{Option, none, some}
 use mathlib.Core.Path.{_≡_, refl, sym, ap, _∙_}
 use native.Mathlib.Nat.{le-refl, not-suc-le-zero, eq-or-lt-of-le, le-of-suc-le-suc}
 use native.Mathlib.Omega.{arith}
-use borrow.Author.Tests.{not-true, eqb-true, eqb-false, eq-eqb, ne-eqb}
-use lib.Dec.{eqb}
+use borrow.Author.Tests.{not-true, ltb-true, ltb-false, eqb-true, eqb-false, eq-eqb, ne-eqb}
+use lib.Dec.{eqb, ltb}
+use Rattle.page.specs.Choice.{pick}
 use Rattle.page.specs.declared.record.Record.{Record}
 use Rattle.page.proofs.Layouts.{and-left, and-right}
 use Rattle.page.proofs.Searching.{clash, by-test}
-use Rattle.sort.proofs.Ascending.{In}
+use Rattle.sort.proofs.Ascending.{In, Ascends, ascends-in}
 use Rattle.chunk.specs.Records.{isGone}
 use Rattle.chunk.specs.Live.{liveIds}
-use Rattle.chunk.proofs.Living.{live-in}
+use Rattle.chunk.proofs.Living.{live-in, live-ids-ascend}
 use Rattle.tree.specs.Objects.{missing, root, standBy, given, headOf, parentOf, standOf, isStanding}
-use Rattle.tree.specs.Paths.{Entry, mostDepth, childrenOf, stepTo, entryOf, under, listed}
+use Rattle.tree.specs.Paths.{Entry, each, mostDepth, childrenOf, stepTo, entryOf, under, listed}
 use Rattle.tree.specs.Ways.{up}
 use Rattle.tree.specs.Tree.{isIn}
-use Rattle.tree.proofs.Lists.{Has, keep-in, keep-of, each-in, each-of}
+use Rattle.tree.proofs.Lists.{Has, keep-in, keep-of, keep-ascends, each-in, each-of}
 
 -- ---- an object in a list of entries
 
@@ -71,6 +75,7 @@ module _ (says : ℕ → Record) (n : ℕ) where
   pub goes-on : (x : ℕ) → goesOn x ≡ true → (x ≡ root → ⊥) × (isStanding (standOf says n x) ≡ true)
   goes-on x t = (eqb-false x root (not-true _ (and-left (not (eqb x root)) _ t)), and-right (not (eqb x root)) _ t)
 
+  -- and what is so goes on
   pub on-goes : (x : ℕ) → (x ≡ root → ⊥) → isStanding (standOf says n x) ≡ true → goesOn x ≡ true
   on-goes x d t = rw (ne-eqb x root d, t)
 
@@ -93,6 +98,7 @@ module _ (says : ℕ → Record) (names : ℕ → List ℕ) (n : ℕ) where
       let a = not (eqb c root) in
       (r .0, eqb-false c root (not-true _ (and-left a _ (r .1))), eqb-true _ _ (and-right a _ (r .1)))
 
+  -- and whatever is so is a child
   pub child-in : (d c : ℕ) → In c (liveIds says n) → (c ≡ root → ⊥) → parentOf says n c ≡ d → In c (childrenOf says names n d)
   unfolding childrenOf
   child-in d c i r p = keep-in _ c (liveIds says n) i (rw (ne-eqb c root r) (eq-eqb _ _ p))
@@ -101,8 +107,8 @@ module _ (says : ℕ → Record) (names : ℕ → List ℕ) (n : ℕ) where
   abbrev pub entryAt : (path : List ℕ) (object : ℕ) → Entry
   entryAt path o = record { object = o; path = path ++ stepTo says names n o }
 
-  -- the entries of a child are its own, and those below it if it stands as a directory
   module _ (below : (path : List ℕ) (object : ℕ) → List Entry) (path : List ℕ) (c : ℕ) (e : Entry) where
+    -- the entries of a child are its own, and those below it if it stands as a directory
     entry-of :
         Has e (entryOf says names n below path c) →
         (e ≡ entryAt path c) ⊎ ((isStanding (standOf says n c) ≡ true) × Has e (below (path ++ stepTo says names n c) c))
@@ -110,10 +116,12 @@ module _ (says : ℕ → Record) (names : ℕ → List ℕ) (n : ℕ) where
     entry-of (inl q) = inl q
     entry-of (inr h) = by-test (isStanding (standOf says n c)) _ (λ t. inr (t, rw t at h)) (λ t. absurd (rw t at h))
 
+    -- those below a child that stands as a directory are among them
     entry-in : isStanding (standOf says n c) ≡ true → Has e (below (path ++ stepTo says names n c) c) → Has e (entryOf says names n below path c)
     unfolding entryOf
     entry-in t h = inr (rw t h)
 
+  -- and so is its own
   entry-own : (below : (path : List ℕ) (object : ℕ) → List Entry) (path : List ℕ) (c : ℕ) → Has (entryAt path c) (entryOf says names n below path c)
   unfolding entryOf
   entry-own below path c = inl refl
@@ -194,6 +202,7 @@ module _ (says : ℕ → Record) (names : ℕ → List ℕ) (n : ℕ) where
   unfolding under
   under-of k path d e h = each-of _ e (childrenOf says names n d) h
 
+  -- and whatever is an entry of a child is one of the directory
   under-child :
       (k : ℕ) (path : List ℕ) (d c : ℕ) (e : Entry) → In c (childrenOf says names n d) →
       Has e (entryOf says names n (under says names n k) path c) → Has e (under says names n (suc k) path d)
@@ -247,11 +256,217 @@ module _ (says : ℕ → Record) (names : ℕ → List ℕ) (n : ℕ) where
           let w = below-has k path d o j (b .live) (b .not-root) f a (λ i p q. g i p (omega arith)) in
           has-in o (w .0) (under says names n k path d) (w .1) (w .2)
 
-  -- so the first list has exactly the objects that are at most 32 steps below the root
+  -- what is in the first list is at most 32 steps below the root
   pub listed-below : (o : ℕ) → isIn o (listed says names n) ≡ true → Below says n mostDepth root o
   unfolding listed
   listed-below o i = in-under mostDepth [] root o i
 
+  -- and what is so is in the first list
   pub below-listed : (o : ℕ) → Below says n mostDepth root o → isIn o (listed says names n) ≡ true
   unfolding listed
   below-listed o b = under-in mostDepth [] root o b
+
+-- ---- how often an object is in the first list
+
+-- how often an object is in a list of entries
+unfoldable pub timesListed : (object : ℕ) (entries : List Entry) → ℕ
+timesListed o [] = 0
+timesListed o (e ∷ rest) = let more = timesListed o rest in pick (eqb (e .object) o) (suc more) more
+
+module _ (o : ℕ) where
+  -- in a list joined of two as often as in both
+  times-join : (L M : List Entry) → timesListed o (L ++ M) ≡ timesListed o L + timesListed o M
+  unfolding timesListed
+  times-join [] M = omega arith
+  times-join (e ∷ L) M =
+      by-test (eqb (e .object) o) _ (λ t. rw (t, times-join L M) (omega arith)) (λ t. rw (t, times-join L M) (omega arith))
+
+  -- not once where it is not in the list
+  times-none : (L : List Entry) → isIn o L ≡ false → timesListed o L ≡ 0
+  unfolding timesListed isIn
+  times-none [] e = refl
+  times-none (x ∷ L) e =
+      by-test (eqb (x .object) o) _ (λ t. let z : true ≡ false = rw t at e in clash (cc)) (λ t. rw t (times-none L (rw t at e)))
+
+  module _ (f : ℕ → List Entry) where
+    -- not once in what each of a list gives, where none gives it
+    each-none : (L : List ℕ) → ((c : ℕ) → In c L → isIn o (f c) ≡ false) → timesListed o (each f L) ≡ 0
+    unfolding each timesListed
+    each-none [] h = refl
+    each-none (x ∷ L) h =
+        let a = times-none (f x) (h x (inl refl)) in
+        let b = each-none L (λ c i. h c (inr i)) in
+        rw (times-join (f x) (each f L)) (omega arith)
+
+    -- at most once, where no more than one of them gives it, and each at most once
+    each-once :
+        (b : ℕ) (L : List ℕ) → Ascends b L → ((c : ℕ) → In c L → timesListed o (f c) ≤ 1) →
+        ((c d : ℕ) → In c L → In d L → isIn o (f c) ≡ true → isIn o (f d) ≡ true → c ≡ d) → timesListed o (each f L) ≤ 1
+    unfolding each timesListed
+    each-once b [] a one same = zero-le
+    each-once b (x ∷ L) a one same =
+        rw (times-join (f x) (each f L))
+        (by-test (isIn o (f x)) _
+        (λ t.
+        let first = one x (inl refl) in
+        let rest =
+        each-none L
+        (λ c i.
+        by-test (isIn o (f c)) _
+        (λ u. let q = same c x (inr i) (inl refl) u t in absurd (omega (arith, ascends-in (suc x) c L (a .1) i)))
+        (λ u. u)) in
+        omega arith)
+        (λ t.
+        let first = times-none (f x) t in
+        let rest = each-once (suc x) L (a .1) (λ c i. one c (inr i)) (λ c d i k. same c d (inr i) (inr k)) in
+        omega arith))
+
+module _ (says : ℕ → Record) (n : ℕ) where
+  -- the way up from object o is at the root after m steps, and goes on at each step before
+  record Depth (m o : ℕ) : Type 0 where
+    at-root : up says n m o ≡ root
+    before : (i : ℕ) → 1 ≤ i → i < m → goesOn says n (up says n i o) ≡ true
+
+  -- c is reached from object o, by steps to objects that go on; none where they are the same
+  record Climbs (c o : ℕ) : Type 0 where
+    steps : ℕ
+    arrives : up says n steps o ≡ c
+    on : (i : ℕ) → 1 ≤ i → i ≤ steps → goesOn says n (up says n i o) ≡ true
+
+  -- the root does not go on, so that it is not met again at a later step
+  root-later : (m k o : ℕ) → 1 ≤ m → m < k → Depth m o → Depth k o → ⊥
+  root-later m k o s l a b =
+      let z : false ≡ true = rw (a .at-root) at (b .before m s l) in clash (cc)
+
+  -- an object has one depth
+  depth-one : (m k o : ℕ) → Depth (suc m) o → Depth (suc k) o → m ≡ k
+  depth-one m k o a b =
+      by-test (ltb m k) _
+      (λ t. absurd (root-later (suc m) (suc k) o (omega arith) (omega (arith, ltb-true m k t)) a b))
+      (λ t.
+      by-test (ltb k m) _
+      (λ u. absurd (root-later (suc k) (suc m) o (omega arith) (omega (arith, ltb-true k m u)) b a))
+      (λ u. omega (arith, ltb-false m k t, ltb-false k m u)))
+
+  -- a child of the root is one step below it
+  root-child : (c : ℕ) → parentOf says n c ≡ root → Depth 1 c
+  unfolding up
+  root-child c p = record { at-root = p; before = λ i s l. absurd (omega arith) }
+
+  -- a child of an object that goes on is one step deeper than that
+  depth-child : (m c : ℕ) → Depth m (parentOf says n c) → goesOn says n (parentOf says n c) ≡ true → Depth (suc m) c
+  unfolding up
+  depth-child m c a g =
+      record {
+        at-root = sym (up-first says n m c) ∙ a .at-root;
+        before = λ i s l. go i s l;
+      }
+    where
+      go : (i : ℕ) → 1 ≤ i → i < suc m → goesOn says n (up says n i c) ≡ true
+      go zero s l = absurd (not-suc-le-zero s)
+      go (suc zero) s l = g
+      go (suc (suc i)) s l = rw (← up-first says n (suc i) c) (a .before (suc i) (omega arith) (le-of-suc-le-suc l))
+
+  -- an object is so many steps deeper than one above it, where its way goes on up to that
+  depth-climbs :
+      (j m o : ℕ) → Depth m (up says n j o) → ((i : ℕ) → 1 ≤ i → i ≤ j → goesOn says n (up says n i o) ≡ true) → Depth (j + m) o
+  unfolding up
+  depth-climbs zero m o a g = let e : 0 + m ≡ m = omega arith in rw e a
+  depth-climbs (suc j) m o a g =
+      let e : suc j + m ≡ j + suc m = omega arith in
+      rw e
+      (depth-climbs j (suc m) o (depth-child m (up says n j o) a (g (suc j) (omega arith) (le-refl _))) (λ i s l. g i s (omega arith)))
+
+  -- what is below an object that goes on climbs to it
+  below-climbs : (k c o : ℕ) → Below says n k c o → goesOn says n c ≡ true → Climbs c o
+  below-climbs k c o b g =
+      record {
+        steps = b .steps;
+        arrives = b .arrives;
+        on = λ i s l.
+            ⊎-elim (λ (q : i ≡ b .steps). rw (q, b .arrives) g) (λ (q : i < b .steps). b .between i s q) (eq-or-lt-of-le l);
+      }
+
+  -- an object is as much deeper than one that it climbs to as it takes steps
+  climbs-depth : (m c o : ℕ) → Depth (suc m) c → (w : Climbs c o) → Depth (suc (w .steps + m)) o
+  climbs-depth m c o a w =
+      let e : suc (w .steps + m) ≡ w .steps + suc m = omega arith in
+      rw e (depth-climbs (w .steps) (suc m) o (rw (w .arrives) a) (w .on))
+
+  -- of two objects of the same depth an object climbs to one only
+  climbs-one : (m c d o : ℕ) → Depth (suc m) c → Depth (suc m) d → Climbs c o → Climbs d o → c ≡ d
+  climbs-one m c d o a b v w =
+      let e = depth-one (v .steps + m) (w .steps + m) o (climbs-depth m c o a v) (climbs-depth m d o b w) in
+      let f : v .steps ≡ w .steps = omega arith in
+      sym (v .arrives) ∙ ap (λ (j : ℕ). up says n j o) f ∙ w .arrives
+
+  -- and one of some depth is not below itself
+  not-below-itself : (m k c : ℕ) → Depth (suc m) c → goesOn says n c ≡ true → Below says n k c c → ⊥
+  unfolding below-climbs
+  not-below-itself m k c a g b =
+      let s : 1 ≤ b .steps = b .some-step in
+      let e : m ≡ b .steps + m = depth-one m (b .steps + m) c a (climbs-depth m c c a (below-climbs k c c b g)) in
+      omega arith
+
+module _ (says : ℕ → Record) (names : ℕ → List ℕ) (n : ℕ) where
+  -- an object in the entries of a child climbs to it
+  entry-climbs :
+      (k : ℕ) (path : List ℕ) (c o : ℕ) → (c ≡ root → ⊥) → isIn o (entryOf says names n (under says names n k) path c) ≡ true → Climbs says n c o
+  unfolding up
+  entry-climbs k path c o r i =
+      let w = in-has o _ i in
+      ⊎-elim
+      (λ (q : w .0 ≡ entryAt says names n path c).
+      record { steps = 0; arrives = sym (w .2) ∙ ap (λ (e : Entry). e .object) q; on = λ j s l. absurd (omega arith) })
+      (λ (v : (isStanding (standOf says n c) ≡ true) × Has (w .0) (under says names n k (path ++ stepTo says names n c) c)).
+      below-climbs says n k c o
+      (in-under says names n k (path ++ stepTo says names n c) c o (has-in o (w .0) _ (v .1) (w .2)))
+      (on-goes says n c r (v .0)))
+      (entry-of says names n (under says names n k) path c (w .0) (w .1))
+
+  -- an object is at most once in the entries of a child, if it is so in those below it
+  entry-once :
+      (m k : ℕ) (path : List ℕ) (c o : ℕ) → (c ≡ root → ⊥) → Depth says n (suc m) c →
+      (goesOn says n c ≡ true → timesListed o (under says names n k (path ++ stepTo says names n c) c) ≤ 1) →
+      timesListed o (entryOf says names n (under says names n k) path c) ≤ 1
+  unfolding entryOf timesListed
+  entry-once m k path c o r a once =
+      let here = path ++ stepTo says names n c in
+      by-test (isStanding (standOf says n c)) _
+      (λ t.
+      let g = on-goes says n c r t in
+      rw t
+      (by-test (eqb c o) _
+      (λ u.
+      let none : isIn o (under says names n k here c) ≡ false =
+      by-test (isIn o (under says names n k here c)) _
+      (λ v. absurd (not-below-itself says n m k c a g (rw (← eqb-true c o u) at (in-under says names n k here c o v))))
+      (λ v. v) in
+      rw (u, times-none o (under says names n k here c) none) (le-refl 1))
+      (λ u. rw u (once g))))
+      (λ t. rw t (by-test (eqb c o) _ (λ u. rw u (le-refl 1)) (λ u. rw u zero-le)))
+
+  -- an object is at most once in the entries of a directory whose children have one depth
+  under-once :
+      (k : ℕ) (path : List ℕ) (d m o : ℕ) → ((c : ℕ) → parentOf says n c ≡ d → Depth says n (suc m) c) →
+      timesListed o (under says names n k path d) ≤ 1
+  unfolding under childrenOf timesListed
+  under-once zero path d m o deep = zero-le
+  under-once (suc k) path d m o deep =
+      each-once o (entryOf says names n (under says names n k) path) 0 (childrenOf says names n d)
+      (keep-ascends _ 0 (liveIds says n) (live-ids-ascend says n))
+      (λ c i.
+      let r = child-of says names n d c i in
+      entry-once m k path c o (r .1) (deep c (r .2))
+      (λ g.
+      under-once k (path ++ stepTo says names n c) c (suc m) o
+      (λ x p. depth-child says n (suc m) x (rw p (deep c (r .2))) (rw p g))))
+      (λ c x i h t u.
+      let r = child-of says names n d c i in
+      let s = child-of says names n d x h in
+      climbs-one says n m c x o (deep c (r .2)) (deep x (s .2)) (entry-climbs k path c o (r .1) t) (entry-climbs k path x o (s .1) u))
+
+  -- no object is twice in the first list
+  pub listed-once : (o : ℕ) → timesListed o (listed says names n) ≤ 1
+  unfolding listed
+  listed-once o = under-once mostDepth [] root 0 o (root-child says n)
