@@ -4,3 +4,4 @@ pub mod Ways
 pub mod Tree
 pub mod Rows
 pub mod Search
+pub mod Heads
