@@ -6,3 +6,4 @@ pub mod Lists
 pub mod Paths
 pub mod Both
 pub mod Keeping
+pub mod NewestHeads
