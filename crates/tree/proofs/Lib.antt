@@ -7,3 +7,4 @@ pub mod Paths
 pub mod Both
 pub mod Keeping
 pub mod NewestHeads
+pub mod Entries
