@@ -5,3 +5,5 @@ pub mod Ways
 pub mod Lists
 pub mod Paths
 pub mod Both
+pub mod Times
+pub mod Fitting
