@@ -1,5 +1,5 @@
--- The rows of a tree are no more than a dump's headers. Both lists together have each live object other than the root exactly once, so that they are as
--- long as the list of those; a live object has a live page, and that is a header. The rows go by the same recursion as the entries, and are as many.
+-- The rows of a tree are no more than a dump's headers. Both lists together have each live object other than the root exactly once, so that they are
+-- as long as the list of those; a live object has a live page, which is a header. The rows go by the same recursion as the entries: they are as many.
 use Prim.Native.Nat.{ℕ, zero, suc, _+_, _≤_, zero-le}
 use mathlib.Core.Bool.{Bool, true, false, not}
 use mathlib.Core.List.{List, [], _∷_, _++_, map}
