@@ -7,3 +7,4 @@ pub mod Paths
 pub mod Both
 pub mod Times
 pub mod Fitting
+pub mod Example
