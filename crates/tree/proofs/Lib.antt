@@ -8,3 +8,4 @@ pub mod Both
 pub mod Times
 pub mod Fitting
 pub mod Example
+pub mod Shelf
