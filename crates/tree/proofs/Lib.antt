@@ -5,6 +5,10 @@ pub mod Ways
 pub mod Lists
 pub mod Paths
 pub mod Both
+pub mod Times
+pub mod Fitting
 pub mod Keeping
 pub mod NewestHeads
 pub mod Entries
+pub mod Shelf
+pub mod Example
