@@ -1,4 +1,5 @@
 pub mod Searching
+pub mod Places
 pub mod Passing
 pub mod Pigeons
 pub mod Ways
@@ -12,3 +13,5 @@ pub mod NewestHeads
 pub mod Entries
 pub mod Shelf
 pub mod Example
+pub mod Segments
+pub mod Listing

@@ -1,6 +1,7 @@
 // The tree of a dump's live objects as the operator saw it: paths from the root, and why an object has none.
 mod children;
 mod heads;
+mod list;
 pub mod reason;
 pub mod row;
 pub mod search;
