@@ -12,3 +12,4 @@ pub mod NewestHeads
 pub mod Entries
 pub mod Shelf
 pub mod Example
+pub mod Texting

@@ -4,3 +4,4 @@ mod heads;
 pub mod reason;
 pub mod row;
 pub mod search;
+pub mod texts;
