@@ -13,3 +13,5 @@ pub mod Entries
 pub mod Shelf
 pub mod Example
 pub mod Texting
+pub mod Positions
+pub mod RowsText

@@ -48,8 +48,9 @@ pub +put-path-spec : {M : Type 1} → statement M
     let t = c .before .before .before .before in
     let k = t .before in
     let r = k .before in
-    let a = r .before .before .before .before .before .args in
-    rw (path-first (a .g) (a .dump .now) (a .rows .now) (a .steps) (a .i) (r .before .if1 .left) (r .row-at .ensures) (k .key-of .ensures) (t .if2 .taken))
+    let z = r .before in
+    let a = z .before .before .before .before .args in
+    rw (path-first (a .g) (a .dump .now) (a .rows .now) (a .steps) (a .i) (z .if1 .left) (r .row-at .ensures) (k .key-of .ensures) (t .if2 .taken))
     (c .before .before .put-step .ensures))
     (search needs)
     (search needs)
@@ -62,6 +63,7 @@ pub +put-path-spec : {M : Type 1} → statement M
     let t = d .before .before in
     let k = t .before in
     let r = k .before in
-    let a = r .before .before .before .before .before .args in
-    rw (path-next (a .g) (a .dump .now) (a .rows .now) (a .steps) (a .i) (r .before .if1 .left) (r .row-at .ensures) (k .key-of .ensures) (t .if2 .left))
+    let z = r .before in
+    let a = z .before .before .before .before .args in
+    rw (path-next (a .g) (a .dump .now) (a .rows .now) (a .steps) (a .i) (z .if1 .left) (r .row-at .ensures) (k .key-of .ensures) (t .if2 .left))
     (also (d .put-path .ensures) (c .before .before .put-step2 .ensures)))

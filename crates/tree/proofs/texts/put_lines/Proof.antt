@@ -21,7 +21,9 @@ loop-holds : tie.Need-loop-holds Inv-loop μ-loop
 loop-holds c = (search needs, rw lines-none (nothing _ _ (omega arith) (omega arith)))
 
 loop-again : tie.Need-loop-again Inv-loop μ-loop
-loop-again c = (search needs, rw lines-more (also (c .before .before .before .before .before .loop .inv .1) (c .before .before .put-row-lines .ensures)))
+loop-again c =
+    let q = c .before .before .before .before .before .loop in
+    (search needs, rw lines-more (also (q .inv .1) (c .before .before .put-row-lines .ensures)))
 
 same-length : tie.Need-same-length Inv-loop μ-loop
 same-length c = kept (c .before .loop .inv .1)

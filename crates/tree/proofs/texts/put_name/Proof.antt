@@ -13,7 +13,8 @@ returns : tie.Need-returns
 returns c =
     let n = c .before .before .before .before .before in
     let a = n .before .before .before .before .args in
-    rw (name-put (a .g) (a .dump .now) (a .p .0) (n .before .header-text .ensures) (n .name-length .ensures .0)) at (c .before .before .put-text .ensures)
+    let e = name-put (a .g) (a .dump .now) (a .p .0) (n .before .header-text .ensures) (n .name-length .ensures .0) in
+    rw e at (c .before .before .put-text .ensures)
 
 pub put-name-spec : {M : Type 1} → statement M
 put-name-spec = tie.close (tie.spec (search needs) (search needs) slice-aggregate-put-text (search needs) (search needs) returns)
