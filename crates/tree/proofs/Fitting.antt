@@ -153,7 +153,7 @@ module _ (says : ℕ → Record) (names : ℕ → List ℕ) (n : ℕ) where
   -- ---- their rows
 
   -- an object has as many rows as entries, if what is below it has
-  row-length :
+  pub row-length :
       (rowsBelow : (key object at : ℕ) → List ℕ) (below : (path : List ℕ) (object : ℕ) → List Entry) →
       ((key d at : ℕ) (path : List ℕ) → length (rowsBelow key d at) ≡ length (below path d)) → (key : ℕ) (path : List ℕ) (at o : ℕ) →
       length (rowsAt says names n rowsBelow key at o) ≡ length (entryOf says names n below path o)

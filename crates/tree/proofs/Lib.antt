@@ -11,7 +11,10 @@ pub mod Fitting
 pub mod Keeping
 pub mod NewestHeads
 pub mod Entries
-pub mod Shelf
-pub mod Example
 pub mod Segments
 pub mod Listing
+pub mod Texting
+pub mod Positions
+pub mod RowsText
+pub mod Shelf
+pub mod Example

@@ -6,3 +6,4 @@ pub mod Rows
 pub mod Search
 pub mod Heads
 pub mod Children
+pub mod Texts

@@ -5,3 +5,4 @@ mod list;
 pub mod reason;
 pub mod row;
 pub mod search;
+pub mod texts;
