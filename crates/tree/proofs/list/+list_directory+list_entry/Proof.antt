@@ -99,12 +99,12 @@ pub +list-directory+list-entry-spec : {M : Type 1} → statement M
     row-segment says (textAt Name (a .g) (a .dump .now)) (a .pages) (omega (arith, s .fits)) (a .heads .now) (s .pre .1 .0) (a .children .now) (a .directory)
     (f .first-from .result) (c .first-from2 .result) (f .before .pack .result) (c .before .pack2 .result) (s .pre .1 .1) (f .before .pack .ensures) (c .before .pack2 .ensures)
     (f .first-from .ensures) (c .first-from2 .ensures) in
-    (omega arith, g .order, g, done-none _ _ _ _ _ _ _ _ _ (omega (arith, s .good .1 .1 .1 .1 .1 .1 .1 .1 .1 .0)) (omega (arith, s .fits))))
+    (omega arith, g .order, g, done-none _ _ _ _ _ (a .directory) (f .first-from .result) _ _ (omega (arith, s .good .1 .1 .1 .1 .1 .1 .1 .1 .1 .0)) (omega (arith, s .fits))))
     (search needs)
     (λ c κs.
     let s = c .before .before .before .before .before .before .before .before .before .before .before .before in
     let q = c .before .before .loop in
-    (omega arith, s .pre .1 .0, s .pre .1 .1, omega (arith, c .before .loop-test .taken, q .inv .2 .inside)))
+    (omega arith, (s .pre .1 .0, (s .pre .1 .1, omega (arith, c .before .loop-test .taken, q .inv .2 .inside)))))
     (search needs)
     (search needs)
     (λ c.
@@ -177,7 +177,7 @@ pub +list-directory+list-entry-spec : {M : Type 1} → statement M
     (sym stands ∙ not-true (k .is-standing .result) (c .if1 .taken)) (p .put-row .ensures))
     (search needs)
     (search needs)
-    (λ c κs. let s = c .before .before .before .before .before .before .before .before .before .before .before .before .before .before .before .before .before .before .before in (omega arith, s .pre .1 .0, s .pre .1 .1 .0))
+    (λ c κs. let s = c .before .before .before .before .before .before .before .before .before .before .before .before .before .before .before .before .before .before .before in (omega arith, (s .pre .1 .0, s .pre .1 .1 .0)))
     (search needs)
     (λ c.
     let k = c .before .before .before .before .before .before .before in
