@@ -5,3 +5,4 @@ pub mod Ways
 pub mod Lists
 pub mod Paths
 pub mod Both
+pub mod Climbing

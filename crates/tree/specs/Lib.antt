@@ -5,3 +5,4 @@ pub mod Tree
 pub mod Rows
 pub mod Search
 pub mod Heads
+pub mod Climbs

@@ -1,0 +1,97 @@
+// Where the ways up of all objects lead, found for all at once: each round doubles the steps that the words know of.
+ghost use Prim.Native.Nat.{_≤_};
+ghost use mathlib.Core.Path.{_≡_};
+ghost use lib.ListN.{length};
+ghost use Rattle.page.specs.Records.{recordAt};
+ghost use Rattle.chunk.specs.Takes.{seenBy};
+ghost use Rattle.tree.specs.Climbs.{kindBy, codePlaces, IsCode, FirstWays};
+ghost use Rattle.tree.specs.Objects.{parentIn, standBy};
+ghost use Rattle.tree.specs.Search.{Sorted};
+use crate::search::Found;
+use crate::search::find;
+use chunk::record::gone_under;
+use chunk::takes::Takes;
+use chunk::takes::seen_at;
+use page::geometry::Geometry;
+use page::number::PageNumber;
+use page::record::Record;
+use sort::rows::key_of;
+use sort::rows::pack;
+use sort::rows::value_of;
+
+// The root of the tree.
+const ROOT: u32 = 1;
+// The type of a directory.
+const DIRECTORY: u32 = 3;
+// The kinds of objects in codes.
+const GOES_ON: u32 = 0;
+
+const DELETED: u32 = 1;
+
+const NON_DIRECTORY: u32 = 2;
+// The codes of the root, and of an object that has no header.
+const TO_ROOT: u32 = 3;
+
+const TO_NONE: u32 = 7;
+
+// The kind of an object whose newest header this is.
+fn kind_of(r: Record) -> u32
+    ensures { λ k. ⌜ k ≡ kindBy (standBy r) ⌝ }
+{
+    let Record::Header(h) = r else {
+        return NON_DIRECTORY;
+    };
+    if gone_under(h.parent) {
+        return DELETED;
+    }
+    if h.page_type == DIRECTORY {
+        return GOES_ON;
+    }
+    NON_DIRECTORY
+}
+
+// The code of an object.
+fn code_of(dump: &[u8], g: Geometry, t: Takes, heads: &[u64], o: u32) -> u32
+    requires { ⌜ Sorted (now heads) ⌝ }
+    requires { ⌜ length (now heads) ≤ codePlaces ⌝ }
+    ensures { λ r. ⌜ IsCode (seenBy t (recordAt g (now (dump .entry)))) (now (heads .entry)) o r ⌝ }
+{
+    if o == ROOT {
+        return TO_ROOT;
+    }
+    match find(heads, o) {
+        Found::Nowhere => TO_NONE,
+        Found::At(i) => {
+            let page = PageNumber(value_of(heads[i]));
+            (i as u32) * 4 + kind_of(seen_at(dump, g, t, page))
+        }
+    }
+}
+
+// The parent that a header names; 0, which no object has, for another page.
+fn parent_in(r: Record) -> u32
+    ensures { λ p. ⌜ p ≡ parentIn r ⌝ }
+{
+    match r {
+        Record::Other => 0,
+        Record::Header(h) => h.parent.0,
+        Record::Data(_) => 0,
+    }
+}
+
+// Makes the words of all rows: each has gone the step to its object's parent.
+fn fill_ways(dump: &[u8], g: Geometry, t: Takes, heads: &[u64], ways: &mut [u64])
+    requires { ⌜ Sorted (now heads) ⌝ }
+    requires { ⌜ length (now heads) ≤ codePlaces ⌝ }
+    requires { ⌜ length (now ways) ≡ length (now heads) ⌝ }
+    ensures { λ _. ⌜ FirstWays (seenBy t (recordAt g (now (dump .entry)))) (now (heads .entry)) (now (ways .exit)) ⌝ }
+{
+    let mut i: usize = 0;
+    while i < heads.len() {
+        let page = PageNumber(value_of(heads[i]));
+        let parent = parent_in(seen_at(dump, g, t, page));
+        let code = code_of(dump, g, t, heads, parent);
+        ways[i] = pack(code, code);
+        i += 1;
+    }
+}
