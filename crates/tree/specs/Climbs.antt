@@ -1,6 +1,6 @@
 -- Where the ways up of all objects lead, as a word for each row of heads: the code of the object's parent as its key, and as its value the code of
 -- where its way has come to so far.
-use Prim.Native.Nat.{ℕ, _/_, _%_, _≤_, _<_}
+use Prim.Native.Nat.{ℕ, _+_, _*_, _/_, _%_, _≤_, _<_}
 use mathlib.Core.Bool.{Bool, true, false, not, _&&_}
 use mathlib.Core.List.{List}
 use mathlib.Core.Path.{_≡_}
@@ -94,5 +94,14 @@ pub record SomeWays (words : List ℕ) : Type 0 where
   pub says : ℕ → Record
   pub pages : ℕ
   pub heads : List ℕ
-  pub bound : (row : ℕ) → ℕ
-  pub ways : Ways says pages heads bound words
+  pub bound : ℕ
+  pub ways : Ways says pages heads (λ i. bound) words
+
+-- words in place of which others have gone more steps, whatever rows they are of
+abbrev pub Raised : (from to : ℕ) (before after : List ℕ) → Type 0
+Raised b c before after =
+    (says : ℕ → Record) (n : ℕ) (heads : List ℕ) → Ways says n heads (λ i. b) before → Ways says n heads (λ i. c) after
+
+-- so many and again as many, and the one between
+abbrev pub Doubled : (before after : List ℕ) → Type 0
+Doubled before after = (b : ℕ) → Raised b (b * 2 + 1) before after

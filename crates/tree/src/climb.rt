@@ -4,7 +4,8 @@ ghost use mathlib.Core.Path.{_≡_};
 ghost use lib.ListN.{length};
 ghost use Rattle.page.specs.Records.{recordAt};
 ghost use Rattle.chunk.specs.Takes.{seenBy};
-ghost use Rattle.tree.specs.Climbs.{kindBy, codePlaces, IsCode, FirstWays};
+ghost use Rattle.tree.specs.Climbs.{kindBy, codePlaces, IsCode, FirstWays, SomeWays, Raised, Doubled, Ways};
+ghost use Rattle.tree.specs.Heads.{Heads};
 ghost use Rattle.tree.specs.Objects.{parentIn, standBy};
 ghost use Rattle.tree.specs.Search.{Sorted};
 use crate::search::Found;
@@ -94,4 +95,53 @@ fn fill_ways(dump: &[u8], g: Geometry, t: Takes, heads: &[u64], ways: &mut [u64]
         ways[i] = pack(code, code);
         i += 1;
     }
+}
+
+// A pass over the words: each whose way goes on takes over where the word that it has come to has come to.
+fn double(ways: &mut [u64])
+    requires { ⌜ SomeWays (now ways) ⌝ }
+    ensures { λ _. ⌜ Doubled (now (ways .entry)) (now (ways .exit)) ⌝ }
+{
+    let mut i: usize = 0;
+    while i < ways.len() {
+        let word = ways[i];
+        let at = i;
+        i += 1;
+        let jump = value_of(word);
+        if jump % 4 != GOES_ON {
+            continue;
+        }
+        let next = value_of(ways[(jump / 4) as usize]);
+        ways[at] = pack(key_of(word), next);
+    }
+}
+
+// Lets the words go up until each has ended, or has gone as many steps as there are pages.
+fn climb(ways: &mut [u64], pages: u32)
+    requires { ⌜ SomeWays (now ways) ⌝ }
+    ensures { λ _. ⌜ Raised 0 pages (now (ways .entry)) (now (ways .exit)) ⌝ }
+{
+    let mut steps: u64 = 0;
+    while steps < pages as u64 {
+        double(ways);
+        steps = steps * 2 + 1;
+    }
+}
+
+// Makes the words of all rows, each of which has ended or has gone as many steps as there are pages.
+pub(crate) fn find_ways(
+    dump: &[u8],
+    g: Geometry,
+    t: Takes,
+    pages: u32,
+    heads: &[u64],
+    ways: &mut [u64],
+)
+    requires { ⌜ Heads (seenBy t (recordAt g (now dump))) pages (now heads) ⌝ }
+    requires { ⌜ length (now heads) ≤ codePlaces ⌝ }
+    requires { ⌜ length (now ways) ≡ length (now heads) ⌝ }
+    ensures { λ _. ⌜ Ways (seenBy t (recordAt g (now (dump .entry)))) pages (now (heads .entry)) (λ _. pages) (now (ways .exit)) ⌝ }
+{
+    fill_ways(dump, g, t, heads, ways);
+    climb(ways, pages);
 }
