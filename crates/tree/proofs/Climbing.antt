@@ -134,7 +134,7 @@ module _ (says : ℕ → Record) (n : ℕ) (heads : List ℕ) where
   stand-none x e = rw e
 
   -- one with a header stands by it
-  stand-head : (x p : ℕ) → headOf says n x ≡ some p → standOf says n x ≡ standBy (says p)
+  pub stand-head : (x p : ℕ) → headOf says n x ≡ some p → standOf says n x ≡ standBy (says p)
   unfolding standOf
   stand-head x p e = rw e
 
@@ -188,6 +188,10 @@ module _ (says : ℕ → Record) (n : ℕ) (heads : List ℕ) where
   up-one : (o : ℕ) → up says n 1 o ≡ parentOf says n o
   up-one o = up-more says n 0 o ∙ ap (parentOf says n) (up-none says n o)
 
+  -- a way that has gone a step has come to the parent
+  pub first-walked : (o code : ℕ) → Leads says n heads (parentOf says n o) code → Walked says n heads o 1 code
+  first-walked o code w = record { step = le-refl 1; leads = rw (up-one o) w; on = λ j b c. absurd (omega arith) }
+
   -- the word of an object whose way has gone a step
   first-word : (o code : ℕ) → Leads says n heads (parentOf says n o) code → code < wordValues → Word says n heads 0 o (packed code code)
   first-word o code w h =
@@ -195,12 +199,7 @@ module _ (says : ℕ → Record) (n : ℕ) (heads : List ℕ) where
       let v : valueOf (packed code code) ≡ code = packed-value code code h in
       record {
         parent = rw k w;
-        jump =
-            record {
-              steps = 1;
-              walked = record { step = le-refl 1; leads = rw (v, up-one o) w; on = λ j b c. absurd (omega arith) };
-              far = λ t. le-refl 1;
-            };
+        jump = record { steps = 1; walked = rw v (first-walked o code w); far = λ t. le-refl 1 };
       }
 
   -- ---- steps

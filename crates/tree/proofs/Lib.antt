@@ -6,3 +6,4 @@ pub mod Lists
 pub mod Paths
 pub mod Both
 pub mod Climbing
+pub mod Settled

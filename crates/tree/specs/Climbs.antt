@@ -6,11 +6,18 @@ use mathlib.Core.List.{List}
 use mathlib.Core.Path.{_≡_}
 use lib.Dec.{eqb}
 use lib.ListN.{length, getD}
+use Rattle.page.specs.Choice.{pick}
 use Rattle.page.specs.declared.record.Record.{Record}
 use Rattle.sort.specs.Packed.{wordValues, keyOf, valueOf}
+use Rattle.sort.proofs.Ascending.{In}
+use Rattle.chunk.specs.Live.{liveIds}
 use Rattle.tree.specs.Heads.{Heads}
 use Rattle.tree.specs.Objects.{Stand, missing, deleted, nonDirectory, directory, root, parentOf, standOf, isStanding}
+use Rattle.tree.specs.Paths.{listed}
+use Rattle.tree.specs.Tree.{isIn}
 use Rattle.tree.specs.Ways.{up}
+use Rattle.tree.specs.declared.reason.Reason.{Reason}
+use Rattle.tree.specs.declared.reason.Reason.the-variants as reason
 
 -- the kind of an object: how it stands as a parent
 abbrev pub kindBy : Stand → ℕ
@@ -105,3 +112,19 @@ Raised b c before after =
 -- so many and again as many, and the one between
 abbrev pub Doubled : (before after : List ℕ) → Type 0
 Doubled before after = (b : ℕ) → Raised b (b * 2 + 1) before after
+
+-- whether the object of row i is in the first list, if it is live and not the root, whatever rows the words are of
+abbrev pub TellsListed : (words : List ℕ) (row : ℕ) → Bool → Type 0
+TellsListed words i r =
+    (says : ℕ → Record) (names : ℕ → List ℕ) (n : ℕ) (heads : List ℕ) (bound : ℕ → ℕ) → Ways says n heads bound words →
+    In (idAt says n heads i) (liveIds says n) → (idAt says n heads i ≡ root → ⊥) → r ≡ isIn (idAt says n heads i) (listed says names n)
+
+-- the reason of the object of row i whose way has come to a code
+unfoldable pub reasonIn : (row code : ℕ) → Reason
+reasonIn i code =
+    pick (eqb code toRoot) reason.TooDeep
+    (pick (eqb (kindIn code) 3) reason.Missing
+    (pick (eqb (kindIn code) 0) reason.Loop
+    (pick (eqb (placeIn code) i) reason.Loop
+    (pick (eqb (kindIn code) 1) reason.Deleted
+    reason.NonDirectory))))

@@ -1,13 +1,15 @@
 // Where the ways up of all objects lead, found for all at once: each round doubles the steps that the words know of.
-ghost use Prim.Native.Nat.{_≤_};
+ghost use Prim.Native.Nat.{_≤_, _<_};
 ghost use mathlib.Core.Path.{_≡_};
-ghost use lib.ListN.{length};
+ghost use lib.ListN.{length, getD};
 ghost use Rattle.page.specs.Records.{recordAt};
+ghost use Rattle.sort.specs.Packed.{valueOf};
 ghost use Rattle.chunk.specs.Takes.{seenBy};
-ghost use Rattle.tree.specs.Climbs.{kindBy, codePlaces, IsCode, FirstWays, SomeWays, Raised, Doubled, Ways};
+ghost use Rattle.tree.specs.Climbs.{kindBy, codePlaces, IsCode, FirstWays, SomeWays, Raised, Doubled, Ways, TellsListed, reasonIn};
 ghost use Rattle.tree.specs.Heads.{Heads};
 ghost use Rattle.tree.specs.Objects.{parentIn, standBy};
 ghost use Rattle.tree.specs.Search.{Sorted};
+use crate::reason::Reason;
 use crate::search::Found;
 use crate::search::find;
 use chunk::record::gone_under;
@@ -24,12 +26,17 @@ use sort::rows::value_of;
 const ROOT: u32 = 1;
 // The type of a directory.
 const DIRECTORY: u32 = 3;
+// How many steps below the root the first list goes.
+const MOST_DEPTH: u32 = 32;
+
 // The kinds of objects in codes.
 const GOES_ON: u32 = 0;
 
 const DELETED: u32 = 1;
 
 const NON_DIRECTORY: u32 = 2;
+
+const MISSING: u32 = 3;
 // The codes of the root, and of an object that has no header.
 const TO_ROOT: u32 = 3;
 
@@ -144,4 +151,47 @@ pub(crate) fn find_ways(
 {
     fill_ways(dump, g, t, heads, ways);
     climb(ways, pages);
+}
+
+// Whether the object of row i, if it is live and not the root, is in the first list: its way comes to the root in few enough steps.
+pub(crate) fn is_listed(ways: &[u64], i: usize) -> bool
+    requires { ⌜ SomeWays (now ways) ⌝ }
+    requires { ⌜ i < length (now ways) ⌝ }
+    ensures { λ r. ⌜ TellsListed (now (ways .entry)) i r ⌝ }
+{
+    let mut code = key_of(ways[i]);
+    let mut steps: u32 = 1;
+    while code % 4 == GOES_ON {
+        if steps == MOST_DEPTH {
+            return false;
+        }
+        code = key_of(ways[(code / 4) as usize]);
+        steps += 1;
+    }
+    code == TO_ROOT
+}
+
+// The reason of the object of row i, by where its way has come to.
+pub(crate) fn reason_at(ways: &[u64], i: usize) -> Reason
+    requires { ⌜ i < length (now ways) ⌝ }
+    ensures { λ r. ⌜ r ≡ reasonIn i (valueOf (getD (now (ways .entry)) i 0)) ⌝ }
+{
+    let code = value_of(ways[i]);
+    if code == TO_ROOT {
+        return Reason::TooDeep;
+    }
+    let kind = code % 4;
+    if kind == MISSING {
+        return Reason::Missing;
+    }
+    if kind == GOES_ON {
+        return Reason::Loop;
+    }
+    if (code / 4) as usize == i {
+        return Reason::Loop;
+    }
+    if kind == DELETED {
+        return Reason::Deleted;
+    }
+    Reason::NonDirectory
 }
