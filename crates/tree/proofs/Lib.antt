@@ -7,3 +7,4 @@ pub mod Paths
 pub mod Both
 pub mod Climbing
 pub mod Settled
+pub mod Othering

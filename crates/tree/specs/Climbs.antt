@@ -8,14 +8,17 @@ use lib.Dec.{eqb}
 use lib.ListN.{length, getD}
 use Rattle.page.specs.Choice.{pick}
 use Rattle.page.specs.declared.record.Record.{Record}
-use Rattle.sort.specs.Packed.{wordValues, keyOf, valueOf}
+use Rattle.sort.specs.Packed.{wordValues, packed, keyOf, valueOf}
 use Rattle.sort.proofs.Ascending.{In}
 use Rattle.chunk.specs.Live.{liveIds}
+use Rattle.chunk.specs.Records.{isGone}
+use Rattle.text.specs.Put.{Put}
 use Rattle.tree.specs.Heads.{Heads}
 use Rattle.tree.specs.Objects.{Stand, missing, deleted, nonDirectory, directory, root, parentOf, standOf, isStanding}
 use Rattle.tree.specs.Paths.{listed}
+use Rattle.tree.specs.Rows.{numberOf, otherRows}
 use Rattle.tree.specs.Tree.{isIn}
-use Rattle.tree.specs.Ways.{up}
+use Rattle.tree.specs.Ways.{up, reasonOf}
 use Rattle.tree.specs.declared.reason.Reason.{Reason}
 use Rattle.tree.specs.declared.reason.Reason.the-variants as reason
 
@@ -128,3 +131,24 @@ reasonIn i code =
     (pick (eqb (placeIn code) i) reason.Loop
     (pick (eqb (kindIn code) 1) reason.Deleted
     reason.NonDirectory))))
+
+module _ (says : ℕ → Record) where
+  -- a dump of n pages, whose header pages have these names
+  module _ (names : ℕ → List ℕ) (n : ℕ) where
+    -- whether the object of a row is in the second list: its newest header is not gone, it is not the root, and not in the first list
+    abbrev pub isOther : (row : ℕ) → Bool
+    isOther row = not (isGone (says (valueOf row))) && (not (eqb (keyOf row) root) && not (isIn (keyOf row) (listed says names n)))
+
+    -- its row there
+    abbrev pub otherRow : (row : ℕ) → ℕ
+    otherRow row = packed (numberOf (reasonOf says n (keyOf row))) (valueOf row)
+
+  -- whether the object of row i is in the second list, by words of these rows
+  abbrev pub TellsOther : (heads words : List ℕ) (row : ℕ) → Bool → Type 0
+  TellsOther heads words i r =
+      (names : ℕ → List ℕ) (n : ℕ) (bound : ℕ → ℕ) → Heads says n heads → Ways says n heads bound words → r ≡ isOther names n (getD heads i 0)
+
+  -- the rows of the second list are put at a position, by words of these rows that have gone as many steps as there are pages
+  abbrev pub PutsOthers : (heads words before : List ℕ) (at : ℕ) (after : List ℕ) (next : ℕ) → Type 0
+  PutsOthers heads words before at after next =
+      (names : ℕ → List ℕ) (n : ℕ) → Headed says n heads → Ways says n heads (λ i. n) words → Put (otherRows says names n) before at after next

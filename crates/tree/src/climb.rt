@@ -23,7 +23,7 @@ use sort::rows::pack;
 use sort::rows::value_of;
 
 // The root of the tree.
-const ROOT: u32 = 1;
+pub(crate) const ROOT: u32 = 1;
 // The type of a directory.
 const DIRECTORY: u32 = 3;
 // How many steps below the root the first list goes.
@@ -77,7 +77,7 @@ fn code_of(dump: &[u8], g: Geometry, t: Takes, heads: &[u64], o: u32) -> u32
 }
 
 // The parent that a header names; 0, which no object has, for another page.
-fn parent_in(r: Record) -> u32
+pub(crate) fn parent_in(r: Record) -> u32
     ensures { λ p. ⌜ p ≡ parentIn r ⌝ }
 {
     match r {
