@@ -1,10 +1,10 @@
--- Words that know where ways lead. A step comes to an object with a row, to the root, or to one with no header, and its code says which. Where the word
--- of an object comes to one from which the way goes on, the word of that one knows the way on: so the steps of the one and the other are steps of the
--- first, and if both are more than b, those are more than 2 b + 1. A word whose way ended stands for any number of steps.
+-- Words that know where ways lead. A step comes to an object with a row, to the root, or to one with no header, and its code says which. Where the
+-- word of an object comes to one from which the way goes on, the word of that one knows the way on: so the steps of both are steps of the first, and
+-- if the one and the other are more than b, those are more than 2 b + 1. A word whose way ended stands for any number of steps.
 use Prim.Native.Nat.{ℕ, zero, suc, _+_, _*_, _-_, _≤_, _<_}
-use mathlib.Core.Bool.{Bool, true, false, not, _&&_}
+use mathlib.Core.Bool.{true, false}
 use mathlib.Core.List.{List, [], _∷_, map}
-use mathlib.Core.Logic.{_⊎_, inl, inr, ⊎-elim}
+use mathlib.Core.Logic.{inl, inr, ⊎-elim}
 use mathlib.Core.Option.{Option, none, some}
 use mathlib.Core.Path.{_≡_, refl, sym, ap, _∙_}
 use native.Mathlib.Nat.{le-refl, not-suc-le-zero, le-of-suc-le-suc, eq-or-lt-of-le}
@@ -23,9 +23,11 @@ use Rattle.sort.proofs.Ascending.{In, Ascends}
 use Rattle.sort.proofs.Packing.{packed-key, packed-value}
 use Rattle.chunk.specs.Records.{isGone}
 use Rattle.text.proofs.Order.{le-or-lt}
-use Rattle.tree.specs.Climbs.{kindBy, placeIn, kindIn, toRoot, toNone, goesOn, idAt, Headed, Leads, Walked, Climbed, Word, Ways, IsCode, FirstWays, SomeWays, Raised, Doubled}
+use Rattle.tree.specs.Climbs.{kindBy, placeIn, kindIn, toRoot, toNone, goesOn, idAt}
+use Rattle.tree.specs.Climbs.{Headed, Leads, Walked, Climbed, Word, Ways, IsCode, FirstWays, SomeWays, Raised, Doubled}
 use Rattle.tree.specs.Heads.{Heads}
-use Rattle.tree.specs.Objects.{Stand, missing, deleted, nonDirectory, directory, root, isDirectory, parentIn, standBy, headOf, parentOf, standOf, isStanding}
+use Rattle.tree.specs.Objects.{Stand, missing, deleted, nonDirectory, directory}
+use Rattle.tree.specs.Objects.{root, isDirectory, parentIn, standBy, headOf, parentOf, standOf, isStanding}
 use Rattle.tree.specs.Search.{Sorted}
 use Rattle.tree.specs.Ways.{up}
 use Rattle.tree.proofs.Ways.{head-below, up-none, up-more}
@@ -435,7 +437,11 @@ doubling-all before words i q h b says n heads w =
 
 -- ---- rounds
 
--- words that were raised from those of some rows are such words
+-- words of rows are such words
+pub ways-some : (says : ℕ → Record) (n : ℕ) (heads : List ℕ) (b : ℕ) (words : List ℕ) → Ways says n heads (λ i. b) words → SomeWays words
+ways-some says n heads b words w = record { says = says; pages = n; heads = heads; bound = b; ways = w }
+
+-- so are those that were raised from such
 pub raised-some : (c : ℕ) (before words : List ℕ) → SomeWays before → Raised 0 c before words → SomeWays words
 raised-some c before words s r =
     let w = s .ways in
@@ -447,7 +453,7 @@ raised-some c before words s r =
           record { parent = u .parent; jump = climbed-lower (s .says) (s .pages) (s .heads) 0 _ _ _ (omega arith) (u .jump) };
     }
     in
-    record { says = s .says; pages = s .pages; heads = s .heads; bound = c; ways = r (s .says) (s .pages) (s .heads) low }
+    ways-some (s .says) (s .pages) (s .heads) c words (r (s .says) (s .pages) (s .heads) low)
 
 -- a round more
 pub raised-doubled : (c : ℕ) (before words after : List ℕ) → Raised 0 c before words → Doubled words after → Raised 0 (c * 2 + 1) before after

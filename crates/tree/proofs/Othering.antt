@@ -1,5 +1,5 @@
--- The second list by the rows of heads. The live objects are those of the rows whose headers are not gone: both lists ascend and have the same members.
--- So the second list is the objects of the rows that are kept by three tests, and its rows are made of those, one after the other.
+-- The second list by the rows of heads. The live objects are those of the rows whose headers are not gone: both lists ascend and have the same
+-- members. So the second list is the objects of the rows that are kept by three tests, and its rows are made of those, one after the other.
 use Prim.Native.Nat.{ℕ, suc, _+_, _≤_, _<_, zero-le}
 use mathlib.Core.Bool.{Bool, true, false, not, _&&_}
 use mathlib.Core.List.{List, [], _∷_, _++_, map, append-nil}
@@ -24,7 +24,7 @@ use Rattle.text.specs.Put.{most, Put}
 use Rattle.text.proofs.Putting.{nothing, also, kept}
 use Rattle.tree.specs.Climbs.{Headed, Ways, TellsListed, reasonIn, isOther, otherRow, TellsOther, PutsOthers}
 use Rattle.tree.specs.Heads.{Heads}
-use Rattle.tree.specs.Objects.{root, parentIn, headOf, pageOf}
+use Rattle.tree.specs.Objects.{root, parentIn, pageOf}
 use Rattle.tree.specs.Paths.{keep, listed}
 use Rattle.tree.specs.Rows.{numberOf, otherRows}
 use Rattle.tree.specs.Tree.{isIn, others}

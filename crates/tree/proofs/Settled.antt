@@ -1,11 +1,11 @@
--- What words that have gone up tell of their objects. A word that did not end has gone more steps than there are pages, so that its way is a loop; one
--- that ended shows where, and the reason is what is there. An object is in the first list if its way comes to the root in at most 32 steps.
+-- What words that have gone up tell of their objects. A word that did not end has gone more steps than there are pages, so that its way is a loop;
+-- one that ended shows where, and the reason is what is there. An object is in the first list if its way comes to the root in at most 32 steps.
 use Prim.Native.Nat.{ℕ, _+_, _≤_, _<_}
-use mathlib.Core.Bool.{Bool, true, false}
+use mathlib.Core.Bool.{true, false}
 use mathlib.Core.List.{List}
 use mathlib.Core.Logic.{⊎-elim}
 use mathlib.Core.Path.{_≡_, refl, sym, ap, _∙_}
-use native.Mathlib.Nat.{le-refl, eq-or-lt-of-le}
+use native.Mathlib.Nat.{eq-or-lt-of-le}
 use native.Mathlib.Omega.{arith}
 use borrow.Author.Tests.{eqb-true, eqb-false, eq-eqb, ne-eqb}
 use lib.Dec.{eqb}

@@ -51,7 +51,8 @@ pub(crate) fn list_others(
 ) -> usize
     requires { ⌜ SomeWays (now ways) ⌝ }
     requires { ⌜ length (now ways) ≡ length (now heads) ⌝ }
-    ensures { λ r. ⌜ PutsOthers (seenBy t (recordAt g (now (dump .entry)))) (now (heads .entry)) (now (ways .entry)) (now (rows .entry)) at (now (rows .exit)) r ⌝ }
+    ensures { λ r. ⌜ PutsOthers (seenBy t (recordAt g (now (dump .entry)))) (now (heads .entry)) (now (ways .entry))
+        (now (rows .entry)) at (now (rows .exit)) r ⌝ }
 {
     let mut end = at;
     let mut i: usize = 0;

@@ -1,7 +1,6 @@
 -- The loop's invariant: the words have gone more than so many steps, or have ended. A round makes of s steps more than 2 s + 1.
 use Prim.Native.Nat.{_-_}
 use mathlib.Core.Path.{_≡_, refl, _∙_}
-use native.Mathlib.Omega.{arith}
 use borrow.Author.Needs.{needs}
 use lib.ListN.{length}
 use Rattle.tree.specs.Climbs.{Raised}

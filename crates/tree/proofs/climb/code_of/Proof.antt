@@ -1,13 +1,11 @@
--- The root has its own code, and so has an object of which the search finds no row; where it finds one, the code is of its place and its header's kind.
+-- The root has its own code, and so has an object of which the search finds no row; where it finds one, the code is of its place and its header's
+-- kind.
 use Prim.Native.Nat.{_<_}
 use mathlib.Core.Path.{_≡_}
 use native.Mathlib.Omega.{arith}
 use borrow.Author.Needs.{needs}
 use lib.ListN.{length, getD}
-use Rattle.page.specs.Records.{recordAt}
 use Rattle.sort.specs.Packed.{keyOf}
-use Rattle.chunk.specs.Takes.{seenBy}
-use Rattle.tree.specs.Search.{Finds}
 use Rattle.tree.proofs.Climbing.{header-kind, leads-root, leads-none, leads-row}
 use Rattle.tree.proofs.climb.code_of.Statement.{statement}
 use Rattle.tree.proofs.climb.code_of.Tie as tie

@@ -27,7 +27,8 @@ next c =
     let t = v .before .before in
     let q = t .before .loop in
     rw (v .value-of .ensures)
-    (doubling-inside _ (q .ways) (q .i) (q .i) (t .before .before .before .pre) (q .inv) (t .loop-test .taken) (rw (← v .value-of .ensures) (c .if1 .left)))
+    (doubling-inside _ (q .ways) (q .i) (q .i) (t .before .before .before .pre) (q .inv) (t .loop-test .taken)
+    (rw (← v .value-of .ensures) (c .if1 .left)))
 
 loop-again-2 : tie.Need-loop-again-2 Inv-loop μ-loop
 loop-again-2 c =

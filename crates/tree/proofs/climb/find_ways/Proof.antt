@@ -4,7 +4,7 @@ use borrow.Author.Needs.{needs}
 use Rattle.page.specs.Records.{recordAt}
 use Rattle.chunk.specs.Takes.{seenBy}
 use Rattle.tree.specs.Climbs.{Ways}
-use Rattle.tree.proofs.Climbing.{heads-sorted}
+use Rattle.tree.proofs.Climbing.{heads-sorted, ways-some}
 use Rattle.tree.proofs.climb.find_ways.Statement.{statement}
 use Rattle.tree.proofs.climb.find_ways.Tie as tie
 
@@ -24,8 +24,7 @@ filled c =
 
 climb-requires : tie.Need-climb-requires
 climb-requires c κs =
-    let f = c .before .before .before in
-    record { says = _; pages = _; heads = _; bound = 0; ways = filled f }
+    ways-some _ _ _ 0 _ (filled (c .before .before .before))
 
 returns : tie.Need-returns
 returns c =

@@ -27,7 +27,8 @@ loop-again c =
     let o = c .before in
     let t = o .before .before in
     let q = t .before .loop in
-    listing-pass _ _ _ _ _ (q .rows) (q .end) (q .i) (q .inv) (t .loop-test .taken) (rw (not-true (o .is-other .result) (c .if1 .taken)) at (o .is-other .ensures))
+    listing-pass _ _ _ _ _ (q .rows) (q .end) (q .i) (q .inv) (t .loop-test .taken)
+    (rw (not-true (o .is-other .result) (c .if1 .taken)) at (o .is-other .ensures))
 
 loop-again-2 : tie.Need-loop-again-2 Inv-loop μ-loop
 loop-again-2 c =
