@@ -13,6 +13,9 @@ pub mod NewestHeads
 pub mod Entries
 pub mod Segments
 pub mod Listing
+pub mod Climbing
+pub mod Settled
+pub mod Othering
 pub mod Texting
 pub mod Positions
 pub mod RowsText

@@ -6,4 +6,5 @@ pub mod Rows
 pub mod Search
 pub mod Heads
 pub mod Children
+pub mod Climbs
 pub mod Texts
