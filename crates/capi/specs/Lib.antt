@@ -4,3 +4,4 @@ pub mod Kinds
 pub mod Headers
 pub mod Lookups
 pub mod Reasons
+pub mod Trees

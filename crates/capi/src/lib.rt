@@ -9,3 +9,4 @@ pub mod kind;
 pub mod layout;
 pub mod reasons;
 pub mod text;
+pub mod trees;

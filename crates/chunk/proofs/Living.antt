@@ -131,21 +131,25 @@ module _ (test : ℕ → Bool) (id : ℕ → ℕ) where
       (ascend-back (id n) x (idsOf test id n) (rw (ids-take n t) at j)))
       (λ t. wider (ids-of x n (rw (ids-skip n t) at j)))
 
-  module _ (apart : (p q : ℕ) → test p ≡ true → test q ≡ true → id p ≡ id q → p ≡ q) where
-    -- no id is there twice, where no two that pass have the same
-    pub ids-ascend : (n : ℕ) → Ascends 0 (idsOf test id n)
-    ids-ascend zero = rw ids-none tt
-    ids-ascend (suc n) =
-        rw (← add-one n)
-        (by-test (test n) _
-        (λ t.
-        rw (ids-take n t)
-        (ascend-ascends (id n) 0 (idsOf test id n) zero-le (ids-ascend n)
-        (λ i.
-        let w = ids-of (id n) n i in
-        let e : w .page ≡ n = apart (w .page) n (w .passes) t (w .bears) in
-        omega (arith, w .inside))))
-        (λ t. rw (ids-skip n t) (ids-ascend n)))
+  -- no id is there twice, where no two of 0 to m - 1 that pass have the same
+  pub ids-ascend-below :
+      (m : ℕ) → ((p q : ℕ) → p < m → q < m → test p ≡ true → test q ≡ true → id p ≡ id q → p ≡ q) → (n : ℕ) → n ≤ m → Ascends 0 (idsOf test id n)
+  ids-ascend-below m apart zero h = rw ids-none tt
+  ids-ascend-below m apart (suc n) h =
+      rw (← add-one n)
+      (by-test (test n) _
+      (λ t.
+      rw (ids-take n t)
+      (ascend-ascends (id n) 0 (idsOf test id n) zero-le (ids-ascend-below m apart n (omega arith))
+      (λ i.
+      let w = ids-of (id n) n i in
+      let e : w .page ≡ n = apart (w .page) n (omega (arith, w .inside)) (omega arith) (w .passes) t (w .bears) in
+      omega (arith, w .inside))))
+      (λ t. rw (ids-skip n t) (ids-ascend-below m apart n (omega arith))))
+
+  -- the same where no two at all have
+  pub ids-ascend : ((p q : ℕ) → test p ≡ true → test q ≡ true → id p ≡ id q → p ≡ q) → (n : ℕ) → Ascends 0 (idsOf test id n)
+  ids-ascend apart n = ids-ascend-below n (λ p q h k. apart p q) n (le-refl n)
 
 -- a search that found page p
 at-some : (p : ℕ) (r : Option ℕ) → isAt p r ≡ true → r ≡ some p

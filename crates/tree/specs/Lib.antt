@@ -2,3 +2,9 @@ pub mod Objects
 pub mod Paths
 pub mod Ways
 pub mod Tree
+pub mod Rows
+pub mod Search
+pub mod Heads
+pub mod Children
+pub mod Climbs
+pub mod Texts

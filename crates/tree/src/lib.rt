@@ -1,2 +1,10 @@
 // The tree of a dump's live objects as the operator saw it: paths from the root, and why an object has none.
+mod children;
+mod climb;
+mod heads;
+mod list;
+mod others;
 pub mod reason;
+mod row;
+mod search;
+pub mod texts;
