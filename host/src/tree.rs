@@ -7,6 +7,11 @@ use crate::refusal::SHORT_BUFFER;
 /// Bytes that are enough for every path: of each step a slash and a name.
 const LONGEST: usize = 32 * 257;
 
+/// Bytes for each object that are mostly enough for the text, so that one call is.
+/// Those that are not written cost nothing: the system gives zeroed memory as it is
+/// touched.
+const SOME_BYTES: u64 = 256;
+
 /// The tree of a dump: a row for each live object other than 1, those that have a path
 /// first.
 pub struct Tree<'d> {
@@ -96,17 +101,21 @@ impl<'d> Tree<'d> {
     pub fn text(&self, most: u64) -> Option<Vec<u8>> {
         let write =
             |bytes: &mut [u8]| ffi::tree_text(self.dump, self.on, &self.rows, self.listed, bytes);
-        let measured = write(&mut []);
-        let mut text = Vec::new();
-        if measured.refusal == SHORT_BUFFER {
-            if measured.need > most {
+        let some = (SOME_BYTES * self.rows.len() as u64).min(most);
+        let mut text = vec![0; some as usize];
+        let mut answer = write(&mut text);
+        if answer.refusal == SHORT_BUFFER {
+            if answer.need > most {
                 return None;
             }
-            let length = measured.need as usize;
+            let length = answer.need as usize;
+            text = Vec::new();
             text.try_reserve_exact(length).ok()?;
             text.resize(length, 0);
+            answer = write(&mut text);
         }
-        write(&mut text).given().ok().map(|_| text)
+        text.truncate(answer.given().ok()?.length as usize);
+        Some(text)
     }
 }
 
