@@ -1,8 +1,6 @@
 -- Why the bytes of a file are what they are, as the exports give it.
 use Prim.Native.Nat.{ℕ}
 use mathlib.Core.List.{List}
-use lib.Dec.{eqb}
-use Rattle.page.specs.Choice.{pick}
 use Rattle.page.specs.Refusals.{refusalNumber}
 use Rattle.page.specs.declared.geometry.Geometry.{Geometry}
 use Rattle.why.specs.Answers.{shownBy}
@@ -10,17 +8,11 @@ use Rattle.why.specs.Codes.{kindOf, pageIn, byteIn}
 use Rattle.why.specs.declared.byte.Span.{Span}
 use Rattle.why.specs.declared.byte.Told.{Told}
 use Rattle.why.specs.declared.byte.Told.the-variants as told
-use Rattle.chunk.specs.declared.moment.Moment.{Moment}
-use Rattle.chunk.specs.declared.moment.Moment.the-variants.{Now, Before}
 use Rattle.why.specs.declared.spans.Spanned.{Spanned}
 use Rattle.why.specs.declared.spans.Spanned.the-variants as spanned
 use Rattle.capi.specs.declared.reasons.WhyAnswer.{WhyAnswer}
 use Rattle.capi.specs.declared.reasons.SpansAnswer.{SpansAnswer}
 use Rattle.capi.specs.declared.reasons.SpanAnswer.{SpanAnswer}
-
--- the moment before a page; all ones, which no page is, for the dump as it stands
-abbrev pub momentAt : ℕ → Moment
-momentAt before = pick (eqb before 0xFFFFFFFF) Now (Before (record { 0 = before }))
 
 abbrev pub whyAnswer : Geometry → (dump : List ℕ) → Told → WhyAnswer
 whyAnswer g dump (told.Refused r n) = record { refusal = refusalNumber r; need = n; reason = 0; page = 0; byte = 0; value = 0; until = 0 }

@@ -7,6 +7,7 @@ pub mod header;
 pub mod indexed;
 pub mod kind;
 pub mod layout;
+mod moment;
 pub mod reasons;
 pub mod text;
 pub mod trees;

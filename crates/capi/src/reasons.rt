@@ -4,12 +4,12 @@ ghost use mathlib.Core.Path.{_≡_};
 ghost use lib.ListN.{length};
 ghost use Rattle.why.specs.Answers.{spanOf, whyOn, whyLeft, spansOn, spansLeft};
 ghost use Rattle.capi.specs.Layouts.{geometryAt};
-ghost use Rattle.capi.specs.Reasons.{momentAt, whyAnswer, spansAnswer, spanAnswer};
+ghost use Rattle.capi.specs.Moments.{momentAt};
+ghost use Rattle.capi.specs.Reasons.{whyAnswer, spansAnswer, spanAnswer};
 use crate::layout::Geometry;
 use crate::layout::geometry_at;
-use chunk::moment::Moment;
+use crate::moment::moment_at;
 use page::number::ObjectId;
-use page::number::PageNumber;
 use why::byte::Span;
 use why::byte::Told;
 use why::byte::shown;
@@ -46,19 +46,6 @@ pub struct SpanAnswer {
     pub reason: u32,
     pub page: u32,
     pub byte: u32,
-}
-
-// The page of no moment: the dump as it stands.
-const NOW: u32 = 0xFFFF_FFFF;
-
-// The moment before a page.
-fn moment_at(before: u32) -> Moment
-    ensures { λ r. ⌜ r ≡ momentAt before ⌝ }
-{
-    if before == NOW {
-        return Moment::Now;
-    }
-    Moment::Before(PageNumber(before))
 }
 
 fn why_answer(dump: &[u8], geometry: Geometry, t: Told) -> WhyAnswer

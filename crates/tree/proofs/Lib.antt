@@ -16,6 +16,8 @@ pub mod Listing
 pub mod Climbing
 pub mod Settled
 pub mod Othering
+pub mod Joined
+pub mod Answering
 pub mod Texting
 pub mod Positions
 pub mod RowsText

@@ -8,3 +8,4 @@ pub mod Heads
 pub mod Children
 pub mod Climbs
 pub mod Texts
+pub mod Answers

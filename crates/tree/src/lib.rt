@@ -8,3 +8,4 @@ pub mod reason;
 mod row;
 mod search;
 pub mod texts;
+pub mod whole;

@@ -45,7 +45,7 @@ pub(crate) fn is_standing(r: Record) -> bool
 }
 
 // Puts the rows of the entries of a directory, whose rows have this key, so many steps deep.
-fn list_directory(
+pub(crate) fn list_directory(
     dump: &[u8],
     g: Geometry,
     t: Takes,

@@ -1,7 +1,7 @@
 -- All ones are no page.
 use borrow.Author.Tests.{eq-eqb, ne-eqb}
-use Rattle.capi.proofs.reasons.moment_at.Statement.{statement}
-use Rattle.capi.proofs.reasons.moment_at.Tie as tie
+use Rattle.capi.proofs.moment.moment_at.Statement.{statement}
+use Rattle.capi.proofs.moment.moment_at.Tie as tie
 
 returns : tie.Need-returns
 returns c = rw (eq-eqb _ _ (c .if1 .taken))
