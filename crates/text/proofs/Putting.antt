@@ -6,7 +6,7 @@ use mathlib.Core.Logic.{⊎-elim}
 use mathlib.Core.List.{List, [], _∷_, _++_}
 use native.Mathlib.Nat.{add-zero, zero-add, add-suc, suc-add}
 use native.Mathlib.Omega.{arith}
-use lib.ListN.{length, drop, set, length-append}
+use lib.ListN.{length, take, drop, set, length-append}
 use lib.Seq.{sets, length-sets, set-out, sets-eq}
 use Rattle.text.specs.Put.{most, counted, over, Put}
 use Rattle.text.proofs.Order.{le-or-lt}
@@ -44,6 +44,29 @@ nothing bytes at h g = record { short = h; holds = refl; behind = rw add-zero (s
 pub left-out : (bytes : List ℕ) (at next x : ℕ) → length bytes < most → length bytes ≤ at → next ≡ counted (at + 1) → Put (x ∷ []) bytes at bytes next
 unfolding over
 left-out bytes at next x h g e = record { short = h; holds = sym (set-out bytes at x g); behind = e }
+
+-- a text past the end was put
+pub past-end : (text bytes : List ℕ) (at next : ℕ) → length bytes < most → length bytes ≤ at → next ≡ counted (at + length text) → Put text bytes at bytes next
+unfolding over
+past-end text bytes at next h g e = record { short = h; holds = sym (out text bytes at g); behind = e }
+
+-- a text that has room was copied
+pub copied : (text bytes after : List ℕ) (at : ℕ) → length bytes < most → at + length text ≤ length bytes → after ≡ over bytes at text → Put text bytes at after (at + length text)
+copied text bytes after at h g e = record { short = h; holds = e; behind = sym (exact (at + length text) (omega arith)) }
+
+-- bytes copied one behind another: none yet, and one more
+pub copy-none : (bytes : List ℕ) (at : ℕ) → over bytes at [] ≡ bytes
+unfolding over
+copy-none bytes at = refl
+
+pub copy-more : (text bytes after : List ℕ) (at i x : ℕ) → after ≡ over bytes at (take i text) → length (take i text) ≡ i → set after (at + i) x ≡ over bytes at (take i text ++ (x ∷ []))
+unfolding over
+copy-more text bytes after at i x e l =
+    rw e (ap (λ (k : ℕ). set (sets bytes at (take i text)) (at + k) x) (sym l) ∙ joined (take i text) (x ∷ []) bytes at)
+
+pub copy-length : (text bytes after : List ℕ) (at : ℕ) → after ≡ over bytes at text → length after ≡ length bytes
+unfolding over
+copy-length text bytes after at e = ap length e ∙ length-sets bytes at text
 
 -- a text, and then another
 pub also : {s t b b₁ b₂ : List ℕ} {at m r : ℕ} → Put s b at b₁ m → Put t b₁ m b₂ r → Put (s ++ t) b at b₂ r

@@ -2,8 +2,9 @@
 // left out and counted all the same, so that one function both measures a text, on no bytes, and writes it.
 ghost use mathlib.Core.Path.{_≡_};
 ghost use mathlib.Core.List.{[], _∷_};
-ghost use Prim.Native.Nat.{_+_, _%_};
-ghost use Rattle.text.specs.Put.{Put};
+ghost use Prim.Native.Nat.{_+_, _%_, _≤_};
+ghost use lib.ListN.{length};
+ghost use Rattle.text.specs.Put.{Put, counted, over};
 ghost use Rattle.text.specs.Decimal.{zeroDigit, decimal};
 ghost use Rattle.text.specs.Lines.{fieldOf, lineOf};
 
@@ -28,8 +29,30 @@ pub fn put_byte(buf: &mut [u8], at: usize, x: u8) -> usize
     MOST
 }
 
-// Puts a byte string.
-pub fn put_text(buf: &mut [u8], at: usize, text: &[u8]) -> usize
+// A position so many bytes on, as far as positions count.
+fn past(at: usize, n: usize) -> usize
+    ensures { λ r. ⌜ r ≡ counted (at + n) ⌝ }
+{
+    if MOST - at < n {
+        return MOST;
+    }
+    at + n
+}
+
+// Copies a byte string to a position from which on there is room for it.
+fn copy(buf: &mut [u8], at: usize, text: &[u8])
+    requires { ⌜ at + length (now text) ≤ length (now buf) ⌝ }
+    ensures { λ _. ⌜ now (buf .exit) ≡ over (now (buf .entry)) at (now (text .entry)) ⌝ }
+{
+    let mut i = 0;
+    while i < text.len() {
+        buf[at + i] = text[i];
+        i += 1;
+    }
+}
+
+// Puts a byte string, byte by byte.
+fn put_bytes(buf: &mut [u8], at: usize, text: &[u8]) -> usize
     ensures { λ r. ⌜ Put (now (text .entry)) (now (buf .entry)) at (now (buf .exit)) r ⌝ }
 {
     let mut next = at;
@@ -39,6 +62,20 @@ pub fn put_text(buf: &mut [u8], at: usize, text: &[u8]) -> usize
         i += 1;
     }
     next
+}
+
+// Puts a byte string: past the end it is counted, and where it fits it is copied.
+pub fn put_text(buf: &mut [u8], at: usize, text: &[u8]) -> usize
+    ensures { λ r. ⌜ Put (now (text .entry)) (now (buf .entry)) at (now (buf .exit)) r ⌝ }
+{
+    if buf.len() <= at {
+        return past(at, text.len());
+    }
+    if text.len() <= buf.len() - at {
+        copy(buf, at, text);
+        return at + text.len();
+    }
+    put_bytes(buf, at, text)
 }
 
 // The last digit of a number.

@@ -1,46 +1,32 @@
--- Byte by byte. The loop's invariant: the first i bytes of the string were put.
-use Prim.Native.Nat.{ℕ, _≤_, _-_}
+-- Past the end it is counted; where it fits it is copied; else it is put byte by byte.
 use native.Mathlib.Omega.{arith}
-use native.Mathlib.Numerals.{add-one}
 use borrow.Author.Needs.{needs}
-use lib.ListN.{length, take}
-use lib.Seq.{take-suc, take-all}
-use Rattle.text.specs.Put.{Put}
-use Rattle.text.proofs.Putting.{nothing, also, kept}
+use Rattle.text.proofs.Putting.{past-end, copied}
 use Rattle.text.proofs.put.put_text.Statement.{statement}
 use Rattle.text.proofs.put.put_text.Tie as tie
 
-abbrev Inv-loop : tie.InvT-loop
-Inv-loop buf₀ at text next₀ i₀ buf next i = (i ≤ length text) × Put (take i text) buf₀ at buf next
+returns : tie.Need-returns
+returns c =
+    let a = c .before .before .before .before .args in
+    past-end (a .text .now) (a .buf .now) (a .at) _ (omega arith) (c .before .if1 .taken) (c .past .ensures)
 
-abbrev μ-loop : tie.MeasureT-loop
-μ-loop buf₀ at text next₀ i₀ buf next i = length text - i
-
-loop-holds : tie.Need-loop-holds Inv-loop μ-loop
-loop-holds c = (search needs, nothing _ _ (omega arith) (omega arith))
-
-loop-again : tie.Need-loop-again Inv-loop μ-loop
-loop-again c =
-    let t = c .before .before .before .before .before in
-    (search needs, rw (add-one, take-suc {A = ℕ} _ _ 0 (t .loop-test .taken)) (also (t .before .loop .inv .1) (c .before .before .put-byte .ensures)))
-
-same-length : tie.Need-same-length Inv-loop μ-loop
-same-length c = kept (c .before .loop .inv .1)
-
-returns : tie.Need-returns Inv-loop μ-loop
-returns c = rw (take-all _ _ (c .loop-test .left)) at (c .before .loop .inv .1)
+returns-2 : tie.Need-returns-2
+returns-2 c =
+    let k = c .before .before in
+    let a = k .before .before .before .before .before .before .args in
+    copied (a .text .now) (a .buf .now) _ (a .at) (omega arith) (omega (arith, k .before .before .if2 .taken, k .before .before .before .if1 .left)) (k .copy .ensures)
 
 pub put-text-spec : {M : Type 1} → statement M
 put-text-spec =
     tie.close
     (tie.spec
-    Inv-loop
-    μ-loop
-    loop-holds
+    (search needs)
+    returns
     (search needs)
     (search needs)
     (search needs)
     (search needs)
-    loop-again
-    same-length
-    returns)
+    returns-2
+    (search needs)
+    (search needs)
+    (λ c. c .before .before .put-bytes .ensures))
