@@ -4,7 +4,7 @@ use mathlib.Core.List.{List, []}
 use Rattle.page.specs.Choice.{pick}
 use Rattle.page.specs.Pages.{pageAt}
 use Rattle.page.specs.Headers.{fieldsOf, textOf}
-use Rattle.page.specs.Kinds.{toldOf}
+use Rattle.page.specs.Kinds.{kindAt, toldOf}
 use Rattle.page.specs.Counts.{isHeader}
 use Rattle.page.specs.declared.geometry.Geometry.{Geometry}
 use Rattle.page.specs.declared.fields.Fields.{Fields}
@@ -41,3 +41,7 @@ textBy Header s = s
 -- a field of it that is bytes; no bytes where the page is refused
 unfoldable pub textAt : Text → Geometry → (dump : List ℕ) (page : ℕ) → List ℕ
 textAt f g dump i = textBy (askedOf g dump i) (textOf f (pageAt g dump i))
+
+-- the same where nothing is refused: no bytes of a page that is no header
+unfoldable pub textIn : Text → Geometry → (dump : List ℕ) (page : ℕ) → List ℕ
+textIn f g dump i = pick (isHeader (kindAt g dump i)) (textOf f (pageAt g dump i)) []
