@@ -66,11 +66,13 @@ pub header-kind : (r : Record) → kindBy (standBy r) < 3
 header-kind r =
     by-test (isGone r) _ (λ t. rw t (omega arith)) (λ t. by-test (isDirectory r) _ (λ u. rw (t, u) (omega arith)) (λ u. rw (t, u) (omega arith)))
 
--- a page that is no header has the kind of no directory
-pub other-kind : (r : Record) → isHeader r ≡ false → 2 ≡ kindBy (standBy r)
-other-kind Other e = refl
-other-kind (Header h) e = clash (cc)
-other-kind (Data d) e = refl
+-- that of one that is gone
+pub kind-gone : (r : Record) → isGone r ≡ true → kindBy (standBy r) ≡ 1
+kind-gone r e = rw e
+
+-- that of one that is not, and does not stand
+pub kind-else : (r : Record) → isGone r ≡ false → isStanding (standBy r) ≡ false → kindBy (standBy r) ≡ 2
+kind-else r e f = by-test (isDirectory r) _ (λ t. let z : true ≡ false = rw (e, t) at f in clash (cc)) (λ t. rw (e, t))
 
 -- kind 0 is that of a directory
 standing-kind : (s : Stand) → kindBy s ≡ 0 → isStanding s ≡ true
@@ -80,7 +82,7 @@ standing-kind nonDirectory e = clash (omega arith)
 standing-kind directory e = refl
 
 -- and no other is
-kind-standing : (s : Stand) → isStanding s ≡ true → kindBy s ≡ 0
+pub kind-standing : (s : Stand) → isStanding s ≡ true → kindBy s ≡ 0
 kind-standing missing e = clash (cc)
 kind-standing deleted e = clash (cc)
 kind-standing nonDirectory e = clash (cc)

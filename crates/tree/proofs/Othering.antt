@@ -164,17 +164,16 @@ module _ (says : ℕ → Record) (heads words : List ℕ) (i : ℕ) where
       by-test (isGone (says (valueOf row))) _ (λ t. rw t) (λ t. rw (t, eq-eqb (keyOf row) root e))
 
   -- an object whose newest header is gone is not
-  pub tells-gone : goneUnder (parentIn (says (valueOf row))) ≡ true → TellsOther says heads words i false
-  tells-gone e names n bound rows w = let t : isGone (says (valueOf row)) ≡ true = gone-parent (says (valueOf row)) ∙ e in rw t
+  pub tells-gone : isGone (says (valueOf row)) ≡ true → TellsOther says heads words i false
+  tells-gone e names n bound rows w = rw e
 
   -- another is, if the first list does not have it
   pub tells-else :
-      (r : Bool) → i < length heads → (keyOf row ≡ root → ⊥) → goneUnder (parentIn (says (valueOf row))) ≡ false → TellsListed words i r →
+      (r : Bool) → i < length heads → (keyOf row ≡ root → ⊥) → isGone (says (valueOf row)) ≡ false → TellsListed words i r →
       TellsOther says heads words i (not r)
   tells-else r h d e f names n bound rows w =
-      let t : isGone (says (valueOf row)) ≡ false = gone-parent (says (valueOf row)) ∙ e in
-      let q = f says names n heads bound w (row-live says n heads rows row (get-in heads i h) t) d in
-      rw (t, ne-eqb (keyOf row) root d, q)
+      let q = f says names n heads bound w (row-live says n heads rows row (get-in heads i h) e) d in
+      rw (e, ne-eqb (keyOf row) root d, q)
 
 -- ---- its rows one after the other
 

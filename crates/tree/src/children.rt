@@ -5,6 +5,7 @@ ghost use lib.ListN.{length, take};
 ghost use Rattle.page.specs.Records.{recordAt};
 ghost use Rattle.chunk.specs.Takes.{seenBy};
 ghost use Rattle.tree.specs.Children.{childRows};
+use crate::objects::ROOT;
 use crate::row::put_row;
 use chunk::record::gone_under;
 use chunk::takes::Takes;
@@ -16,9 +17,6 @@ use sort::keys::sort;
 use sort::rows::key_of;
 use sort::rows::pack;
 use sort::rows::value_of;
-
-// The id of the root.
-pub(crate) const ROOT: u32 = 1;
 
 // Puts the children's rows in front of words that have room for as many as there are heads. Answers how many they are.
 pub(crate) fn fill_children(

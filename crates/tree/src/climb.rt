@@ -7,12 +7,16 @@ ghost use Rattle.sort.specs.Packed.{valueOf};
 ghost use Rattle.chunk.specs.Takes.{seenBy};
 ghost use Rattle.tree.specs.Climbs.{kindBy, codePlaces, IsCode, FirstWays, SomeWays, Raised, Doubled, Ways, TellsListed, reasonIn};
 ghost use Rattle.tree.specs.Heads.{Heads};
-ghost use Rattle.tree.specs.Objects.{parentIn, standBy};
+ghost use Rattle.tree.specs.Objects.{standBy};
 ghost use Rattle.tree.specs.Search.{Sorted};
+use crate::objects::MOST_DEPTH;
+use crate::objects::ROOT;
+use crate::objects::is_gone;
+use crate::objects::is_standing;
+use crate::objects::parent_in;
 use crate::reason::Reason;
 use crate::search::Found;
 use crate::search::find;
-use chunk::record::gone_under;
 use chunk::takes::Takes;
 use chunk::takes::seen_at;
 use page::geometry::Geometry;
@@ -21,13 +25,6 @@ use page::record::Record;
 use sort::rows::key_of;
 use sort::rows::pack;
 use sort::rows::value_of;
-
-// The root of the tree.
-pub(crate) const ROOT: u32 = 1;
-// The type of a directory.
-const DIRECTORY: u32 = 3;
-// How many steps below the root the first list goes.
-const MOST_DEPTH: u32 = 32;
 
 // The kinds of objects in codes.
 const GOES_ON: u32 = 0;
@@ -46,13 +43,10 @@ const TO_NONE: u32 = 7;
 fn kind_of(r: Record) -> u32
     ensures { λ k. ⌜ k ≡ kindBy (standBy r) ⌝ }
 {
-    let Record::Header(h) = r else {
-        return NON_DIRECTORY;
-    };
-    if gone_under(h.parent) {
+    if is_gone(r) {
         return DELETED;
     }
-    if h.page_type == DIRECTORY {
+    if is_standing(r) {
         return GOES_ON;
     }
     NON_DIRECTORY
@@ -73,17 +67,6 @@ fn code_of(dump: &[u8], g: Geometry, t: Takes, heads: &[u64], o: u32) -> u32
             let page = PageNumber(value_of(heads[i]));
             (i as u32) * 4 + kind_of(seen_at(dump, g, t, page))
         }
-    }
-}
-
-// The parent that a header names; 0, which no object has, for another page.
-pub(crate) fn parent_in(r: Record) -> u32
-    ensures { λ p. ⌜ p ≡ parentIn r ⌝ }
-{
-    match r {
-        Record::Other => 0,
-        Record::Header(h) => h.parent.0,
-        Record::Data(_) => 0,
     }
 }
 

@@ -11,38 +11,19 @@ ghost use Rattle.chunk.specs.Takes.{seenBy};
 ghost use Rattle.text.specs.Put.{Put};
 ghost use Rattle.tree.specs.Children.{objectAt, childRows};
 ghost use Rattle.tree.specs.Heads.{Heads};
-ghost use Rattle.tree.specs.Objects.{standBy, isStanding};
 ghost use Rattle.tree.specs.Rows.{rowsAt, rowsUnder};
+use crate::objects::is_standing;
+use crate::row::MOST_KEY;
 use crate::row::key_behind;
 use crate::row::put_row;
 use crate::search::first_from;
-use chunk::record::gone_under;
 use chunk::takes::Takes;
 use chunk::takes::seen_at;
 use page::geometry::Geometry;
 use page::number::PageNumber;
-use page::record::Record;
 use sort::rows::key_of;
 use sort::rows::pack;
 use sort::rows::value_of;
-
-// The type of a directory.
-const DIRECTORY: u32 = 3;
-// A value above those of all rows.
-const LAST: u32 = 0xFFFF_FFFF;
-
-// Whether an object stands as a directory, by its newest header.
-pub(crate) fn is_standing(r: Record) -> bool
-    ensures { λ b. ⌜ b ≡ isStanding (standBy r) ⌝ }
-{
-    let Record::Header(h) = r else {
-        return false;
-    };
-    if gone_under(h.parent) {
-        return false;
-    }
-    h.page_type == DIRECTORY
-}
 
 // Puts the rows of the entries of a directory, whose rows have this key, so many steps deep.
 pub(crate) fn list_directory(
@@ -66,7 +47,7 @@ pub(crate) fn list_directory(
         return at;
     }
     let first = first_from(children, pack(directory, 0));
-    let end = first_from(children, pack(directory, LAST));
+    let end = first_from(children, pack(directory, MOST_KEY));
     let mut next = at;
     let mut i = first;
     while i < end {

@@ -5,16 +5,14 @@ ghost use lib.ListN.{length};
 ghost use Rattle.page.specs.Records.{recordAt};
 ghost use Rattle.chunk.specs.Takes.{seenBy};
 ghost use Rattle.tree.specs.Climbs.{SomeWays, TellsOther, PutsOthers};
-use crate::climb::ROOT;
 use crate::climb::is_listed;
-use crate::climb::parent_in;
 use crate::climb::reason_at;
+use crate::objects::ROOT;
+use crate::objects::is_gone;
 use crate::row::put_row;
-use chunk::record::gone_under;
 use chunk::takes::Takes;
 use chunk::takes::seen_at;
 use page::geometry::Geometry;
-use page::number::ObjectId;
 use page::number::PageNumber;
 use sort::rows::key_of;
 use sort::rows::pack;
@@ -32,8 +30,7 @@ fn is_other(dump: &[u8], g: Geometry, t: Takes, heads: &[u64], ways: &[u64], i: 
         return false;
     }
     let page = PageNumber(value_of(row));
-    let parent = ObjectId(parent_in(seen_at(dump, g, t, page)));
-    if gone_under(parent) {
+    if is_gone(seen_at(dump, g, t, page)) {
         return false;
     }
     !is_listed(ways, i)

@@ -12,6 +12,7 @@ ghost use Rattle.tree.specs.Paths.{mostDepth, slash, upToZero};
 ghost use Rattle.tree.specs.Rows.{nameOn, objectIn, pathIn, pathAt, rowLines, rowsText, reasonAt};
 ghost use Rattle.tree.specs.Texts.{textedBy, textOn, textLeft, pathOn, pathLeft};
 ghost use Rattle.tree.specs.Tree.{wordsOf, pathLines, reasonLines};
+use crate::objects::MOST_DEPTH;
 use crate::reason::Reason;
 use chunk::record::object_of;
 use page::fields::Text;
@@ -38,8 +39,6 @@ pub enum Texted {
 const SLASH: u8 = 47;
 // The byte that ends a line.
 const NEWLINE: u8 = 10;
-// How many steps below the root the list goes.
-const MOST_DEPTH: u32 = 32;
 
 // How many bytes stand before the first zero byte.
 fn name_length(bytes: &[u8]) -> usize

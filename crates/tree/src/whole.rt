@@ -17,11 +17,12 @@ ghost use Rattle.tree.specs.Heads.{Heads, headCount};
 ghost use Rattle.tree.specs.Rows.{listedRows, otherRows, treeRows};
 ghost use Rattle.tree.specs.declared.whole.Grown.the-variants as grown;
 use crate::children::fill_children;
-use crate::climb::ROOT;
 use crate::climb::find_ways;
 use crate::heads::count_heads;
 use crate::heads::fill_heads;
 use crate::list::list_directory;
+use crate::objects::MOST_DEPTH;
+use crate::objects::ROOT;
 use crate::others::list_others;
 use chunk::moment::Moment;
 use chunk::takes::Takes;
@@ -29,9 +30,6 @@ use page::geometry::Geometry;
 use page::geometry::Opened;
 use page::refusal::Refusal;
 use sort::room::clear;
-
-// How many steps below the root the first list goes.
-const MOST_DEPTH: u32 = 32;
 
 // How many rows the first list has, and the second; or a refusal, with the words that each slice needs beside ShortBuffer.
 pub enum Grown {
@@ -123,7 +121,9 @@ fn lists(
     let listed = first_list(dump, g, t, pages, heads, work, rows);
     let all = second_list(dump, g, t, pages, heads, work, rows, listed);
     let others = all - listed;
-    Grown::Rows(listed as u32, others as u32)
+    let first = listed as u32;
+    let second = others as u32;
+    Grown::Rows(first, second)
 }
 
 // Puts the rows of both lists. The other words, as many as there are headers, are worked in and cleared.

@@ -31,7 +31,7 @@ use Rattle.chunk.proofs.takes.seen_at.Reads as seen-at-reads
 use Rattle.sort.proofs.rows.key_of.Reads as key-of-reads
 use Rattle.sort.proofs.rows.pack.Reads as pack-reads
 use Rattle.sort.proofs.rows.value_of.Reads as value-of-reads
-use Rattle.tree.proofs.list.is_standing.Reads as is-standing-reads
+use Rattle.tree.proofs.objects.is_standing.Reads as is-standing-reads
 use Rattle.tree.proofs.row.key_behind.Reads as key-behind-reads
 use Rattle.tree.proofs.row.put_row.Reads as put-row-reads
 use Rattle.tree.proofs.search.first_from.Reads as first-from-reads

@@ -32,14 +32,14 @@ put c =
 sub-others : tie.Need-sub-others
 sub-others c = let j = put (c .before .before .before .before) in omega (arith, j .first, j .both)
 
-cast-t19 : tie.Need-cast-t19
-cast-t19 c =
+cast-first : tie.Need-cast-first
+cast-first c =
     let q = c .before .before .before .before in
     let j = put q in
     record { fits = omega (arith, j .first, j .both, j .few, q .before .before .before .before .before .before .before .before .before .before .before .before .before .before .fits) }
 
-cast-t20 : tie.Need-cast-t20
-cast-t20 c =
+cast-second : tie.Need-cast-second
+cast-second c =
     let q = c .before .before .before .before in
     let j = put q in
     record { fits = omega (arith, j .first, j .both, j .few, q .before .before .before .before .before .before .before .before .before .before .before .before .before .before .fits) }
@@ -54,8 +54,8 @@ lists-spec =
     (λ c κs. let s = c .before .before .before .before .before .before in (s .pre .0, omega (arith, s .pre .1 .1 .0)))
     second-list-requires
     sub-others
-    cast-t19
-    cast-t20
+    cast-first
+    cast-second
     (search needs)
     (search needs)
     returns)
