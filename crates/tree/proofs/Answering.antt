@@ -1,8 +1,8 @@
 -- What is answered of a dump's tree, case by case.
 use Prim.Native.Nat.{ℕ, _-_, _≤_, _<_, min}
 use mathlib.Core.Bool.{true, false}
-use mathlib.Core.List.{List, [], _++_}
-use mathlib.Core.Path.{_≡_, refl, sym, ap, _∙_}
+use mathlib.Core.List.{List, _++_}
+use mathlib.Core.Path.{_≡_}
 use native.Mathlib.Omega.{arith}
 use borrow.Author.Tests.{lt-ltb, le-ltb}
 use lib.ListN.{length, drop, replicate}
@@ -14,8 +14,9 @@ use Rattle.page.specs.declared.refusal.Refusal.the-variants.{BadPage, ShortBuff
 use Rattle.chunk.specs.Lists.{inFront}
 use Rattle.chunk.specs.Moments.{isMissing}
 use Rattle.chunk.specs.declared.moment.Moment.{Moment}
-use Rattle.tree.specs.Answers.{saysAt, namesAt, treeOn, rowsLeft, workLeft}
+use Rattle.tree.specs.Answers.{saysAt, treeOn, rowsLeft, workLeft}
 use Rattle.tree.specs.Heads.{headCount}
+use Rattle.tree.specs.Objects.{namesOf}
 use Rattle.tree.specs.Rows.{listedRows, otherRows, treeRows}
 use Rattle.tree.specs.declared.whole.Grown.{Grown}
 use Rattle.tree.specs.declared.whole.Grown.the-variants.{Rows, Refused}
@@ -49,8 +50,8 @@ module _ (g : Geometry) (dump : List ℕ) (m : Moment) (rows heads work : List �
       -- enough of them
       pub room-enough :
           headCount (saysAt g dump m) n ≤ min (length rows) (min (length heads) (length work)) → (k : ℕ) → k ≡ headCount (saysAt g dump m) n →
-          Answered (Rows (length (listedRows (saysAt g dump m) (namesAt g dump m) n)) (length (otherRows (saysAt g dump m) (namesAt g dump m) n)))
-          (inFront (treeRows (saysAt g dump m) (namesAt g dump m) n) rows) (replicate k 0 ++ drop k heads) (replicate k 0 ++ drop k work)
+          Answered (Rows (length (listedRows (saysAt g dump m) (namesOf g dump) n)) (length (otherRows (saysAt g dump m) (namesOf g dump) n)))
+          (inFront (treeRows (saysAt g dump m) (namesOf g dump) n) rows) (replicate k 0 ++ drop k heads) (replicate k 0 ++ drop k work)
       unfolding treeOn rowsLeft workLeft
       room-enough h k q =
           let t = le-ltb _ _ h in

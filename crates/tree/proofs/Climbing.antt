@@ -14,22 +14,20 @@ use lib.Dec.{eqb, ltb}
 use lib.ListN.{length, getD, set, length-set}
 use lib.Seq.{getD-set-same, getD-set-other}
 use Rattle.page.specs.Choice.{pick}
-use Rattle.page.specs.Records.{isHeader}
 use Rattle.page.specs.declared.record.Record.{Record}
-use Rattle.page.specs.declared.record.Record.the-variants.{Other, Header, Data}
 use Rattle.page.proofs.Searching.{clash, by-test}
 use Rattle.sort.specs.Packed.{wordValues, packed, keyOf, valueOf}
 use Rattle.sort.proofs.Ascending.{In, Ascends}
 use Rattle.sort.proofs.Packing.{packed-key, packed-value}
 use Rattle.chunk.specs.Records.{isGone}
 use Rattle.text.proofs.Order.{le-or-lt}
-use Rattle.tree.specs.Climbs.{kindBy, placeIn, kindIn, toRoot, toNone, goesOn, idAt}
+use Rattle.tree.specs.Climbs.{kindBy, placeIn, kindIn, toRoot, toNone}
 use Rattle.tree.specs.Climbs.{Headed, Leads, Walked, Climbed, Word, Ways, IsCode, FirstWays, SomeWays, Raised, Doubled}
-use Rattle.tree.specs.Heads.{Heads}
+use Rattle.tree.specs.Heads.{Heads, objectAt}
 use Rattle.tree.specs.Objects.{Stand, missing, deleted, nonDirectory, directory}
 use Rattle.tree.specs.Objects.{root, isDirectory, parentIn, standBy, headOf, parentOf, standOf, isStanding}
 use Rattle.tree.specs.Search.{Sorted}
-use Rattle.tree.specs.Ways.{up}
+use Rattle.tree.specs.Ways.{up, goesOn}
 use Rattle.tree.proofs.Ways.{head-below, up-none, up-more}
 
 -- ---- rows that ascend
@@ -104,7 +102,7 @@ module _ (says : ℕ → Record) (n : ℕ) (heads : List ℕ) where
         }
 
     -- an object has one row
-    pub one-row : (i j : ℕ) → i < length heads → j < length heads → idAt says n heads i ≡ idAt says n heads j → i ≡ j
+    pub one-row : (i j : ℕ) → i < length heads → j < length heads → objectAt heads i ≡ objectAt heads j → i ≡ j
     one-row i j h k e =
         ⊎-elim
         (λ (l : i ≤ j).
@@ -116,11 +114,11 @@ module _ (says : ℕ → Record) (n : ℕ) (heads : List ℕ) where
         (le-or-lt i j)
 
     -- with its newest header
-    pub row-head : (i : ℕ) → i < length heads → headOf says n (idAt says n heads i) ≡ some (valueOf (getD heads i 0))
+    pub row-head : (i : ℕ) → i < length heads → headOf says n (objectAt heads i) ≡ some (valueOf (getD heads i 0))
     row-head i h = rows .right (getD heads i 0) (get-in heads i h)
 
   -- an object that has no row has no header
-  no-row : Headed says n heads → (x : ℕ) → ((i : ℕ) → i < length heads → idAt says n heads i ≡ x → ⊥) → headOf says n x ≡ none
+  no-row : Headed says n heads → (x : ℕ) → ((i : ℕ) → i < length heads → objectAt heads i ≡ x → ⊥) → headOf says n x ≡ none
   no-row w x f = go (headOf says n x) refl
     where
       go : (r : Option ℕ) → headOf says n x ≡ r → r ≡ none
@@ -154,7 +152,7 @@ module _ (says : ℕ → Record) (n : ℕ) (heads : List ℕ) where
 
   -- of an object that has no row
   pub leads-none :
-      Headed says n heads → (x : ℕ) → (x ≡ root → ⊥) → ((i : ℕ) → i < length heads → idAt says n heads i ≡ x → ⊥) → Leads says n heads x toNone
+      Headed says n heads → (x : ℕ) → (x ≡ root → ⊥) → ((i : ℕ) → i < length heads → objectAt heads i ≡ x → ⊥) → Leads says n heads x toNone
   leads-none w x d f =
       record {
         top = sym (ne-eqb x root d);
@@ -165,7 +163,7 @@ module _ (says : ℕ → Record) (n : ℕ) (heads : List ℕ) where
 
   -- and of one that has a row
   pub leads-row :
-      Heads says n heads → (x i : ℕ) → (x ≡ root → ⊥) → i < length heads → idAt says n heads i ≡ x →
+      Heads says n heads → (x i : ℕ) → (x ≡ root → ⊥) → i < length heads → objectAt heads i ≡ x →
       Leads says n heads x (i * 4 + kindBy (standBy (says (valueOf (getD heads i 0)))))
   leads-row w x i d h e =
       let r = says (valueOf (getD heads i 0)) in
@@ -178,7 +176,7 @@ module _ (says : ℕ → Record) (n : ℕ) (heads : List ℕ) where
         top = ne-eqb (i * 4 + k) toRoot (λ z. omega arith) ∙ sym (ne-eqb x root d);
         kind = λ t. q ∙ ap kindBy (sym s);
         inside = λ l. rw p h;
-        placed = λ l. ap (idAt says n heads) p ∙ e;
+        placed = λ l. ap (objectAt heads) p ∙ e;
       }
 
   -- ---- words
@@ -266,12 +264,12 @@ module _ (says : ℕ → Record) (n : ℕ) (heads : List ℕ) where
 
   -- one that goes on, and the way on from there
   pub climbed-join :
-      (b o code next : ℕ) → Climbed says n heads b o code → kindIn code ≡ 0 → Climbed says n heads b (idAt says n heads (placeIn code)) next →
+      (b o code next : ℕ) → Climbed says n heads b o code → kindIn code ≡ 0 → Climbed says n heads b (objectAt heads (placeIn code)) next →
       Climbed says n heads (b * 2 + 1) o next
   climbed-join b o code next w e v =
       let a = w .steps in
       let g = leads-on _ code (w .walked .leads) e in
-      let here : idAt says n heads (placeIn code) ≡ up says n a o = w .walked .leads .placed (omega arith) in
+      let here : objectAt heads (placeIn code) ≡ up says n a o = w .walked .leads .placed (omega arith) in
       let on : Climbed says n heads b (up says n a o) next = rw here at v in
       record {
         steps = a + on .steps;
@@ -302,7 +300,7 @@ module _ (says : ℕ → Record) (heads : List ℕ) where
   pub record Filled (words : List ℕ) (i : ℕ) : Type 0 where
     pub inside : i ≤ length heads
     pub long : length words ≡ length heads
-    pub filled : (n : ℕ) → Headed says n heads → (j : ℕ) → j < i → Word says n heads 0 (idAt says n heads j) (getD words j 0)
+    pub filled : (n : ℕ) → Headed says n heads → (j : ℕ) → j < i → Word says n heads 0 (objectAt heads j) (getD words j 0)
 
   -- none has
   pub filled-none : (words : List ℕ) → length words ≡ length heads → Filled words 0
@@ -318,10 +316,10 @@ module _ (says : ℕ → Record) (heads : List ℕ) where
         inside = omega arith;
         long = length-set words i (packed code code) ∙ q .long;
         filled = λ n r j l.
-            set-each (λ j v. j < i + 1 → Word says n heads 0 (idAt says n heads j) v) words i (packed code code) (omega (arith, q .long))
+            set-each (λ j v. j < i + 1 → Word says n heads 0 (objectAt heads j) v) words i (packed code code) (omega (arith, q .long))
             (λ k.
-            first-word says n heads (idAt says n heads i) code
-            (rw (parent-head says n heads (idAt says n heads i) _ (row-head says n heads (r .right) i h)) (w n r)) b)
+            first-word says n heads (objectAt heads i) code
+            (rw (parent-head says n heads (objectAt heads i) _ (row-head says n heads (r .right) i h)) (w n r)) b)
             j
             (λ d k. q .filled n r j (omega arith))
             l;
@@ -419,14 +417,14 @@ doubling-more before words i q h e =
           let k : p < length heads = omega (arith, v .long, jump-inside says n heads _ words i v h e) in
           let here = climbed-lower says n heads b _ _ _ (halfway-least b i i) (u .jump) in
           let there = climbed-lower says n heads b _ _ _ (halfway-least b i p) (v .each p k .jump) in
-          let new : Word says n heads (halfway b (i + 1) i) (idAt says n heads i) (packed (keyOf word) next) =
+          let new : Word says n heads (halfway b (i + 1) i) (objectAt heads i) (packed (keyOf word) next) =
           rw (halfway-passed b (i + 1) i (omega arith))
           record { parent = rw key (u .parent); jump = rw value (climbed-join says n heads b _ _ next here e there) }
           in
           record {
             long = same ∙ v .long;
             each = λ j l.
-                set-each (λ j x. Word says n heads (halfway b (i + 1) j) (idAt says n heads j) x) words i _ h new j
+                set-each (λ j x. Word says n heads (halfway b (i + 1) j) (objectAt heads j) x) words i _ h new j
                 (λ d. rw (halfway-other b i j d) (v .each j l));
           };
     }

@@ -1,7 +1,7 @@
 -- The children's rows: which objects they are, and that those of one directory stand side by side, ascending by id.
 use Prim.Native.Nat.{ℕ, _+_, _-_, _≤_, _<_}
 use mathlib.Core.Bool.{Bool, true, false, not, _&&_}
-use mathlib.Core.List.{List, [], _∷_, _++_, map}
+use mathlib.Core.List.{List, _++_, map}
 use mathlib.Core.Option.{some}
 use mathlib.Core.Path.{_≡_, refl, sym, ap, _∙_}
 use native.Mathlib.Nat.{zero-add, le-refl}
@@ -9,27 +9,26 @@ use native.Mathlib.Omega.{arith}
 use borrow.Author.Tests.{eq-eqb, ne-eqb}
 use lib.Dec.{eqb}
 use lib.ListN.{length, take, drop, getD, length-map}
-use lib.Seq.{take-at, take-append-seam}
+use lib.Seq.{take-at}
 use Rattle.page.specs.Records.{isHeader}
 use Rattle.page.specs.declared.record.Record.{Record}
-use Rattle.page.specs.declared.record.Record.the-variants.{Other, Header, Data}
+use Rattle.page.specs.declared.record.Record.the-variants.{Header}
 use Rattle.page.specs.declared.record.Header as header
-use Rattle.page.proofs.Searching.{by-test}
 use Rattle.sort.specs.Arranged.{arranged}
 use Rattle.sort.specs.Packed.{wordValues, packed, keyOf, valueOf}
 use Rattle.sort.proofs.Arranging.{arranged-length}
-use Rattle.sort.proofs.Ascending.{In, Ascends}
+use Rattle.sort.proofs.Ascending.{Ascends}
 use Rattle.sort.proofs.Packing.{packed-key, packed-value}
 use Rattle.chunk.specs.Live.{passed, idsOf}
 use Rattle.chunk.specs.Records.{isGone}
-use Rattle.chunk.proofs.Living.{Live, live-in, live-of, live-ids-ascend, ids-in, ids-of, ids-ascend-below}
-use Rattle.text.specs.Put.{most, counted, Put}
+use Rattle.chunk.proofs.Living.{ids-of, ids-ascend-below}
+use Rattle.text.specs.Put.{counted, Put}
 use Rattle.text.proofs.Putting.{whole, exact}
-use Rattle.tree.specs.Children.{objectAt, saidAt, isChild, childRow, childRows}
-use Rattle.tree.specs.Heads.{Heads}
+use Rattle.tree.specs.Children.{saidAt, isChild, childRow, childRows}
+use Rattle.tree.specs.Heads.{Heads, objectAt}
 use Rattle.tree.specs.Objects.{root, headOf, pageOf, parentOf, standOf, standBy, parentIn}
-use Rattle.tree.specs.Search.{Sorted, Parted}
-use Rattle.tree.proofs.Places.{in-at, at-in, map-at, ascends-at, at-ascends, arranged-sorted}
+use Rattle.tree.specs.Search.{Sorted}
+use Rattle.tree.proofs.Places.{in-at, at-in, map-at, ascends-at, arranged-sorted}
 
 -- words that were put in front of others are sorted
 pub put-length : {text before after : List ℕ} {next : ℕ} → Put text before 0 after next → length text ≤ length before → next ≡ length text
@@ -45,9 +44,9 @@ put-sorted {text} {before} {after} {next} v p h e =
 
 module _ (says : ℕ → Record) (heads : List ℕ) (j : ℕ) where
   -- the root, a page that is no header, and a deleted object are passed over
-  pub root-no-child : objectAt says heads j ≡ root → isChild says heads j ≡ false
+  pub root-no-child : objectAt heads j ≡ root → isChild says heads j ≡ false
   unfolding isChild
-  root-no-child e = rw (eq-eqb (objectAt says heads j) root e)
+  root-no-child e = rw (eq-eqb (objectAt heads j) root e)
 
   other-no-child : (b c : Bool) → (b && (false && c)) ≡ false
   other-no-child true c = refl
@@ -60,16 +59,16 @@ module _ (says : ℕ → Record) (heads : List ℕ) (j : ℕ) where
 
   pub page-no-child : isHeader (saidAt says heads j) ≡ false → isChild says heads j ≡ false
   unfolding isChild
-  page-no-child e = rw e (other-no-child (not (eqb (objectAt says heads j) root)) (not (isGone (saidAt says heads j))))
+  page-no-child e = rw e (other-no-child (not (eqb (objectAt heads j) root)) (not (isGone (saidAt says heads j))))
 
   pub deleted-no-child : isGone (saidAt says heads j) ≡ true → isChild says heads j ≡ false
   unfolding isChild
-  deleted-no-child e = rw e (gone-no-child (not (eqb (objectAt says heads j) root)) (isHeader (saidAt says heads j)))
+  deleted-no-child e = rw e (gone-no-child (not (eqb (objectAt heads j) root)) (isHeader (saidAt says heads j)))
 
   -- every other is a child
-  pub is-child : (objectAt says heads j ≡ root → ⊥) → isHeader (saidAt says heads j) ≡ true → isGone (saidAt says heads j) ≡ false → isChild says heads j ≡ true
+  pub is-child : (objectAt heads j ≡ root → ⊥) → isHeader (saidAt says heads j) ≡ true → isGone (saidAt says heads j) ≡ false → isChild says heads j ≡ true
   unfolding isChild
-  is-child f h e = rw (ne-eqb (objectAt says heads j) root f, h, e)
+  is-child f h e = rw (ne-eqb (objectAt heads j) root f, h, e)
 
   pub child-row : (h : header.Header) → saidAt says heads j ≡ Header h → childRow says heads j ≡ packed (h .parent .0) j
   unfolding childRow
@@ -79,29 +78,29 @@ module _ (says : ℕ → Record) (heads : List ℕ) (j : ℕ) where
 module _ (says : ℕ → Record) (n : ℕ) (heads : List ℕ) (w : Heads says n heads) where
   -- the object of row j, by its newest header
   module _ (j : ℕ) (h : j < length heads) where
-    pub head-at : headOf says n (objectAt says heads j) ≡ some (valueOf (getD heads j 0))
+    pub head-at : headOf says n (objectAt heads j) ≡ some (valueOf (getD heads j 0))
     head-at = w .right (getD heads j 0) (at-in j heads h)
 
-    pub page-at : pageOf says n (objectAt says heads j) ≡ valueOf (getD heads j 0)
+    pub page-at : pageOf says n (objectAt heads j) ≡ valueOf (getD heads j 0)
     page-at = rw head-at
 
-    pub stand-at : standOf says n (objectAt says heads j) ≡ standBy (saidAt says heads j)
+    pub stand-at : standOf says n (objectAt heads j) ≡ standBy (saidAt says heads j)
     unfolding standOf
     stand-at = rw head-at
 
-    pub parent-at : parentOf says n (objectAt says heads j) ≡ parentIn (saidAt says heads j)
+    pub parent-at : parentOf says n (objectAt heads j) ≡ parentIn (saidAt says heads j)
     unfolding parentOf
     parent-at = rw head-at
 
   -- objects of later rows are above those of earlier ones
-  pub objects-rise : (i j : ℕ) → i < j → j < length heads → objectAt says heads i < objectAt says heads j
+  pub objects-rise : (i j : ℕ) → i < j → j < length heads → objectAt heads i < objectAt heads j
   objects-rise i j h k =
       let l = length-map heads keyOf in
       let a = ascends-at 0 i j (map keyOf heads) (w .ascend) h (omega arith) in
       rw (map-at keyOf i heads (omega arith), map-at keyOf j heads k) at a
 
   -- an object with a header has a row
-  pub head-stands : (o p : ℕ) → headOf says n o ≡ some p → p < wordValues → (j : ℕ) × (j < length heads) × (objectAt says heads j ≡ o) × (valueOf (getD heads j 0) ≡ p)
+  pub head-stands : (o p : ℕ) → headOf says n o ≡ some p → p < wordValues → (j : ℕ) × (j < length heads) × (objectAt heads j ≡ o) × (valueOf (getD heads j 0) ≡ p)
   head-stands o p e h =
       let s = in-at (packed o p) heads (w .all o p e) in
       (s .place, s .inside, ap keyOf (s .here) ∙ packed-key o p h, ap valueOf (s .here) ∙ packed-value o p h)

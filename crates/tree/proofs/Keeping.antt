@@ -1,14 +1,12 @@
 -- Rows in order of which the newest of each object is kept, in place: what was kept so far stands in front, the newest row so far of the object that the
 -- scan is at is at hand, and the rows not yet read are as they were.
 use Prim.Native.Nat.{ℕ, suc, _+_, _≤_, _<_}
-use mathlib.Core.Bool.{Bool, true, false}
 use mathlib.Core.List.{List, [], _∷_, _++_, append-nil}
 use mathlib.Core.Path.{_≡_, refl, sym, ap, _∙_}
 use native.Mathlib.Nat.{add-zero, not-suc-le-zero}
 use native.Mathlib.Numerals.{add-one}
 use native.Mathlib.Omega.{arith}
 use borrow.Author.Tests.{le-leb, lt-leb, eq-eqb, ne-eqb}
-use lib.Dec.{eqb}
 use lib.ListN.{length, take, drop, set, getD, length-set, drop-of-length-le}
 use lib.Seq.{take-all, drop-cons, getD-drop, drop-set-lt, take-suc-set, append-snoc}
 use Rattle.page.specs.declared.record.Record.{Record}

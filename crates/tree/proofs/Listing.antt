@@ -1,27 +1,27 @@
 -- The rows of the first list, one entry after the other. A position that stopped counting gives the same keys as the true one, so that it may stand
 -- for it.
 use Prim.Native.Nat.{ℕ, zero, suc, _+_, _-_, _≤_, _<_}
-use mathlib.Core.Bool.{Bool, true, false}
+use mathlib.Core.Bool.{true, false}
 use mathlib.Core.List.{List, [], _∷_, _++_, append-nil, append-assoc}
 use mathlib.Core.Path.{_≡_, refl, sym, ap, _∙_}
 use native.Mathlib.Nat.{add-zero}
-use native.Mathlib.Numerals.{add-one, sub-one}
+use native.Mathlib.Numerals.{sub-one}
 use native.Mathlib.Omega.{arith}
-use lib.ListN.{length, take, drop, getD, length-append}
+use lib.ListN.{length, take, getD, length-append}
 use lib.Seq.{take-suc, take-all}
 use Rattle.page.specs.Records.{isHeader}
 use Rattle.page.specs.declared.record.Record.{Record}
 use Rattle.page.specs.declared.record.Record.the-variants.{Other, Header, Data}
 use Rattle.page.proofs.Searching.{by-test, clash}
-use Rattle.sort.specs.Packed.{wordValues, packed, valueOf}
+use Rattle.sort.specs.Packed.{packed, valueOf}
 use Rattle.chunk.specs.Records.{isGone}
 use Rattle.text.specs.Put.{most, counted, Put}
 use Rattle.text.proofs.Putting.{also, nothing}
-use Rattle.tree.specs.Children.{objectAt, saidAt}
-use Rattle.tree.specs.Heads.{Heads}
-use Rattle.tree.specs.Objects.{pageOf, standOf, standBy, isStanding, isDirectory}
+use Rattle.tree.specs.Children.{saidAt}
+use Rattle.tree.specs.Heads.{Heads, objectAt}
+use Rattle.tree.specs.Objects.{standBy, isStanding, isDirectory}
 use Rattle.tree.specs.Paths.{childrenOf}
-use Rattle.tree.specs.Rows.{keyBehind, mostKey, eachAt, rowsAt, rowsUnder}
+use Rattle.tree.specs.Rows.{keyBehind, eachAt, rowsAt, rowsUnder}
 use Rattle.tree.proofs.Entries.{page-at, stand-at}
 use Rattle.tree.proofs.Segments.{Segment}
 
@@ -99,15 +99,15 @@ module _ (says : ℕ → Record) (names : ℕ → List ℕ) (n : ℕ) where
         rw (e, each-none one at) (nothing rows₀ at h g)
 
     -- one more
-    module _ (children heads : List ℕ) (end : ℕ) (s : Segment children (childrenOf says names n d) (objectAt says heads) first end) where
+    module _ (children heads : List ℕ) (end : ℕ) (s : Segment children (childrenOf says names n d) (objectAt heads) first end) where
       pub done-more :
           (rows after : List ℕ) (next r i : ℕ) → Done rows next i → first ≤ i → i < end
-          → Put (rowsAt says names n (rowsUnder says names n k) key next (objectAt says heads (valueOf (getD children i 0)))) rows next after r
+          → Put (rowsAt says names n (rowsUnder says names n k) key next (objectAt heads (valueOf (getD children i 0)))) rows next after r
           → Done after r (i + 1)
       done-more rows after next r i p h l q =
           let C = childrenOf says names n d in
           let made = eachAt one at (take (i - first) C) in
-          let o = objectAt says heads (valueOf (getD children i 0)) in
+          let o = objectAt heads (valueOf (getD children i 0)) in
           let j : i + 1 - first ≡ suc (i - first) = omega arith in
           let c : counted next ≡ counted (at + length made) = ap counted (p .behind) ∙ count-twice (at + length made) in
           let e : one next o ≡ one (at + length made) o = at-same (rowsUnder says names n k) (under-same k) key next (at + length made) o c in
@@ -132,14 +132,14 @@ module _ (says : ℕ → Record) (names : ℕ → List ℕ) (n : ℕ) where
   -- an entry, which is row j of the heads
   module _ (heads : List ℕ) (w : Heads says n heads) (j : ℕ) (h : j < length heads) (k key at : ℕ) where
     abbrev entry : List ℕ
-    entry = rowsAt says names n (rowsUnder says names n k) key at (objectAt says heads j)
+    entry = rowsAt says names n (rowsUnder says names n k) key at (objectAt heads j)
 
     entry-plain : isStanding (standBy (saidAt says heads j)) ≡ false → entry ≡ packed key (valueOf (getD heads j 0)) ∷ []
     unfolding rowsAt
     entry-plain e = rw (page-at says n heads w j h, stand-at says n heads w j h, e)
 
     entry-standing : isStanding (standBy (saidAt says heads j)) ≡ true
-        → entry ≡ (packed key (valueOf (getD heads j 0)) ∷ []) ++ rowsUnder says names n k (keyBehind at) (objectAt says heads j) (at + 1)
+        → entry ≡ (packed key (valueOf (getD heads j 0)) ∷ []) ++ rowsUnder says names n k (keyBehind at) (objectAt heads j) (at + 1)
     unfolding rowsAt
     entry-standing e = rw (page-at says n heads w j h, stand-at says n heads w j h, e)
 
@@ -151,11 +151,11 @@ module _ (says : ℕ → Record) (names : ℕ → List ℕ) (n : ℕ) where
         (row below : ℕ) (rows mid after : List ℕ) (next r : ℕ) → row ≡ packed key (valueOf (getD heads j 0)) → below ≡ keyBehind at
         → isStanding (standBy (saidAt says heads j)) ≡ true
         → Put (row ∷ []) rows at mid next
-        → Put (rowsUnder says names n k below (objectAt says heads j) next) mid next after r
+        → Put (rowsUnder says names n k below (objectAt heads j) next) mid next after r
         → Put entry rows at after r
     standing-put row below rows mid after next r q b e p u =
         let c : counted next ≡ counted (at + 1) = ap counted (p .behind) ∙ count-twice (at + 1) in
-        let f = under-same k (keyBehind at) (objectAt says heads j) next (at + 1) c in
+        let f = under-same k (keyBehind at) (objectAt heads j) next (at + 1) c in
         rw (entry-standing e, ← f, ← q, ← b) (also p u)
 
 -- how an object stands, by its newest header

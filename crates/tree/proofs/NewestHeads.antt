@@ -1,14 +1,14 @@
 -- The rows of the newest headers are what `Heads` says. The rows of all headers stand in order of their objects, so that those of one object stand side by
 -- side: of these the newest is kept, and no other object's. So the ids ascend, each kept page is its object's newest header, and none is left out.
-use Prim.Native.Nat.{ℕ, zero, suc, _+_, _≤_, _<_, zero-le}
-use mathlib.Core.Bool.{Bool, true, false, _&&_}
+use Prim.Native.Nat.{ℕ, zero, suc, _≤_, _<_, zero-le}
+use mathlib.Core.Bool.{Bool, true}
 use mathlib.Core.List.{List, [], _∷_, map}
 use mathlib.Core.Logic.{_⊎_, inl, inr, ⊎-elim}
 use mathlib.Core.Option.{some}
 use mathlib.Core.Path.{_≡_, refl, sym, ap, _∙_}
 use native.Mathlib.Nat.{le-refl, le-trans}
 use native.Mathlib.Omega.{arith}
-use borrow.Author.Tests.{leb-true, leb-false, eqb-true, eqb-false, eq-eqb, le-leb, lt-leb}
+use borrow.Author.Tests.{leb-true, leb-false, eqb-true, eqb-false, eq-eqb}
 use lib.Dec.{eqb, leb}
 use lib.ListN.{length}
 use Rattle.page.specs.Records.{isHeader}
@@ -17,15 +17,15 @@ use Rattle.page.specs.declared.record.Record.{Record}
 use Rattle.page.specs.declared.record.Record.the-variants.{Other, Header, Data}
 use Rattle.page.proofs.Layouts.{and-left, and-right}
 use Rattle.page.proofs.Searching.{by-test, clash}
-use Rattle.sort.specs.Arranged.{arranged, rises}
+use Rattle.sort.specs.Arranged.{rises}
 use Rattle.sort.specs.Packed.{wordValues, packed, keyOf, valueOf}
-use Rattle.sort.proofs.Arranging.{arranged-rises, rises-cons, rises-every}
-use Rattle.sort.proofs.Ascending.{In, Ascends, ascends-in}
+use Rattle.sort.proofs.Arranging.{arranged-rises, rises-cons}
+use Rattle.sort.proofs.Ascending.{In, Ascends}
 use Rattle.sort.proofs.Packing.{packed-key, packed-value, keys-arranged}
 use Rattle.chunk.specs.Live.{passed, idsOf}
 use Rattle.chunk.specs.Records.{ageOf, objectOf, isOf, headerOf}
-use Rattle.chunk.proofs.Living.{Bears, ids-in, ids-of, ids-length}
-use Rattle.chunk.proofs.Meaning.{IsNewest, newest-found, where-is}
+use Rattle.chunk.proofs.Living.{ids-in, ids-of, ids-length}
+use Rattle.chunk.proofs.Meaning.{newest-found, where-is}
 use Rattle.chunk.proofs.Records.{of-object}
 use Rattle.tree.specs.Heads.{isHead, headRow, headCount, newerRow, newestFrom, newestEach, headRows, Heads}
 use Rattle.tree.specs.Objects.{headOf}

@@ -5,7 +5,7 @@
 -- No object is there twice. The root does not go on, so a way meets it at one step only, the object's depth; the children of a directory all have one
 -- depth, so that an object's way passes one of them at most, and a child is not below itself.
 use Prim.Native.Nat.{ℕ, zero, suc, _+_, _≤_, _<_, zero-le}
-use mathlib.Core.Bool.{Bool, true, false, not, _&&_}
+use mathlib.Core.Bool.{true, false, not}
 use mathlib.Core.List.{List, [], _∷_, _++_, append-assoc, append-nil}
 use mathlib.Core.Logic.{_⊎_, inl, inr, ⊎-elim}
 use mathlib.Core.Option.{Option, none, some}
@@ -24,7 +24,7 @@ use Rattle.chunk.specs.Live.{liveIds}
 use Rattle.chunk.proofs.Living.{live-in, live-ids-ascend}
 use Rattle.tree.specs.Objects.{missing, root, standBy, given, headOf, parentOf, standOf, isStanding}
 use Rattle.tree.specs.Paths.{Entry, each, mostDepth, childrenOf, stepTo, entryOf, under, listed}
-use Rattle.tree.specs.Ways.{up}
+use Rattle.tree.specs.Ways.{goesOn, up}
 use Rattle.tree.specs.Tree.{isIn}
 use Rattle.tree.proofs.Lists.{Has, keep-in, keep-of, keep-ascends, each-in, each-of}
 
@@ -49,10 +49,6 @@ in-has o (x ∷ L) i =
 -- ---- the way up
 
 module _ (says : ℕ → Record) (n : ℕ) where
-  -- whether the way up goes on from an object: it is not the root, and stands as a directory
-  abbrev pub goesOn : ℕ → Bool
-  goesOn x = not (eqb x root) && isStanding (standOf says n x)
-
   -- a step and then some are one more
   pub up-first : (j o : ℕ) → up says n j (parentOf says n o) ≡ up says n (suc j) o
   unfolding up
@@ -72,11 +68,11 @@ module _ (says : ℕ → Record) (n : ℕ) where
           (λ u. live-in says n x record { header = h; newest-header = e; kept = u })
 
   -- what goes on is not the root, and stands as a directory
-  pub goes-on : (x : ℕ) → goesOn x ≡ true → (x ≡ root → ⊥) × (isStanding (standOf says n x) ≡ true)
+  pub goes-on : (x : ℕ) → goesOn says n x ≡ true → (x ≡ root → ⊥) × (isStanding (standOf says n x) ≡ true)
   goes-on x t = (eqb-false x root (not-true _ (and-left (not (eqb x root)) _ t)), and-right (not (eqb x root)) _ t)
 
   -- and what is so goes on
-  pub on-goes : (x : ℕ) → (x ≡ root → ⊥) → isStanding (standOf says n x) ≡ true → goesOn x ≡ true
+  pub on-goes : (x : ℕ) → (x ≡ root → ⊥) → isStanding (standOf says n x) ≡ true → goesOn says n x ≡ true
   on-goes x d t = rw (ne-eqb x root d, t)
 
   -- object o is live and below object d: at most k steps lead up to d, and the objects between go on
@@ -87,7 +83,7 @@ module _ (says : ℕ → Record) (n : ℕ) where
     pub some-step : 1 ≤ steps
     pub few : steps ≤ k
     pub arrives : up says n steps o ≡ d
-    pub between : (i : ℕ) → 1 ≤ i → i < steps → goesOn (up says n i o) ≡ true
+    pub between : (i : ℕ) → 1 ≤ i → i < steps → goesOn says n (up says n i o) ≡ true
 
 module _ (says : ℕ → Record) (names : ℕ → List ℕ) (n : ℕ) where
   -- the children of a directory are the live objects other than the root with that parent

@@ -1,11 +1,10 @@
 -- The entries of a directory stand side by side among the children's rows: from the first row whose key is not below the directory's id up to the first
 -- above it, ascending by id.
 use Prim.Native.Nat.{ℕ, _+_, _-_, _≤_, _<_, zero-le}
-use mathlib.Core.Bool.{Bool, true, false, not, _&&_}
+use mathlib.Core.Bool.{not}
 use mathlib.Core.List.{List, map}
 use mathlib.Core.Logic.{⊎-elim}
-use mathlib.Core.Option.{some}
-use mathlib.Core.Path.{_≡_, refl, sym, ap, _∙_}
+use mathlib.Core.Path.{_≡_, sym, ap, _∙_}
 use native.Mathlib.Omega.{arith}
 use borrow.Author.Tests.{not-true, eqb-false}
 use lib.Dec.{eqb}
@@ -13,23 +12,22 @@ use lib.ListN.{length, take, drop, getD, length-map, length-take, length-drop}
 use lib.Seq.{getD-take, getD-drop}
 use Rattle.page.specs.Records.{isHeader}
 use Rattle.page.specs.declared.record.Record.{Record}
-use Rattle.page.specs.declared.record.Record.the-variants.{Header}
 use Rattle.page.proofs.Layouts.{and-left, and-right}
 use Rattle.sort.specs.Packed.{wordValues, packed, keyOf, valueOf}
 use Rattle.sort.proofs.Ascending.{In, Ascends, same-members}
-use Rattle.sort.proofs.Packing.{packed-key, packed-value}
+use Rattle.sort.proofs.Packing.{packed-value}
 use Rattle.text.proofs.Order.{le-or-lt}
-use Rattle.chunk.specs.Live.{idsOf, liveIds}
+use Rattle.chunk.specs.Live.{liveIds}
 use Rattle.chunk.specs.Records.{isGone, headerOf, isOf}
-use Rattle.chunk.proofs.Living.{Live, live-in, live-of, live-ids-ascend, ids-in}
+use Rattle.chunk.proofs.Living.{live-in, live-of, live-ids-ascend, ids-in}
 use Rattle.chunk.proofs.Meaning.{newest-found}
-use Rattle.tree.specs.Children.{objectAt, saidAt, isChild, childRow, childRows}
-use Rattle.tree.specs.Heads.{Heads}
-use Rattle.tree.specs.Objects.{root, headOf, parentOf, parentIn}
+use Rattle.tree.specs.Children.{saidAt, isChild, childRow, childRows}
+use Rattle.tree.specs.Heads.{Heads, objectAt}
+use Rattle.tree.specs.Objects.{root, parentOf, parentIn}
 use Rattle.tree.specs.Paths.{childrenOf}
 use Rattle.tree.specs.Rows.{mostKey}
 use Rattle.tree.specs.Search.{Sorted, Parted}
-use Rattle.tree.proofs.Entries.{head-at, parent-at, objects-rise, head-stands, children-sorted, children-ascend, Child, child-at, is-child}
+use Rattle.tree.proofs.Entries.{head-at, parent-at, objects-rise, head-stands, children-sorted, children-ascend, child-at, is-child}
 use Rattle.tree.proofs.Lists.{keep-ascends}
 use Rattle.tree.proofs.Paths.{child-of, child-in}
 use Rattle.tree.proofs.Places.{in-at, at-in, map-at, ascends-at, at-ascends}
@@ -68,7 +66,7 @@ module _ (says : ℕ → Record) (names : ℕ → List ℕ) (n : ℕ) (short : n
 
     -- the objects of the rows between them
     abbrev object : ℕ → ℕ
-    object r = objectAt says heads (valueOf r)
+    object r = objectAt heads (valueOf r)
 
     abbrev part : List ℕ
     part = take (end - first) (drop first rows)
@@ -107,13 +105,13 @@ module _ (says : ℕ → Record) (names : ℕ → List ℕ) (n : ℕ) (short : n
         let r = getD rows (first + s .place) 0 in
         let c = child-at says n heads w (first + s .place) (omega (arith, b .inside)) in
         let j = valueOf r in
-        let e : objectAt says heads j ≡ o = sym (found-at (s .place) h) ∙ s .here in
-        let root-not = eqb-false _ _ (not-true _ (and-left (not (eqb (objectAt says heads j) root)) _ (c .live))) in
-        let kept = not-true _ (and-right (isHeader (saidAt says heads j)) _ (and-right (not (eqb (objectAt says heads j) root)) _ (c .live))) in
-        let p : parentOf says n (objectAt says heads j) ≡ d =
+        let e : objectAt heads j ≡ o = sym (found-at (s .place) h) ∙ s .here in
+        let root-not = eqb-false _ _ (not-true _ (and-left (not (eqb (objectAt heads j) root)) _ (c .live))) in
+        let kept = not-true _ (and-right (isHeader (saidAt says heads j)) _ (and-right (not (eqb (objectAt heads j) root)) _ (c .live))) in
+        let p : parentOf says n (objectAt heads j) ≡ d =
         parent-at says n heads w j (c .inside) ∙ sym (c .under) ∙ key-between (first + s .place) (omega arith) (omega arith) in
-        rw (← e) (child-in says names n d (objectAt says heads j)
-        (live-in says n (objectAt says heads j) (record { header = valueOf (getD heads j 0); newest-header = head-at says n heads w j (c .inside); kept = kept }))
+        rw (← e) (child-in says names n d (objectAt heads j)
+        (live-in says n (objectAt heads j) (record { header = valueOf (getD heads j 0); newest-header = head-at says n heads w j (c .inside); kept = kept }))
         root-not p)
 
     -- and there is no other
@@ -134,7 +132,7 @@ module _ (says : ℕ → Record) (names : ℕ → List ℕ) (n : ℕ) (short : n
         let u : q .place - first < end - first = omega (arith, m .0, m .1) in
         let v : first + (q .place - first) ≡ q .place = omega (arith, m .0) in
         let e : getD (map object part) (q .place - first) 0 ≡ o =
-        found-at (q .place - first) u ∙ rw v (ap object (q .here) ∙ ap (objectAt says heads) (packed-value d j (omega (arith, s .1, w .few))) ∙ s .2) in
+        found-at (q .place - first) u ∙ rw v (ap object (q .here) ∙ ap (objectAt heads) (packed-value d j (omega (arith, s .1, w .few))) ∙ s .2) in
         rw (← e) (at-in (q .place - first) (map object part) (omega (arith, found-length)))
 
     found : childrenOf says names n d ≡ map object part
@@ -146,7 +144,7 @@ module _ (says : ℕ → Record) (names : ℕ → List ℕ) (n : ℕ) (short : n
         ascends = keep-ascends _ 0 (liveIds says n) (live-ids-ascend says n)
 
     -- so the entries are side by side
-    pub segment : Segment rows (childrenOf says names n d) (objectAt says heads) first end
+    pub segment : Segment rows (childrenOf says names n d) (objectAt heads) first end
     segment = record {
       order = order;
       inside = b .inside;
@@ -165,5 +163,5 @@ module _ (says : ℕ → Record) (names : ℕ → List ℕ) (n : ℕ) (short : n
 
   pub row-segment :
       (children : List ℕ) (d first end x y : ℕ) → children ≡ rows → x ≡ packed d 0 → y ≡ packed d mostKey → Parted x children first → Parted y children end
-      → Segment children (childrenOf says names n d) (objectAt says heads) first end
+      → Segment children (childrenOf says names n d) (objectAt heads) first end
   row-segment children d first end x y e a b p q = rw e (segment d first end (rw (e, a) at p) (rw (e, b) at q))

@@ -23,7 +23,7 @@ use Rattle.chunk.proofs.Records.{of-object}
 use Rattle.chunk.proofs.Meaning.{newest-found}
 use Rattle.tree.specs.Objects.{Stand, missing, deleted, nonDirectory, directory, standBy, isStanding}
 use Rattle.tree.specs.Objects.{root, isDirectory, given, headOf, pageOf, parentOf, standOf}
-use Rattle.tree.specs.Ways.{anyBelow, reasonBy, up, metAt, stopsAt, stopOf, reasonOf}
+use Rattle.tree.specs.Ways.{anyBelow, reasonBy, goesOn, up, metAt, stopsAt, stopOf, reasonOf}
 use Rattle.tree.specs.declared.reason.Reason.{Reason}
 use Rattle.tree.specs.declared.reason.Reason.the-variants as reason
 use Rattle.tree.proofs.Passing.{IsFirst, any-passes, passes-any, none-passes, first-least, first-only, first-found}
@@ -42,10 +42,6 @@ or-true false = refl
 
 -- a dump of n pages
 module _ (says : ℕ → Record) (n : ℕ) where
-  -- whether a way goes on from an object: it is not the root, and stands as a directory
-  abbrev pub goesOn : (object : ℕ) → Bool
-  goesOn x = not (eqb x root) && isStanding (standOf says n x)
-
   -- ---- newest headers
 
   -- the page of a newest header is below n
@@ -66,7 +62,7 @@ module _ (says : ℕ → Record) (n : ℕ) where
   head-page x p e = rw e
 
   -- an object that goes on has a newest header
-  pub on-headed : (x : ℕ) → goesOn x ≡ true → headOf says n x ≡ some (pageOf says n x)
+  pub on-headed : (x : ℕ) → goesOn says n x ≡ true → headOf says n x ≡ some (pageOf says n x)
   unfolding standOf
   on-headed x g = go (headOf says n x) (and-right (not (eqb x root)) _ g)
     where
@@ -127,7 +123,7 @@ module _ (says : ℕ → Record) (n : ℕ) where
     means-unmet k f = by-test (metAt says n o k) _ (λ t. absurd (f (met-means k t))) (λ t. t)
 
     -- the way stops where it comes to one met before, or does not go on, and nowhere else
-    stops-as : (k : ℕ) → stopsAt says n o k ≡ metAt says n o k || not (goesOn (at k))
+    stops-as : (k : ℕ) → stopsAt says n o k ≡ metAt says n o k || not (goesOn says n (at k))
     unfolding stopsAt
     stops-as k = stop-test (eqb (at k) root) (metAt says n o k) (isStanding (standOf says n (at k)))
 
@@ -136,11 +132,11 @@ module _ (says : ℕ → Record) (n : ℕ) where
     met-stops k t = stops-as k ∙ rw t
 
     -- it stops where it does not go on
-    pub off-stops : (k : ℕ) → goesOn (up says n k o) ≡ false → stopsAt says n o k ≡ true
+    pub off-stops : (k : ℕ) → goesOn says n (up says n k o) ≡ false → stopsAt says n o k ≡ true
     off-stops k t = stops-as k ∙ rw t (or-true (metAt says n o k))
 
     -- it does not stop at a new one where it goes on
-    pub on-passes : (k : ℕ) → metAt says n o k ≡ false → goesOn (up says n k o) ≡ true → stopsAt says n o k ≡ false
+    pub on-passes : (k : ℕ) → metAt says n o k ≡ false → goesOn says n (up says n k o) ≡ true → stopsAt says n o k ≡ false
     on-passes k t u = stops-as k ∙ rw (t, u)
 
     -- where it does not stop, it comes to a new one
@@ -148,17 +144,17 @@ module _ (says : ℕ → Record) (n : ℕ) where
     passed-unmet k e = by-test (metAt says n o k) _ (λ t. let z = met-stops k t in clash (cc)) (λ t. t)
 
     -- and goes on
-    pub passed-on : (k : ℕ) → stopsAt says n o k ≡ false → goesOn (up says n k o) ≡ true
-    passed-on k e = by-test (goesOn (at k)) _ (λ t. t) (λ t. let z = off-stops k t in clash (cc))
+    pub passed-on : (k : ℕ) → stopsAt says n o k ≡ false → goesOn says n (up says n k o) ≡ true
+    passed-on k e = by-test (goesOn says n (at k)) _ (λ t. t) (λ t. let z = off-stops k t in clash (cc))
 
     -- step a is the first that does not go on
     pub record EndsAt (a : ℕ) : Type 0 where
       pub step : 1 ≤ a
-      pub off : goesOn (up says n a o) ≡ false
-      pub on : (j : ℕ) → 1 ≤ j → j < a → goesOn (up says n j o) ≡ true
+      pub off : goesOn says n (up says n a o) ≡ false
+      pub on : (j : ℕ) → 1 ≤ j → j < a → goesOn says n (up says n j o) ≡ true
 
     -- a way ends within n steps, or all of them go on
-    pub first-stop : ((a : ℕ) × (a ≤ n) × EndsAt a) ⊎ ((j : ℕ) → 1 ≤ j → j ≤ n → goesOn (up says n j o) ≡ true)
+    pub first-stop : ((a : ℕ) × (a ≤ n) × EndsAt a) ⊎ ((j : ℕ) → 1 ≤ j → j ≤ n → goesOn says n (up says n j o) ≡ true)
     first-stop =
         by-test (anyBelow (λ j. off (suc j)) n) _
         (λ t.
@@ -178,7 +174,7 @@ module _ (says : ℕ → Record) (n : ℕ) where
         not-false _ (ap off (sym e) ∙ z)))
       where
         off : ℕ → Bool
-        off j = not (goesOn (at j))
+        off j = not (goesOn says n (at j))
 
     -- an end at step a
     module _ (a : ℕ) (end : EndsAt a) where
@@ -188,8 +184,8 @@ module _ (says : ℕ → Record) (n : ℕ) where
           let j = w .earlier in
           let r : at (j + (a - k)) ≡ at (k + (a - k)) = up-alike j k (a - k) o (w .same) in
           let s : k + (a - k) ≡ a = omega arith in
-          let g : goesOn (at (j + (a - k))) ≡ true = end .on (j + (a - k)) (omega arith) (omega (arith, w .before)) in
-          let z : goesOn (at a) ≡ true = rw (← s, ← r) g in
+          let g : goesOn says n (at (j + (a - k))) ≡ true = end .on (j + (a - k)) (omega arith) (omega (arith, w .before)) in
+          let z : goesOn says n (at a) ≡ true = rw (← s, ← r) g in
           clash (cc (end .off))
 
       -- and it comes to one itself only if that is the start
@@ -199,7 +195,7 @@ module _ (says : ℕ → Record) (n : ℕ) where
           (eqb-true (w .earlier) 0)
           (λ t.
           let z : w .earlier ≡ 0 → ⊥ = eqb-false (w .earlier) 0 t in
-          let g : goesOn (at a) ≡ true = rw (← w .same) (end .on (w .earlier) (omega arith) (w .before)) in
+          let g : goesOn says n (at a) ≡ true = rw (← w .same) (end .on (w .earlier) (omega arith) (w .before)) in
           clash (cc (end .off)))
 
       -- which is how the test of that comes out there
@@ -221,7 +217,7 @@ module _ (says : ℕ → Record) (n : ℕ) where
     -- an object with a header
     module _ (p : ℕ) (head : headOf says n o ≡ some p) where
       -- of whose way n steps go on
-      module _ (on : (j : ℕ) → 1 ≤ j → j ≤ n → goesOn (at j) ≡ true) where
+      module _ (on : (j : ℕ) → 1 ≤ j → j ≤ n → goesOn says n (at j) ≡ true) where
         -- up to there its objects have newest headers
         headed : (i : ℕ) → i ≤ n → headOf says n (at i) ≡ some (pageOf says n (at i))
         headed i h =
@@ -262,7 +258,7 @@ module _ (says : ℕ → Record) (n : ℕ) where
 
       -- a way that ends at step a: the reason is what is there
       pub absorbed :
-          (a : ℕ) → 1 ≤ a → goesOn (up says n a o) ≡ false → ((j : ℕ) → 1 ≤ j → j < a → goesOn (up says n j o) ≡ true) →
+          (a : ℕ) → 1 ≤ a → goesOn says n (up says n a o) ≡ false → ((j : ℕ) → 1 ≤ j → j < a → goesOn says n (up says n j o) ≡ true) →
           (a ≤ n)
           × (reasonOf says n o
           ≡ pick (eqb (up says n a o) root) reason.TooDeep (pick (eqb (up says n a o) o) reason.Loop (reasonBy (standOf says n (up says n a o)))))
@@ -273,7 +269,7 @@ module _ (says : ℕ → Record) (n : ℕ) where
           (omega (arith, stop-within), rw (e, end-met a end))
 
       -- a way of which n steps go on: a loop
-      pub looped : ((j : ℕ) → 1 ≤ j → j ≤ n → goesOn (up says n j o) ≡ true) → reasonOf says n o ≡ reason.Loop
+      pub looped : ((j : ℕ) → 1 ≤ j → j ≤ n → goesOn says n (up says n j o) ≡ true) → reasonOf says n o ≡ reason.Loop
       unfolding reasonOf
       looped on =
           let k = stopOf says n o in
@@ -323,7 +319,7 @@ module _ (says : ℕ → Record) (n : ℕ) where
     -- the way comes to step k: each step before it goes on, and comes to none met before
     pub record ComesTo (k : ℕ) : Type 0 where
       pub first : 1 ≤ k
-      pub on : (j : ℕ) → 1 ≤ j → j < k → goesOn (up says n j o) ≡ true
+      pub on : (j : ℕ) → 1 ≤ j → j < k → goesOn says n (up says n j o) ≡ true
       pub unmet : (j : ℕ) → 1 ≤ j → j < k → Met o j → ⊥
 
     -- and there to an object that is not the root and was not met before

@@ -6,16 +6,20 @@ use mathlib.Core.List.{List, [], _∷_, map}
 use mathlib.Core.Option.{some}
 use mathlib.Core.Path.{_≡_}
 use lib.Dec.{eqb, leb}
-use lib.ListN.{length}
+use lib.ListN.{length, getD}
 use Rattle.page.specs.Choice.{pick}
 use Rattle.page.specs.Records.{isHeader}
 use Rattle.page.specs.Search.{count}
 use Rattle.page.specs.declared.record.Record.{Record}
 use Rattle.sort.specs.Packed.{packed, keyOf, valueOf}
 use Rattle.sort.proofs.Ascending.{In, Ascends}
-use Rattle.chunk.specs.Live.{passed, idsOf}
+use Rattle.chunk.specs.Live.{idsOf}
 use Rattle.chunk.specs.Records.{ageOf, objectOf}
 use Rattle.tree.specs.Objects.{headOf}
+
+-- the object of row i
+abbrev pub objectAt : (heads : List ℕ) (row : ℕ) → ℕ
+objectAt heads i = keyOf (getD heads i 0)
 
 -- over what each page says
 module _ (says : ℕ → Record) where

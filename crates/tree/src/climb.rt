@@ -2,12 +2,10 @@
 ghost use Prim.Native.Nat.{_≤_, _<_};
 ghost use mathlib.Core.Path.{_≡_};
 ghost use lib.ListN.{length, getD};
-ghost use Rattle.page.specs.Records.{recordAt};
 ghost use Rattle.sort.specs.Packed.{valueOf};
-ghost use Rattle.chunk.specs.Takes.{seenBy};
 ghost use Rattle.tree.specs.Climbs.{kindBy, codePlaces, IsCode, FirstWays, SomeWays, Raised, Doubled, Ways, TellsListed, reasonIn};
 ghost use Rattle.tree.specs.Heads.{Heads};
-ghost use Rattle.tree.specs.Objects.{standBy};
+ghost use Rattle.tree.specs.Objects.{standBy, saysBy};
 ghost use Rattle.tree.specs.Search.{Sorted};
 use crate::objects::MOST_DEPTH;
 use crate::objects::ROOT;
@@ -56,7 +54,7 @@ fn kind_of(r: Record) -> u32
 fn code_of(dump: &[u8], g: Geometry, t: Takes, heads: &[u64], o: u32) -> u32
     requires { ⌜ Sorted (now heads) ⌝ }
     requires { ⌜ length (now heads) ≤ codePlaces ⌝ }
-    ensures { λ r. ⌜ IsCode (seenBy t (recordAt g (now (dump .entry)))) (now (heads .entry)) o r ⌝ }
+    ensures { λ r. ⌜ IsCode (saysBy g (now (dump .entry)) t) (now (heads .entry)) o r ⌝ }
 {
     if o == ROOT {
         return TO_ROOT;
@@ -75,7 +73,7 @@ fn fill_ways(dump: &[u8], g: Geometry, t: Takes, heads: &[u64], ways: &mut [u64]
     requires { ⌜ Sorted (now heads) ⌝ }
     requires { ⌜ length (now heads) ≤ codePlaces ⌝ }
     requires { ⌜ length (now ways) ≡ length (now heads) ⌝ }
-    ensures { λ _. ⌜ FirstWays (seenBy t (recordAt g (now (dump .entry)))) (now (heads .entry)) (now (ways .exit)) ⌝ }
+    ensures { λ _. ⌜ FirstWays (saysBy g (now (dump .entry)) t) (now (heads .entry)) (now (ways .exit)) ⌝ }
 {
     let mut i: usize = 0;
     while i < heads.len() {
@@ -127,10 +125,10 @@ pub(crate) fn find_ways(
     heads: &[u64],
     ways: &mut [u64],
 )
-    requires { ⌜ Heads (seenBy t (recordAt g (now dump))) pages (now heads) ⌝ }
+    requires { ⌜ Heads (saysBy g (now dump) t) pages (now heads) ⌝ }
     requires { ⌜ length (now heads) ≤ codePlaces ⌝ }
     requires { ⌜ length (now ways) ≡ length (now heads) ⌝ }
-    ensures { λ _. ⌜ Ways (seenBy t (recordAt g (now (dump .entry)))) pages (now (heads .entry)) (λ _. pages) (now (ways .exit)) ⌝ }
+    ensures { λ _. ⌜ Ways (saysBy g (now (dump .entry)) t) pages (now (heads .entry)) (λ _. pages) (now (ways .exit)) ⌝ }
 {
     fill_ways(dump, g, t, heads, ways);
     climb(ways, pages);

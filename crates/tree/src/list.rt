@@ -3,14 +3,11 @@
 ghost use mathlib.Core.Path.{_≡_};
 ghost use Prim.Native.Nat.{_<_};
 ghost use lib.ListN.{length, getD};
-ghost use Rattle.page.specs.Asked.{textAt};
-ghost use Rattle.page.specs.Records.{recordAt};
-ghost use Rattle.page.specs.declared.fields.Text.the-variants.{Name};
 ghost use Rattle.sort.specs.Packed.{valueOf};
-ghost use Rattle.chunk.specs.Takes.{seenBy};
 ghost use Rattle.text.specs.Put.{Put};
-ghost use Rattle.tree.specs.Children.{objectAt, childRows};
-ghost use Rattle.tree.specs.Heads.{Heads};
+ghost use Rattle.tree.specs.Children.{childRows};
+ghost use Rattle.tree.specs.Heads.{Heads, objectAt};
+ghost use Rattle.tree.specs.Objects.{saysBy, namesOf};
 ghost use Rattle.tree.specs.Rows.{rowsAt, rowsUnder};
 use crate::objects::is_standing;
 use crate::row::MOST_KEY;
@@ -39,9 +36,9 @@ pub(crate) fn list_directory(
     rows: &mut [u64],
     at: usize,
 ) -> usize
-    requires { ⌜ Heads (seenBy t (recordAt g (now dump))) pages (now heads) ⌝ }
-    requires { ⌜ now children ≡ childRows (seenBy t (recordAt g (now dump))) (now heads) ⌝ }
-    ensures { λ r. ⌜ Put (rowsUnder (seenBy t (recordAt g (now (dump .entry)))) (textAt Name g (now (dump .entry))) pages depth key directory at) (now (rows .entry)) at (now (rows .exit)) r ⌝ }
+    requires { ⌜ Heads (saysBy g (now dump) t) pages (now heads) ⌝ }
+    requires { ⌜ now children ≡ childRows (saysBy g (now dump) t) (now heads) ⌝ }
+    ensures { λ r. ⌜ Put (rowsUnder (saysBy g (now (dump .entry)) t) (namesOf g (now (dump .entry))) pages depth key directory at) (now (rows .entry)) at (now (rows .exit)) r ⌝ }
 {
     if depth == 0 {
         return at;
@@ -83,10 +80,10 @@ fn list_entry(
     rows: &mut [u64],
     at: usize,
 ) -> usize
-    requires { ⌜ Heads (seenBy t (recordAt g (now dump))) pages (now heads) ⌝ }
-    requires { ⌜ now children ≡ childRows (seenBy t (recordAt g (now dump))) (now heads) ⌝ }
+    requires { ⌜ Heads (saysBy g (now dump) t) pages (now heads) ⌝ }
+    requires { ⌜ now children ≡ childRows (saysBy g (now dump) t) (now heads) ⌝ }
     requires { ⌜ i < length (now children) ⌝ }
-    ensures { λ r. ⌜ Put (rowsAt (seenBy t (recordAt g (now (dump .entry)))) (textAt Name g (now (dump .entry))) pages (rowsUnder (seenBy t (recordAt g (now (dump .entry)))) (textAt Name g (now (dump .entry))) pages left) key at (objectAt (seenBy t (recordAt g (now (dump .entry)))) (now (heads .entry)) (valueOf (getD (now (children .entry)) i 0)))) (now (rows .entry)) at (now (rows .exit)) r ⌝ }
+    ensures { λ r. ⌜ Put (rowsAt (saysBy g (now (dump .entry)) t) (namesOf g (now (dump .entry))) pages (rowsUnder (saysBy g (now (dump .entry)) t) (namesOf g (now (dump .entry))) pages left) key at (objectAt (now (heads .entry)) (valueOf (getD (now (children .entry)) i 0)))) (now (rows .entry)) at (now (rows .exit)) r ⌝ }
 {
     let place = value_of(children[i]) as usize;
     let head = heads[place];

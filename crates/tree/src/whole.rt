@@ -2,18 +2,15 @@
 ghost use mathlib.Core.Path.{_≡_};
 ghost use Prim.Native.Nat.{_≤_, _<_, min};
 ghost use lib.ListN.{length, replicate};
-ghost use Rattle.page.specs.Asked.{textAt};
 ghost use Rattle.page.specs.Numbers.{pageValues};
 ghost use Rattle.page.specs.Lengths.{openedOf};
-ghost use Rattle.page.specs.Records.{recordAt};
-ghost use Rattle.page.specs.declared.fields.Text.the-variants.{Name};
 ghost use Rattle.page.specs.declared.geometry.Opened.the-variants as opened;
 ghost use Rattle.chunk.specs.Lists.{inFront};
-ghost use Rattle.chunk.specs.Takes.{seenBy};
 ghost use Rattle.text.specs.Put.{Put};
 ghost use Rattle.tree.specs.Answers.{treeOn, rowsLeft, workLeft};
 ghost use Rattle.tree.specs.Climbs.{codePlaces};
 ghost use Rattle.tree.specs.Heads.{Heads, headCount};
+ghost use Rattle.tree.specs.Objects.{saysBy, namesOf};
 ghost use Rattle.tree.specs.Rows.{listedRows, otherRows, treeRows};
 ghost use Rattle.tree.specs.declared.whole.Grown.the-variants as grown;
 use crate::children::fill_children;
@@ -61,9 +58,9 @@ fn first_list(
     work: &mut [u64],
     rows: &mut [u64],
 ) -> usize
-    requires { ⌜ Heads (seenBy t (recordAt g (now dump))) pages (now heads) ⌝ }
+    requires { ⌜ Heads (saysBy g (now dump) t) pages (now heads) ⌝ }
     requires { ⌜ length (now heads) ≤ length (now work) ⌝ }
-    ensures { λ r. ⌜ Put (listedRows (seenBy t (recordAt g (now (dump .entry)))) (textAt Name g (now (dump .entry))) pages) (now (rows .entry)) 0 (now (rows .exit)) r ⌝ }
+    ensures { λ r. ⌜ Put (listedRows (saysBy g (now (dump .entry)) t) (namesOf g (now (dump .entry))) pages) (now (rows .entry)) 0 (now (rows .exit)) r ⌝ }
 {
     let count = fill_children(dump, g, t, heads, work);
     list_directory(
@@ -92,10 +89,10 @@ fn second_list(
     rows: &mut [u64],
     at: usize,
 ) -> usize
-    requires { ⌜ Heads (seenBy t (recordAt g (now dump))) pages (now heads) ⌝ }
+    requires { ⌜ Heads (saysBy g (now dump) t) pages (now heads) ⌝ }
     requires { ⌜ length (now heads) ≤ codePlaces ⌝ }
     requires { ⌜ length (now work) ≡ length (now heads) ⌝ }
-    ensures { λ r. ⌜ Put (otherRows (seenBy t (recordAt g (now (dump .entry)))) (textAt Name g (now (dump .entry))) pages) (now (rows .entry)) at (now (rows .exit)) r ⌝ }
+    ensures { λ r. ⌜ Put (otherRows (saysBy g (now (dump .entry)) t) (namesOf g (now (dump .entry))) pages) (now (rows .entry)) at (now (rows .exit)) r ⌝ }
 {
     find_ways(dump, g, t, pages, heads, work);
     list_others(dump, g, t, heads, work, rows, at)
@@ -111,12 +108,12 @@ fn lists(
     work: &mut [u64],
     rows: &mut [u64],
 ) -> Grown
-    requires { ⌜ Heads (seenBy t (recordAt g (now dump))) pages (now heads) ⌝ }
+    requires { ⌜ Heads (saysBy g (now dump) t) pages (now heads) ⌝ }
     requires { ⌜ length (now heads) ≤ codePlaces ⌝ }
     requires { ⌜ length (now work) ≡ length (now heads) ⌝ }
-    requires { ⌜ headCount (seenBy t (recordAt g (now dump))) pages ≤ length (now rows) ⌝ }
-    ensures { λ r. ⌜ r ≡ grown.Rows (length (listedRows (seenBy t (recordAt g (now (dump .entry)))) (textAt Name g (now (dump .entry))) pages)) (length (otherRows (seenBy t (recordAt g (now (dump .entry)))) (textAt Name g (now (dump .entry))) pages)) ⌝ }
-    ensures { λ _. ⌜ now (rows .exit) ≡ inFront (treeRows (seenBy t (recordAt g (now (dump .entry)))) (textAt Name g (now (dump .entry))) pages) (now (rows .entry)) ⌝ }
+    requires { ⌜ headCount (saysBy g (now dump) t) pages ≤ length (now rows) ⌝ }
+    ensures { λ r. ⌜ r ≡ grown.Rows (length (listedRows (saysBy g (now (dump .entry)) t) (namesOf g (now (dump .entry))) pages)) (length (otherRows (saysBy g (now (dump .entry)) t) (namesOf g (now (dump .entry))) pages)) ⌝ }
+    ensures { λ _. ⌜ now (rows .exit) ≡ inFront (treeRows (saysBy g (now (dump .entry)) t) (namesOf g (now (dump .entry))) pages) (now (rows .entry)) ⌝ }
 {
     let listed = first_list(dump, g, t, pages, heads, work, rows);
     let all = second_list(dump, g, t, pages, heads, work, rows, listed);
@@ -137,11 +134,11 @@ fn both_lists(
     work: &mut [u64],
 ) -> Grown
     requires { ⌜ pages < pageValues ⌝ }
-    requires { ⌜ headCount (seenBy t (recordAt g (now dump))) pages ≤ length (now rows) ⌝ }
-    requires { ⌜ length (now heads) ≡ headCount (seenBy t (recordAt g (now dump))) pages ⌝ }
-    requires { ⌜ length (now work) ≡ headCount (seenBy t (recordAt g (now dump))) pages ⌝ }
-    ensures { λ r. ⌜ r ≡ grown.Rows (length (listedRows (seenBy t (recordAt g (now (dump .entry)))) (textAt Name g (now (dump .entry))) pages)) (length (otherRows (seenBy t (recordAt g (now (dump .entry)))) (textAt Name g (now (dump .entry))) pages)) ⌝ }
-    ensures { λ _. ⌜ now (rows .exit) ≡ inFront (treeRows (seenBy t (recordAt g (now (dump .entry)))) (textAt Name g (now (dump .entry))) pages) (now (rows .entry)) ⌝ }
+    requires { ⌜ headCount (saysBy g (now dump) t) pages ≤ length (now rows) ⌝ }
+    requires { ⌜ length (now heads) ≡ headCount (saysBy g (now dump) t) pages ⌝ }
+    requires { ⌜ length (now work) ≡ headCount (saysBy g (now dump) t) pages ⌝ }
+    ensures { λ r. ⌜ r ≡ grown.Rows (length (listedRows (saysBy g (now (dump .entry)) t) (namesOf g (now (dump .entry))) pages)) (length (otherRows (saysBy g (now (dump .entry)) t) (namesOf g (now (dump .entry))) pages)) ⌝ }
+    ensures { λ _. ⌜ now (rows .exit) ≡ inFront (treeRows (saysBy g (now (dump .entry)) t) (namesOf g (now (dump .entry))) pages) (now (rows .entry)) ⌝ }
     ensures { λ _. ⌜ now (heads .exit) ≡ replicate (length (now (heads .entry))) 0 ⌝ }
     ensures { λ _. ⌜ now (work .exit) ≡ replicate (length (now (work .entry))) 0 ⌝ }
 {

@@ -1,19 +1,19 @@
 -- The loop's invariant: the rows of the children among the heads passed were put in front.
-use Prim.Native.Nat.{ℕ, _≤_, _<_, _-_}
+use Prim.Native.Nat.{_≤_, _-_}
 use mathlib.Core.Bool.{true, false}
 use mathlib.Core.Path.{_≡_, sym, ap, _∙_}
 use native.Mathlib.Omega.{arith}
 use borrow.Author.Needs.{needs}
 use lib.ListN.{length}
-use Rattle.page.specs.Records.{isHeader, recordAt}
+use Rattle.page.specs.Records.{isHeader}
 use Rattle.page.proofs.Sound.{else-header}
 use Rattle.chunk.specs.Live.{passed, idsOf}
 use Rattle.chunk.specs.Records.{isGone}
-use Rattle.chunk.specs.Takes.{seenBy}
 use Rattle.chunk.proofs.Living.{passed-none, passed-skip, passed-take, passed-length}
 use Rattle.text.specs.Put.{Put}
 use Rattle.text.proofs.Putting.{nothing, also, kept}
 use Rattle.tree.specs.Children.{saidAt, isChild, childRow, childRows}
+use Rattle.tree.specs.Objects.{saysBy}
 use Rattle.tree.proofs.Entries.{put-length, put-sorted, root-no-child, page-no-child, deleted-no-child, is-child, child-row}
 use Rattle.tree.proofs.NewestHeads.{count-few}
 use Rattle.tree.proofs.children.fill_children.Statement.{statement}
@@ -21,7 +21,7 @@ use Rattle.tree.proofs.children.fill_children.Tie as tie
 
 abbrev Inv-loop : tie.InvT-loop
 Inv-loop dump g t heads rows₀ at₀ i₀ rows at i =
-    let says = seenBy t (recordAt g dump) in
+    let says = saysBy g dump t in
     (i ≤ length heads) × Put (passed (isChild says heads) (childRow says heads) i) rows₀ 0 rows at
 
 abbrev μ-loop : tie.MeasureT-loop
@@ -31,7 +31,7 @@ loop-again : tie.Need-loop-again Inv-loop μ-loop
 loop-again c =
     let q = c .before .before .before .before .loop in
     let a = c .before .before .before .before .before .before .before .before .args in
-    let says = seenBy (a .t) (recordAt (a .g) (a .dump .now)) in
+    let says = saysBy (a .g) (a .dump .now) (a .t) in
     let t = root-no-child says (a .heads .now) (q .i) (sym (c .before .key-of .ensures) ∙ c .if1 .taken) in
     (search needs, rw (passed-skip (isChild says (a .heads .now)) (childRow says (a .heads .now)) (q .i) t) (q .inv .1))
 
@@ -40,7 +40,7 @@ said :
     (c : tie.After-seen-at Inv-loop μ-loop) →
     let q = c .before .before .before .before .before .before .loop in
     let a = c .before .before .before .before .before .before .before .before .before .before .args in
-    saidAt (seenBy (a .t) (recordAt (a .g) (a .dump .now))) (a .heads .now) (q .i) ≡ c .seen-at .result
+    saidAt (saysBy (a .g) (a .dump .now) (a .t)) (a .heads .now) (q .i) ≡ c .seen-at .result
 said c = sym (c .seen-at .ensures ∙ rw (c .before .value-of .ensures))
 
 loop-again-2 : tie.Need-loop-again-2 Inv-loop μ-loop
@@ -48,7 +48,7 @@ loop-again-2 c =
     let k = c .before in
     let q = k .before .before .before .before .before .before .loop in
     let a = k .before .before .before .before .before .before .before .before .before .before .args in
-    let says = seenBy (a .t) (recordAt (a .g) (a .dump .now)) in
+    let says = saysBy (a .g) (a .dump .now) (a .t) in
     let t = page-no-child says (a .heads .now) (q .i) (rw (said k) (else-header (k .seen-at .result) (c .match .keys2))) in
     (search needs, rw (passed-skip (isChild says (a .heads .now)) (childRow says (a .heads .now)) (q .i) t) (q .inv .1))
 
@@ -58,7 +58,7 @@ loop-again-3 c =
     let k = m .before .before in
     let q = k .before .before .before .before .before .before .loop in
     let a = k .before .before .before .before .before .before .before .before .before .before .args in
-    let says = seenBy (a .t) (recordAt (a .g) (a .dump .now)) in
+    let says = saysBy (a .g) (a .dump .now) (a .t) in
     let e : isGone (saidAt says (a .heads .now) (q .i)) ≡ true =
     ap isGone (said k ∙ m .r .given .1) ∙ sym (c .before .gone-under .ensures) ∙ c .if2 .taken in
     let t = deleted-no-child says (a .heads .now) (q .i) e in
@@ -72,7 +72,7 @@ loop-again-4 c =
     let k = m .before .before in
     let q = k .before .before .before .before .before .before .loop in
     let a = k .before .before .before .before .before .before .before .before .before .before .args in
-    let says = seenBy (a .t) (recordAt (a .g) (a .dump .now)) in
+    let says = saysBy (a .g) (a .dump .now) (a .t) in
     let e = said k ∙ m .r .given .1 in
     let g : isGone (saidAt says (a .heads .now) (q .i)) ≡ false = ap isGone e ∙ sym (f .before .gone-under .ensures) ∙ f .if2 .left in
     let d = k .before .before in
@@ -85,7 +85,7 @@ put-all :
     (c : tie.After-loop Inv-loop μ-loop) →
     let q = c .before .loop in
     let a = c .before .before .before .before .before .args in
-    let says = seenBy (a .t) (recordAt (a .g) (a .dump .now)) in
+    let says = saysBy (a .g) (a .dump .now) (a .t) in
     Put (passed (isChild says (a .heads .now)) (childRow says (a .heads .now)) (length (a .heads .now))) (a .rows .now) 0 (q .rows) (q .at)
 put-all c =
     let q = c .before .loop in
@@ -95,12 +95,12 @@ put-all c =
 fits :
     (c : tie.After-loop Inv-loop μ-loop) →
     let a = c .before .before .before .before .before .args in
-    let says = seenBy (a .t) (recordAt (a .g) (a .dump .now)) in
+    let says = saysBy (a .g) (a .dump .now) (a .t) in
     length (passed (isChild says (a .heads .now)) (childRow says (a .heads .now)) (length (a .heads .now))) ≤ length (a .rows .now)
 fits c =
     let s = c .before .before .before .before .before in
     let a = s .args in
-    let says = seenBy (a .t) (recordAt (a .g) (a .dump .now)) in
+    let says = saysBy (a .g) (a .dump .now) (a .t) in
     let test = isChild says (a .heads .now) in
     omega (arith, s .pre .1, passed-length test (childRow says (a .heads .now)) (length (a .heads .now)), count-few test (length (a .heads .now)))
 

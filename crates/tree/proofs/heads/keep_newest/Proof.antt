@@ -1,17 +1,16 @@
 -- The loop's invariant is `Kept`.
-use Prim.Native.Nat.{_≤_, _-_}
-use mathlib.Core.Path.{_≡_, sym, ap, _∙_}
+use Prim.Native.Nat.{_-_}
+use mathlib.Core.Path.{_≡_, sym, _∙_}
 use native.Mathlib.Omega.{arith}
 use borrow.Author.Needs.{needs}
 use lib.ListN.{length, length-set}
-use Rattle.page.specs.Records.{recordAt}
-use Rattle.chunk.specs.Takes.{seenBy}
+use Rattle.tree.specs.Objects.{saysBy}
 use Rattle.tree.proofs.Keeping.{Kept, kept-none, kept-same, kept-other, kept-end, each-none}
 use Rattle.tree.proofs.heads.keep_newest.Statement.{statement}
 use Rattle.tree.proofs.heads.keep_newest.Tie as tie
 
 abbrev Inv-loop : tie.InvT-loop
-Inv-loop dump g t rows₀ n best₀ at₀ i₀ rows best at i = Kept (seenBy t (recordAt g dump)) rows₀ rows best at i
+Inv-loop dump g t rows₀ n best₀ at₀ i₀ rows best at i = Kept (saysBy g dump t) rows₀ rows best at i
 
 abbrev μ-loop : tie.MeasureT-loop
 μ-loop dump g t rows₀ n best₀ at₀ i₀ rows best at i = n - i

@@ -1,23 +1,19 @@
 -- Listing a directory at a depth lists entries with one step less left, and listing an entry with so many left lists a directory at that depth: twice the
 -- depth for a directory, and one more than twice what is left for an entry, fall at each call. The loop's invariant is `Done`.
 use Prim.Native.Nat.{ℕ, _+_, _-_, _≤_, _<_}
-use mathlib.Core.Path.{_≡_, refl, sym, ap, _∙_}
+use mathlib.Core.Path.{_≡_, sym, ap, _∙_}
 use native.Mathlib.Omega.{arith}
 use borrow.Author.Needs.{needs}
 use borrow.Author.Tests.{not-true, not-false}
 use borrow.Fn.Kinds.{In}
 use borrow.Fn.PlainCycle.{Measures, is, falls, and}
-use Rattle.page.specs.Asked.{textAt}
-use Rattle.page.specs.Records.{recordAt}
-use Rattle.page.specs.declared.fields.Text.the-variants.{Name}
 use Rattle.page.specs.declared.record.Record.{Record}
 use Rattle.sort.specs.Packed.{packed, keyOf, valueOf}
-use Rattle.chunk.specs.Takes.{seenBy}
 use lib.ListN.{getD}
-use Rattle.text.specs.Put.{Put}
 use Rattle.text.proofs.Putting.{nothing, kept}
-use Rattle.tree.specs.Children.{objectAt, saidAt}
-use Rattle.tree.specs.Objects.{standBy, isStanding}
+use Rattle.tree.specs.Children.{saidAt}
+use Rattle.tree.specs.Heads.{objectAt}
+use Rattle.tree.specs.Objects.{standBy, isStanding, saysBy, namesOf}
 use Rattle.tree.specs.Paths.{childrenOf}
 use Rattle.tree.proofs.Listing.{no-level, Done, done-none, done-more, done-all, level-done, plain-put, standing-put}
 use Rattle.tree.proofs.Segments.{Segment, rows-sorted, row-inside, row-segment}
@@ -61,11 +57,11 @@ list-entry-below t = and 4 list-entry-kinds.ps (falls 4 list-entry-kinds.ps _<_ 
 -- the rows of the entries from the first on were put, and where those of the directory begin and end is known
 abbrev Inv-loop : list-directory-lts.InvT-loop
 Inv-loop dump g t pages heads children directory depth key rows₀ at first end next₀ i₀ rows next i =
-    let says = seenBy t (recordAt g dump) in
-    let names = textAt Name g dump in
+    let says = saysBy g dump t in
+    let names = namesOf g dump in
     (first ≤ i)
     × (i ≤ end)
-    × Segment children (childrenOf says names pages directory) (objectAt says heads) first end
+    × Segment children (childrenOf says names pages directory) (objectAt heads) first end
     × Done says names pages (depth - 1) key directory first at rows₀ rows next i
 
 abbrev μ-loop : list-directory-lts.MeasureT-loop
@@ -87,16 +83,16 @@ pub +list-directory+list-entry-spec : {M : Type 1} → statement M
     μ-loop
     (λ c. rw (no-level _ _ _ _ _ _ _ (c .if1 .taken)) (nothing _ _ (omega arith) (omega arith)))
     (search needs)
-    (λ c κs. let s = c .before .before .before .before .before .before in rows-sorted _ (textAt Name (s .args .g) (s .args .dump .now)) _ (omega arith) _ (s .pre .1 .0) _ (s .pre .1 .1))
+    (λ c κs. let s = c .before .before .before .before .before .before in rows-sorted _ (namesOf (s .args .g) (s .args .dump .now)) _ (omega arith) _ (s .pre .1 .0) _ (s .pre .1 .1))
     (search needs)
-    (λ c κs. let s = c .before .before .before .before .before .before .before .before in rows-sorted _ (textAt Name (s .args .g) (s .args .dump .now)) _ (omega arith) _ (s .pre .1 .0) _ (s .pre .1 .1))
+    (λ c κs. let s = c .before .before .before .before .before .before .before .before in rows-sorted _ (namesOf (s .args .g) (s .args .dump .now)) _ (omega arith) _ (s .pre .1 .0) _ (s .pre .1 .1))
     (λ c.
     let s = c .before .before .before .before .before .before .before .before .before in
     let a = s .args in
-    let says = seenBy (a .t) (recordAt (a .g) (a .dump .now)) in
+    let says = saysBy (a .g) (a .dump .now) (a .t) in
     let f = c .before .before in
-    let g : Segment (a .children .now) (childrenOf says (textAt Name (a .g) (a .dump .now)) (a .pages) (a .directory)) (objectAt says (a .heads .now)) (f .first-from .result) (c .first-from2 .result) =
-    row-segment says (textAt Name (a .g) (a .dump .now)) (a .pages) (omega (arith, s .fits)) (a .heads .now) (s .pre .1 .0) (a .children .now) (a .directory)
+    let g : Segment (a .children .now) (childrenOf says (namesOf (a .g) (a .dump .now)) (a .pages) (a .directory)) (objectAt (a .heads .now)) (f .first-from .result) (c .first-from2 .result) =
+    row-segment says (namesOf (a .g) (a .dump .now)) (a .pages) (omega (arith, s .fits)) (a .heads .now) (s .pre .1 .0) (a .children .now) (a .directory)
     (f .first-from .result) (c .first-from2 .result) (f .before .pack .result) (c .before .pack2 .result) (s .pre .1 .1) (f .before .pack .ensures) (c .before .pack2 .ensures)
     (f .first-from .ensures) (c .first-from2 .ensures) in
     (omega arith, g .order, g, done-none _ _ _ _ _ (a .directory) (f .first-from .result) _ _ (omega (arith, s .good .1 .1 .1 .1 .1 .1 .1 .1 .1 .0)) (omega (arith, s .fits))))
@@ -151,7 +147,7 @@ pub +list-directory+list-entry-spec : {M : Type 1} → statement M
     omega (
       arith,
       c .before .value-of .ensures,
-      row-inside (seenBy (a .t) (recordAt (a .g) (a .dump .now))) (textAt Name (a .g) (a .dump .now)) (a .pages) (omega (arith, s .fits)) (a .heads .now) (s .pre .1 .0) (a .children .now) (a .i) (s .pre .1 .1 .0) (s .pre .1 .1 .1),
+      row-inside (saysBy (a .g) (a .dump .now) (a .t)) (namesOf (a .g) (a .dump .now)) (a .pages) (omega (arith, s .fits)) (a .heads .now) (s .pre .1 .0) (a .children .now) (a .i) (s .pre .1 .1 .0) (s .pre .1 .1 .1),
     ))
     (search needs)
     (search needs)
@@ -166,14 +162,14 @@ pub +list-directory+list-entry-spec : {M : Type 1} → statement M
     let u = v .before .before in
     let s = c .before .before .before .before .before .before .before .before .before .before .before .before .before .before .before .before in
     let a = s .args in
-    let says = seenBy (a .t) (recordAt (a .g) (a .dump .now)) in
+    let says = saysBy (a .g) (a .dump .now) (a .t) in
     let j = valueOf (getD (a .children .now) (a .i) 0) in
     let page : v .value-of2 .result ≡ valueOf (getD (a .heads .now) j 0) = v .value-of2 .ensures ∙ ap (λ (x : ℕ). valueOf (getD (a .heads .now) x 0)) (u .value-of .ensures) in
     let row : p .before .pack .result ≡ packed (a .key) (valueOf (getD (a .heads .now) j 0)) = p .before .pack .ensures ∙ ap (packed (a .key)) page in
     let stands : k .is-standing .result ≡ isStanding (standBy (saidAt says (a .heads .now) j)) =
     k .is-standing .ensures ∙ ap (λ (x : Record). isStanding (standBy x)) (k .before .seen-at .ensures ∙ ap says page) in
-    let inside = row-inside says (textAt Name (a .g) (a .dump .now)) (a .pages) (omega (arith, s .fits)) (a .heads .now) (s .pre .1 .0) (a .children .now) (a .i) (s .pre .1 .1 .0) (s .pre .1 .1 .1) in
-    plain-put says (textAt Name (a .g) (a .dump .now)) (a .pages) (a .heads .now) (s .pre .1 .0) j inside (a .left) (a .key) (a .at) _ _ _ _ row
+    let inside = row-inside says (namesOf (a .g) (a .dump .now)) (a .pages) (omega (arith, s .fits)) (a .heads .now) (s .pre .1 .0) (a .children .now) (a .i) (s .pre .1 .1 .0) (s .pre .1 .1 .1) in
+    plain-put says (namesOf (a .g) (a .dump .now)) (a .pages) (a .heads .now) (s .pre .1 .0) j inside (a .left) (a .key) (a .at) _ _ _ _ row
     (sym stands ∙ not-true (k .is-standing .result) (c .if1 .taken)) (p .put-row .ensures))
     (search needs)
     (search needs)
@@ -186,17 +182,17 @@ pub +list-directory+list-entry-spec : {M : Type 1} → statement M
     let u = v .before .before in
     let s = c .before .before .before .before .before .before .before .before .before .before .before .before .before .before .before .before .before .before .before .before .before .before in
     let a = s .args in
-    let says = seenBy (a .t) (recordAt (a .g) (a .dump .now)) in
+    let says = saysBy (a .g) (a .dump .now) (a .t) in
     let j = valueOf (getD (a .children .now) (a .i) 0) in
     let page : v .value-of2 .result ≡ valueOf (getD (a .heads .now) j 0) = v .value-of2 .ensures ∙ ap (λ (x : ℕ). valueOf (getD (a .heads .now) x 0)) (u .value-of .ensures) in
     let row : p .before .pack .result ≡ packed (a .key) (valueOf (getD (a .heads .now) j 0)) = p .before .pack .ensures ∙ ap (packed (a .key)) page in
     let stands : k .is-standing .result ≡ isStanding (standBy (saidAt says (a .heads .now) j)) =
     k .is-standing .ensures ∙ ap (λ (x : Record). isStanding (standBy x)) (k .before .seen-at .ensures ∙ ap says page) in
-    let inside = row-inside says (textAt Name (a .g) (a .dump .now)) (a .pages) (omega (arith, s .fits)) (a .heads .now) (s .pre .1 .0) (a .children .now) (a .i) (s .pre .1 .1 .0) (s .pre .1 .1 .1) in
+    let inside = row-inside says (namesOf (a .g) (a .dump .now)) (a .pages) (omega (arith, s .fits)) (a .heads .now) (s .pre .1 .0) (a .children .now) (a .i) (s .pre .1 .1 .0) (s .pre .1 .1 .1) in
     let l = c .before .before in
     let d = l .before .before in
-    let o : d .before .key-of .result ≡ objectAt says (a .heads .now) j =
+    let o : d .before .key-of .result ≡ objectAt (a .heads .now) j =
     d .before .key-of .ensures ∙ ap (λ (x : ℕ). keyOf (getD (a .heads .now) x 0)) (u .value-of .ensures) in
-    standing-put says (textAt Name (a .g) (a .dump .now)) (a .pages) (a .heads .now) (s .pre .1 .0) j inside (a .left) (a .key) (a .at) _ _ _ _ _ _ _ row
+    standing-put says (namesOf (a .g) (a .dump .now)) (a .pages) (a .heads .now) (s .pre .1 .0) j inside (a .left) (a .key) (a .at) _ _ _ _ _ _ _ row
     (d .key-behind .ensures) (sym stands ∙ not-false (k .is-standing .result) (c .before .before .before .before .before .before .if1 .left)) (p .put-row .ensures)
     (rw (← o) (l .list-directory .ensures)))

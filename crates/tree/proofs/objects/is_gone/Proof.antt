@@ -1,5 +1,4 @@
 -- A page is gone by the parent that it names.
-use mathlib.Core.Path.{sym, _∙_}
 use borrow.Author.Needs.{needs}
 use Rattle.tree.proofs.Othering.{gone-parent}
 use Rattle.tree.proofs.objects.is_gone.Statement.{statement}

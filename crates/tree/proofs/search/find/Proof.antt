@@ -1,5 +1,5 @@
 -- A row with the key stands at the first word that is not below the key's least number, or there is none.
-use mathlib.Core.Path.{sym, _∙_}
+use mathlib.Core.Path.{_∙_}
 use native.Mathlib.Omega.{arith}
 use borrow.Author.Needs.{needs}
 use Rattle.sort.specs.Packed.{packed}

@@ -5,9 +5,8 @@ use native.Mathlib.Omega.{arith}
 use borrow.Author.Needs.{needs}
 use lib.ListN.{length, take, drop}
 use lib.Seq.{length-take-le}
-use Rattle.page.specs.Records.{recordAt}
-use Rattle.chunk.specs.Takes.{seenBy}
 use Rattle.tree.specs.Heads.{isHead}
+use Rattle.tree.specs.Objects.{saysBy}
 use Rattle.tree.proofs.Joined.{cleared-all}
 use Rattle.tree.proofs.NewestHeads.{heads-are, count-few}
 use Rattle.tree.proofs.whole.both_lists.Statement.{statement}
@@ -28,7 +27,7 @@ lists-requires c κs =
     let f = c .before .before .before .before .before in
     let s = f .before .before .before .before .before .before in
     let a = s .args in
-    let says = seenBy (a .t) (recordAt (a .g) (a .dump .now)) in (
+    let says = saysBy (a .g) (a .dump .now) (a .t) in (
       rw (f .fill-heads .ensures .1) (heads-are says (a .pages) (omega (arith, s .fits))),
       (
         omega (arith, in-front f, f .fill-heads .ensures .0, s .pre .0, s .pre .1 .1 .0, count-few (isHead says) (a .pages)),

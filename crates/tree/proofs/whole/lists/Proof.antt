@@ -1,11 +1,8 @@
 -- The rows of the first list, and behind them those of the second: they fit, since they are no more than the headers.
-use mathlib.Core.Path.{_≡_, ap₂, _∙_}
+use mathlib.Core.Path.{ap₂, _∙_}
 use native.Mathlib.Omega.{arith}
 use borrow.Author.Needs.{needs}
-use Rattle.page.specs.Asked.{textAt}
-use Rattle.page.specs.Records.{recordAt}
-use Rattle.page.specs.declared.fields.Text.the-variants.{Name}
-use Rattle.chunk.specs.Takes.{seenBy}
+use Rattle.tree.specs.Objects.{saysBy, namesOf}
 use Rattle.tree.specs.declared.whole.Grown.the-variants.{Rows}
 use Rattle.tree.proofs.Joined.{Joined, joined}
 use Rattle.tree.proofs.whole.lists.Statement.{statement}
@@ -22,7 +19,7 @@ put :
     (c : tie.After-second-list) →
     let f = c .before .before .before .before .before .before .before in
     let a = f .before .before .before .before .before .before .before .args in
-    Joined (seenBy (a .t) (recordAt (a .g) (a .dump .now))) (textAt Name (a .g) (a .dump .now)) (a .pages) (a .rows .now) (c .second-list .last .1 .1 .1 .1 .1 .1 .0)
+    Joined (saysBy (a .g) (a .dump .now) (a .t)) (namesOf (a .g) (a .dump .now)) (a .pages) (a .rows .now) (c .second-list .last .1 .1 .1 .1 .1 .1 .0)
     (f .first-list .result) (c .second-list .result)
 put c =
     let f = c .before .before .before .before .before .before .before in
