@@ -21,5 +21,6 @@ pub mod Answering
 pub mod Texting
 pub mod Positions
 pub mod RowsText
+pub mod Told
 pub mod Shelf
 pub mod Example
