@@ -1,7 +1,7 @@
 -- What is told of a dump's tree is so: the rows that an accepted call leaves make the text of both lists, letter by letter, and each path of the first.
 use Prim.Native.Nat.{ℕ, _+_, _<_}
 use mathlib.Core.List.{List, _++_}
-use mathlib.Core.Path.{_≡_, refl, ap}
+use mathlib.Core.Path.{_≡_, refl}
 use native.Mathlib.Omega.{arith}
 use lib.ListN.{length, take, getD, length-append}
 use lib.Seq.{take-at}
@@ -14,7 +14,8 @@ use Rattle.page.proofs.Searching.{by-test, clash}
 use Rattle.chunk.specs.Moments.{isMissing, takesAt}
 use Rattle.page.specs.Records.{recordAt}
 use Rattle.chunk.specs.declared.moment.Moment.{Moment}
-use Rattle.tree.specs.Answers.{saysAt, namesAt, tooFew, treeOn, rowsLeft}
+use Rattle.tree.specs.Answers.{saysAt, tooFew, treeOn, rowsLeft}
+use Rattle.tree.specs.Objects.{namesOf}
 use Rattle.tree.specs.Paths.{Entry, listed}
 use Rattle.tree.specs.Rows.{listedRows, otherRows, treeRows, rowsText, pathAt}
 use Rattle.tree.specs.Tree.{others, treeText}
@@ -27,18 +28,18 @@ module _ (g : Geometry) (dump : List ℕ) (m : Moment) where
   pub record Told (a b : ℕ) (rows : List ℕ) : Type 0 where
     pub pages : ℕ
     pub accepted : openedOf g (length dump) ≡ opened.Pages pages
-    pub first : a ≡ length (listed (saysAt g dump m) (namesAt g dump m) pages)
-    pub second : b ≡ length (others (saysAt g dump m) (namesAt g dump m) pages)
-    pub text : rowsText g dump (take (a + b) rows) a ≡ treeText (saysAt g dump m) (namesAt g dump m) pages
-    pub paths : (i : ℕ) (none : Entry) → i < a → pathAt g dump (take (a + b) rows) i ≡ getD (listed (saysAt g dump m) (namesAt g dump m) pages) i none .path
+    pub first : a ≡ length (listed (saysAt g dump m) (namesOf g dump) pages)
+    pub second : b ≡ length (others (saysAt g dump m) (namesOf g dump) pages)
+    pub text : rowsText g dump (take (a + b) rows) a ≡ treeText (saysAt g dump m) (namesOf g dump) pages
+    pub paths : (i : ℕ) (none : Entry) → i < a → pathAt g dump (take (a + b) rows) i ≡ getD (listed (saysAt g dump m) (namesOf g dump) pages) i none .path
 
   -- by the number of pages
   told-by : (n : ℕ) → openedOf g (length dump) ≡ opened.Pages n → (rows : List ℕ) →
-      Told (length (listedRows (saysAt g dump m) (namesAt g dump m) n)) (length (otherRows (saysAt g dump m) (namesAt g dump m) n)) (treeRows (saysAt g dump m) (namesAt g dump m) n ++ rows)
+      Told (length (listedRows (saysAt g dump m) (namesOf g dump) n)) (length (otherRows (saysAt g dump m) (namesOf g dump) n)) (treeRows (saysAt g dump m) (namesOf g dump) n ++ rows)
   unfolding treeRows
   told-by n o rows =
       let says = saysAt g dump m in
-      let names = namesAt g dump m in
+      let names = namesOf g dump in
       let all = listedRows says names n ++ otherRows says names n in
       let h = opened-pages g (length dump) n o in
       let e : take (length (listedRows says names n) + length (otherRows says names n)) (all ++ rows) ≡ all =
@@ -66,7 +67,7 @@ module _ (g : Geometry) (dump : List ℕ) (m : Moment) where
           by-test (tooFew g dump m (length rows) heads work n) _
           (λ u. let c : Refused _ _ ≡ Rows a b = rw (o, t, u) at e in clash (cc))
           (λ u.
-          let c : Rows (length (listedRows (saysAt g dump m) (namesAt g dump m) n)) (length (otherRows (saysAt g dump m) (namesAt g dump m) n)) ≡ Rows a b = rw (o, t, u) at e in
-          let x : length (listedRows (saysAt g dump m) (namesAt g dump m) n) ≡ a = cc in
-          let y : length (otherRows (saysAt g dump m) (namesAt g dump m) n) ≡ b = cc in
+          let c : Rows (length (listedRows (saysAt g dump m) (namesOf g dump) n)) (length (otherRows (saysAt g dump m) (namesOf g dump) n)) ≡ Rows a b = rw (o, t, u) at e in
+          let x : length (listedRows (saysAt g dump m) (namesOf g dump) n) ≡ a = cc in
+          let y : length (otherRows (saysAt g dump m) (namesOf g dump) n) ≡ b = cc in
           rw (o, t, u, ← x, ← y) (told-by n o _)))
