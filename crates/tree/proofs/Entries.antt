@@ -1,21 +1,20 @@
 -- The children's rows: which objects they are, and that those of one directory stand side by side, ascending by id.
 use Prim.Native.Nat.{ℕ, _+_, _-_, _≤_, _<_}
 use mathlib.Core.Bool.{Bool, true, false, not, _&&_}
-use mathlib.Core.List.{List, _++_, map}
-use mathlib.Core.Option.{some}
+use mathlib.Core.List.{List, _++_}
 use mathlib.Core.Path.{_≡_, refl, sym, ap, _∙_}
 use native.Mathlib.Nat.{zero-add, le-refl}
 use native.Mathlib.Omega.{arith}
 use borrow.Author.Tests.{eq-eqb, ne-eqb}
 use lib.Dec.{eqb}
-use lib.ListN.{length, take, drop, getD, length-map}
+use lib.ListN.{length, take, drop, getD}
 use lib.Seq.{take-at}
 use Rattle.page.specs.Records.{isHeader}
 use Rattle.page.specs.declared.record.Record.{Record}
 use Rattle.page.specs.declared.record.Record.the-variants.{Header}
 use Rattle.page.specs.declared.record.Header as header
 use Rattle.sort.specs.Arranged.{arranged}
-use Rattle.sort.specs.Packed.{wordValues, packed, keyOf, valueOf}
+use Rattle.sort.specs.Packed.{packed, keyOf, valueOf}
 use Rattle.sort.proofs.Arranging.{arranged-length}
 use Rattle.sort.proofs.Ascending.{Ascends}
 use Rattle.sort.proofs.Packing.{packed-key, packed-value}
@@ -24,11 +23,11 @@ use Rattle.chunk.specs.Records.{isGone}
 use Rattle.chunk.proofs.Living.{ids-of, ids-ascend-below}
 use Rattle.text.specs.Put.{counted, Put}
 use Rattle.text.proofs.Putting.{whole, exact}
-use Rattle.tree.specs.Children.{saidAt, isChild, childRow, childRows}
-use Rattle.tree.specs.Heads.{Heads, objectAt}
-use Rattle.tree.specs.Objects.{root, headOf, pageOf, parentOf, standOf, standBy, parentIn}
+use Rattle.tree.specs.Children.{isChild, childRow, childRows}
+use Rattle.tree.specs.Heads.{Heads, objectAt, saidAt}
+use Rattle.tree.specs.Objects.{root, parentIn}
 use Rattle.tree.specs.Search.{Sorted}
-use Rattle.tree.proofs.Places.{in-at, at-in, map-at, ascends-at, arranged-sorted}
+use Rattle.tree.proofs.Places.{at-in, arranged-sorted}
 
 -- words that were put in front of others are sorted
 pub put-length : {text before after : List ℕ} {next : ℕ} → Put text before 0 after next → length text ≤ length before → next ≡ length text
@@ -76,35 +75,7 @@ module _ (says : ℕ → Record) (heads : List ℕ) (j : ℕ) where
 
 -- the children of n pages with these newest headers
 module _ (says : ℕ → Record) (n : ℕ) (heads : List ℕ) (w : Heads says n heads) where
-  -- the object of row j, by its newest header
-  module _ (j : ℕ) (h : j < length heads) where
-    pub head-at : headOf says n (objectAt heads j) ≡ some (valueOf (getD heads j 0))
-    head-at = w .right (getD heads j 0) (at-in j heads h)
-
-    pub page-at : pageOf says n (objectAt heads j) ≡ valueOf (getD heads j 0)
-    page-at = rw head-at
-
-    pub stand-at : standOf says n (objectAt heads j) ≡ standBy (saidAt says heads j)
-    unfolding standOf
-    stand-at = rw head-at
-
-    pub parent-at : parentOf says n (objectAt heads j) ≡ parentIn (saidAt says heads j)
-    unfolding parentOf
-    parent-at = rw head-at
-
-  -- objects of later rows are above those of earlier ones
-  pub objects-rise : (i j : ℕ) → i < j → j < length heads → objectAt heads i < objectAt heads j
-  objects-rise i j h k =
-      let l = length-map heads keyOf in
-      let a = ascends-at 0 i j (map keyOf heads) (w .ascend) h (omega arith) in
-      rw (map-at keyOf i heads (omega arith), map-at keyOf j heads k) at a
-
-  -- an object with a header has a row
-  pub head-stands : (o p : ℕ) → headOf says n o ≡ some p → p < wordValues → (j : ℕ) × (j < length heads) × (objectAt heads j ≡ o) × (valueOf (getD heads j 0) ≡ p)
-  head-stands o p e h =
-      let s = in-at (packed o p) heads (w .all o p e) in
-      (s .place, s .inside, ap keyOf (s .here) ∙ packed-key o p h, ap valueOf (s .here) ∙ packed-value o p h)
-
+  -- they are in order
   pub children-sorted : Sorted (childRows says heads)
   unfolding childRows idsOf
   children-sorted = arranged-sorted (passed (isChild says heads) (childRow says heads) (length heads))

@@ -1,5 +1,7 @@
 pub mod Searching
 pub mod Places
+pub mod Standing
+pub mod HeadRows
 pub mod Passing
 pub mod Pigeons
 pub mod Ways

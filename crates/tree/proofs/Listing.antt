@@ -9,20 +9,15 @@ use native.Mathlib.Numerals.{sub-one}
 use native.Mathlib.Omega.{arith}
 use lib.ListN.{length, take, getD, length-append}
 use lib.Seq.{take-suc, take-all}
-use Rattle.page.specs.Records.{isHeader}
 use Rattle.page.specs.declared.record.Record.{Record}
-use Rattle.page.specs.declared.record.Record.the-variants.{Other, Header, Data}
-use Rattle.page.proofs.Searching.{by-test, clash}
 use Rattle.sort.specs.Packed.{packed, valueOf}
-use Rattle.chunk.specs.Records.{isGone}
 use Rattle.text.specs.Put.{most, counted, Put}
 use Rattle.text.proofs.Putting.{also, nothing}
-use Rattle.tree.specs.Children.{saidAt}
-use Rattle.tree.specs.Heads.{Heads, objectAt}
-use Rattle.tree.specs.Objects.{standBy, isStanding, isDirectory}
+use Rattle.tree.specs.Heads.{Heads, objectAt, saidAt}
+use Rattle.tree.specs.Objects.{standBy, isStanding}
 use Rattle.tree.specs.Paths.{childrenOf}
 use Rattle.tree.specs.Rows.{keyBehind, eachAt, rowsAt, rowsUnder}
-use Rattle.tree.proofs.Entries.{page-at, stand-at}
+use Rattle.tree.proofs.HeadRows.{page-at, stand-at}
 use Rattle.tree.proofs.Segments.{Segment}
 
 -- two positions that count alike
@@ -157,15 +152,3 @@ module _ (says : ℕ → Record) (names : ℕ → List ℕ) (n : ℕ) where
         let c : counted next ≡ counted (at + 1) = ap counted (p .behind) ∙ count-twice (at + 1) in
         let f = under-same k (keyBehind at) (objectAt heads j) next (at + 1) c in
         rw (entry-standing e, ← f, ← q, ← b) (also p u)
-
--- how an object stands, by its newest header
-pub other-standing : (k : Record) → isHeader k ≡ false → isStanding (standBy k) ≡ false
-other-standing Other e = refl
-other-standing (Header h) e = clash (cc)
-other-standing (Data d) e = refl
-
-pub gone-standing : (k : Record) → isGone k ≡ true → isStanding (standBy k) ≡ false
-gone-standing k e = rw e
-
-pub kept-standing : (k : Record) → isGone k ≡ false → isStanding (standBy k) ≡ isDirectory k
-kept-standing k e = rw e (by-test (isDirectory k) _ (λ t. rw t) (λ t. rw t))

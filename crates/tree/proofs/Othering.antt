@@ -12,27 +12,26 @@ use lib.Dec.{eqb}
 use lib.ListN.{length, getD, take}
 use lib.Seq.{take-suc, take-all}
 use Rattle.page.specs.declared.record.Record.{Record}
-use Rattle.page.specs.declared.record.Record.the-variants.{Other, Header, Data}
 use Rattle.page.proofs.Searching.{by-test}
 use Rattle.sort.specs.Packed.{wordValues, packed, keyOf, valueOf}
 use Rattle.sort.proofs.Ascending.{In, Ascends, same-members}
 use Rattle.sort.proofs.Packing.{packed-key, packed-value}
 use Rattle.chunk.specs.Live.{liveIds}
-use Rattle.chunk.specs.Records.{goneUnder, isGone}
-use Rattle.chunk.proofs.Living.{live-in, live-of, live-ids-ascend}
+use Rattle.chunk.specs.Records.{isGone}
+use Rattle.chunk.proofs.Living.{live-of, live-ids-ascend}
 use Rattle.text.specs.Put.{most, Put}
 use Rattle.text.proofs.Putting.{nothing, also, kept}
 use Rattle.tree.specs.Climbs.{Headed, Ways, TellsListed, reasonIn, isOther, otherRow, TellsOther, PutsOthers}
-use Rattle.tree.specs.Heads.{Heads}
-use Rattle.tree.specs.Objects.{root, parentIn, pageOf}
+use Rattle.tree.specs.Objects.{root, pageOf}
 use Rattle.tree.specs.Paths.{keep, listed}
 use Rattle.tree.specs.Rows.{numberOf, otherRows}
 use Rattle.tree.specs.Tree.{isIn, others}
 use Rattle.tree.specs.Ways.{reasonOf}
-use Rattle.tree.proofs.Climbing.{get-in}
+use Rattle.tree.proofs.HeadRows.{row-live}
 use Rattle.tree.proofs.Lists.{keep-join, keep-twice, keep-in, keep-of, ascends-lower}
+use Rattle.tree.proofs.Places.{at-in}
 use Rattle.tree.proofs.Settled.{settled-reason}
-use Rattle.tree.proofs.Ways.{head-below}
+use Rattle.tree.proofs.Standing.{head-below}
 
 -- ---- what each of a list is made
 
@@ -97,17 +96,7 @@ module _ (f : ℕ → ℕ) (t : ℕ → Bool) (L : List ℕ) (i : ℕ) (h : i < 
 
 -- ---- the second list
 
--- a page is gone by the parent that it names
-pub gone-parent : (r : Record) → isGone r ≡ goneUnder (parentIn r)
-gone-parent Other = refl
-gone-parent (Header h) = refl
-gone-parent (Data d) = refl
-
 module _ (says : ℕ → Record) (n : ℕ) (heads : List ℕ) where
-  -- the object of a row whose header is not gone is live
-  pub row-live : Heads says n heads → (row : ℕ) → In row heads → isGone (says (valueOf row)) ≡ false → In (keyOf row) (liveIds says n)
-  row-live w row i e = live-in says n (keyOf row) record { header = valueOf row; newest-header = w .right row i; kept = e }
-
   module _ (w : Headed says n heads) where
     -- whether a row's header is not gone
     abbrev here : ℕ → Bool
@@ -122,7 +111,7 @@ module _ (says : ℕ → Record) (n : ℕ) (heads : List ℕ) where
         (λ x i.
         let r = map-of keyOf x (keep here heads) i in
         let k = keep-of here (r .0) heads (r .1) in
-        rw (r .2) at (row-live (w .right) (r .0) (k .0) (not-true _ (k .1))))
+        rw (r .2) at (row-live says n heads (w .right) (r .0) (k .0) (not-true _ (k .1))))
         (λ x i.
         let l = live-of says n x i in
         let p = l .header in
@@ -172,7 +161,7 @@ module _ (says : ℕ → Record) (heads words : List ℕ) (i : ℕ) where
       (r : Bool) → i < length heads → (keyOf row ≡ root → ⊥) → isGone (says (valueOf row)) ≡ false → TellsListed words i r →
       TellsOther says heads words i (not r)
   tells-else r h d e f names n bound rows w =
-      let q = f says names n heads bound w (row-live says n heads rows row (get-in heads i h) e) d in
+      let q = f says names n heads bound w (row-live says n heads rows row (at-in i heads h) e) d in
       rw (e, ne-eqb (keyOf row) root d, q)
 
 -- ---- its rows one after the other

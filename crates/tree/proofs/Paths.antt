@@ -8,7 +8,7 @@ use Prim.Native.Nat.{ℕ, zero, suc, _+_, _≤_, _<_, zero-le}
 use mathlib.Core.Bool.{true, false, not}
 use mathlib.Core.List.{List, [], _∷_, _++_, append-assoc, append-nil}
 use mathlib.Core.Logic.{_⊎_, inl, inr, ⊎-elim}
-use mathlib.Core.Option.{Option, none, some}
+use mathlib.Core.Option.{none}
 use mathlib.Core.Path.{_≡_, refl, sym, ap, _∙_}
 use native.Mathlib.Nat.{le-refl, not-suc-le-zero, eq-or-lt-of-le, le-of-suc-le-suc}
 use native.Mathlib.Omega.{arith}
@@ -19,14 +19,15 @@ use Rattle.page.specs.declared.record.Record.{Record}
 use Rattle.page.proofs.Layouts.{and-left, and-right}
 use Rattle.page.proofs.Searching.{clash, by-test}
 use Rattle.sort.proofs.Ascending.{In, Ascends, ascends-in}
-use Rattle.chunk.specs.Records.{isGone}
 use Rattle.chunk.specs.Live.{liveIds}
-use Rattle.chunk.proofs.Living.{live-in, live-ids-ascend}
-use Rattle.tree.specs.Objects.{missing, root, standBy, given, headOf, parentOf, standOf, isStanding}
+use Rattle.chunk.proofs.Living.{live-ids-ascend}
+use Rattle.tree.specs.Objects.{root, parentOf, standOf, isStanding}
 use Rattle.tree.specs.Paths.{Entry, each, mostDepth, childrenOf, stepTo, entryOf, under, listed}
 use Rattle.tree.specs.Ways.{goesOn, up}
 use Rattle.tree.specs.Tree.{isIn}
 use Rattle.tree.proofs.Lists.{Has, keep-in, keep-of, keep-ascends, each-in, each-of}
+use Rattle.tree.proofs.Standing.{standing-live, goes-on, on-goes}
+use Rattle.tree.proofs.Ways.{up-first}
 
 -- ---- an object in a list of entries
 
@@ -49,32 +50,6 @@ in-has o (x ∷ L) i =
 -- ---- the way up
 
 module _ (says : ℕ → Record) (n : ℕ) where
-  -- a step and then some are one more
-  pub up-first : (j o : ℕ) → up says n j (parentOf says n o) ≡ up says n (suc j) o
-  unfolding up
-  up-first zero o = refl
-  up-first (suc j) o = ap (parentOf says n) (up-first j o)
-
-  -- what stands as a directory is live
-  pub standing-live : (x : ℕ) → isStanding (standOf says n x) ≡ true → In x (liveIds says n)
-  unfolding standOf
-  standing-live x t = go (headOf says n x) refl t
-    where
-      go : (r : Option ℕ) → headOf says n x ≡ r → isStanding (given missing (λ h. standBy (says h)) r) ≡ true → In x (liveIds says n)
-      go none e t = clash (cc)
-      go (some h) e t =
-          by-test (isGone (says h)) _
-          (λ u. let z : false ≡ true = rw u at t in clash (cc))
-          (λ u. live-in says n x record { header = h; newest-header = e; kept = u })
-
-  -- what goes on is not the root, and stands as a directory
-  pub goes-on : (x : ℕ) → goesOn says n x ≡ true → (x ≡ root → ⊥) × (isStanding (standOf says n x) ≡ true)
-  goes-on x t = (eqb-false x root (not-true _ (and-left (not (eqb x root)) _ t)), and-right (not (eqb x root)) _ t)
-
-  -- and what is so goes on
-  pub on-goes : (x : ℕ) → (x ≡ root → ⊥) → isStanding (standOf says n x) ≡ true → goesOn says n x ≡ true
-  on-goes x d t = rw (ne-eqb x root d, t)
-
   -- object o is live and below object d: at most k steps lead up to d, and the objects between go on
   pub record Below (k d o : ℕ) : Type 0 where
     pub live : In o (liveIds says n)

@@ -19,15 +19,16 @@ use Rattle.sort.proofs.Packing.{packed-value}
 use Rattle.text.proofs.Order.{le-or-lt}
 use Rattle.chunk.specs.Live.{liveIds}
 use Rattle.chunk.specs.Records.{isGone, headerOf, isOf}
-use Rattle.chunk.proofs.Living.{live-in, live-of, live-ids-ascend, ids-in}
+use Rattle.chunk.proofs.Living.{live-of, live-ids-ascend, ids-in}
 use Rattle.chunk.proofs.Meaning.{newest-found}
-use Rattle.tree.specs.Children.{saidAt, isChild, childRow, childRows}
-use Rattle.tree.specs.Heads.{Heads, objectAt}
+use Rattle.tree.specs.Children.{isChild, childRow, childRows}
+use Rattle.tree.specs.Heads.{Heads, objectAt, saidAt}
 use Rattle.tree.specs.Objects.{root, parentOf, parentIn}
 use Rattle.tree.specs.Paths.{childrenOf}
 use Rattle.tree.specs.Rows.{mostKey}
 use Rattle.tree.specs.Search.{Sorted, Parted}
-use Rattle.tree.proofs.Entries.{head-at, parent-at, objects-rise, head-stands, children-sorted, children-ascend, child-at, is-child}
+use Rattle.tree.proofs.Entries.{children-sorted, children-ascend, child-at, is-child}
+use Rattle.tree.proofs.HeadRows.{parent-at, objects-rise, head-stands, row-live}
 use Rattle.tree.proofs.Lists.{keep-ascends}
 use Rattle.tree.proofs.Paths.{child-of, child-in}
 use Rattle.tree.proofs.Places.{in-at, at-in, map-at, ascends-at, at-ascends}
@@ -111,7 +112,7 @@ module _ (says : ℕ → Record) (names : ℕ → List ℕ) (n : ℕ) (short : n
         let p : parentOf says n (objectAt heads j) ≡ d =
         parent-at says n heads w j (c .inside) ∙ sym (c .under) ∙ key-between (first + s .place) (omega arith) (omega arith) in
         rw (← e) (child-in says names n d (objectAt heads j)
-        (live-in says n (objectAt heads j) (record { header = valueOf (getD heads j 0); newest-header = head-at says n heads w j (c .inside); kept = kept }))
+        (row-live says n heads w (getD heads j 0) (at-in j heads (c .inside)) kept)
         root-not p)
 
     -- and there is no other

@@ -23,6 +23,10 @@ objectAt heads i = keyOf (getD heads i 0)
 
 -- over what each page says
 module _ (says : ℕ → Record) where
+  -- what the newest header of row i says
+  abbrev pub saidAt : (heads : List ℕ) (row : ℕ) → Record
+  saidAt heads i = says (valueOf (getD heads i 0))
+
   -- whether a page is a header, and its row
   abbrev pub isHead : (page : ℕ) → Bool
   isHead p = isHeader (says p)

@@ -12,7 +12,8 @@ use Rattle.chunk.specs.Records.{isGone}
 use Rattle.chunk.proofs.Living.{passed-none, passed-skip, passed-take, passed-length}
 use Rattle.text.specs.Put.{Put}
 use Rattle.text.proofs.Putting.{nothing, also, kept}
-use Rattle.tree.specs.Children.{saidAt, isChild, childRow, childRows}
+use Rattle.tree.specs.Children.{isChild, childRow, childRows}
+use Rattle.tree.specs.Heads.{saidAt}
 use Rattle.tree.specs.Objects.{saysBy}
 use Rattle.tree.proofs.Entries.{put-length, put-sorted, root-no-child, page-no-child, deleted-no-child, is-child, child-row}
 use Rattle.tree.proofs.NewestHeads.{count-few}

@@ -3,7 +3,8 @@ use native.Mathlib.Omega.{arith}
 use borrow.Author.Needs.{needs}
 use Rattle.tree.specs.Climbs.{Ways}
 use Rattle.tree.specs.Objects.{saysBy}
-use Rattle.tree.proofs.Climbing.{heads-sorted, ways-some}
+use Rattle.tree.proofs.Climbing.{ways-some}
+use Rattle.tree.proofs.HeadRows.{heads-sorted}
 use Rattle.tree.proofs.climb.find_ways.Statement.{statement}
 use Rattle.tree.proofs.climb.find_ways.Tie as tie
 

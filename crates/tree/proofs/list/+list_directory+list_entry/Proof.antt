@@ -11,8 +11,7 @@ use Rattle.page.specs.declared.record.Record.{Record}
 use Rattle.sort.specs.Packed.{packed, keyOf, valueOf}
 use lib.ListN.{getD}
 use Rattle.text.proofs.Putting.{nothing, kept}
-use Rattle.tree.specs.Children.{saidAt}
-use Rattle.tree.specs.Heads.{objectAt}
+use Rattle.tree.specs.Heads.{objectAt, saidAt}
 use Rattle.tree.specs.Objects.{standBy, isStanding, saysBy, namesOf}
 use Rattle.tree.specs.Paths.{childrenOf}
 use Rattle.tree.proofs.Listing.{no-level, Done, done-none, done-more, done-all, level-done, plain-put, standing-put}

@@ -1,6 +1,6 @@
 -- A page is gone by the parent that it names.
 use borrow.Author.Needs.{needs}
-use Rattle.tree.proofs.Othering.{gone-parent}
+use Rattle.tree.proofs.Standing.{gone-parent}
 use Rattle.tree.proofs.objects.is_gone.Statement.{statement}
 use Rattle.tree.proofs.objects.is_gone.Tie as tie
 
