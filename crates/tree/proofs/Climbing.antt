@@ -25,8 +25,8 @@ use Rattle.tree.specs.Heads.{Heads, objectAt}
 use Rattle.tree.specs.Objects.{Stand, missing, deleted, nonDirectory, directory}
 use Rattle.tree.specs.Objects.{root, isDirectory, parentIn, standBy, parentOf, standOf, isStanding}
 use Rattle.tree.specs.Ways.{up, goesOn}
-use Rattle.tree.proofs.HeadRows.{head-at, no-row}
-use Rattle.tree.proofs.Standing.{stand-missing, stand-head, parent-head}
+use Rattle.tree.proofs.HeadRows.{no-row, stand-at, parent-at}
+use Rattle.tree.proofs.Standing.{stand-missing}
 use Rattle.tree.proofs.Ways.{up-one, up-join}
 
 -- ---- kinds
@@ -92,7 +92,7 @@ module _ (says : ℕ → Record) (n : ℕ) (heads : List ℕ) where
       let b : k < 3 = header-kind r in
       let p : placeIn (i * 4 + k) ≡ i = omega arith in
       let q : kindIn (i * 4 + k) ≡ k = omega arith in
-      let s : standOf says n x ≡ standBy r = stand-head says n x _ (rw e at (head-at says n heads w i h)) in
+      let s : standOf says n x ≡ standBy r = rw e at (stand-at says n heads w i h) in
       record {
         top = ne-eqb (i * 4 + k) toRoot (λ z. omega arith) ∙ sym (ne-eqb x root d);
         kind = λ t. q ∙ ap kindBy (sym s);
@@ -221,7 +221,7 @@ module _ (says : ℕ → Record) (heads : List ℕ) where
             set-each (λ j v. j < i + 1 → Word says n heads 0 (objectAt heads j) v) words i (packed code code) (omega (arith, q .long))
             (λ k.
             first-word says n heads (objectAt heads i) code
-            (rw (parent-head says n (objectAt heads i) _ (head-at says n heads (r .right) i h)) (w n r)) b)
+            (rw (parent-at says n heads (r .right) i h) (w n r)) b)
             j
             (λ d k. q .filled n r j (omega arith))
             l;

@@ -24,7 +24,7 @@ use Rattle.tree.specs.Paths.{Entry, keep, each, mostDepth, childrenOf, s
 use Rattle.tree.specs.Rows.{eachAt, rowsAt, rowsUnder, listedRows, otherRows, treeRows, keyBehind}
 use Rattle.tree.specs.Tree.{isIn, others}
 use Rattle.tree.proofs.Both.{others-of, others-live, others-ascend, one-list}
-use Rattle.tree.proofs.Lists.{keep-in, keep-of, keep-ascends}
+use Rattle.tree.proofs.Lists.{keep-in, keep-of, keep-ascends, keep-few}
 use Rattle.tree.proofs.Paths.{timesListed, listed-below, listed-once}
 use Rattle.tree.proofs.Times.{Once, times-joined, times-out, joined-in, in-joined, ascends-once, once-length}
 
@@ -55,12 +55,6 @@ module _ (o : ℕ) where
   object-listed (e ∷ L) (inr i) = by-test (eqb (e .object) o) _ (λ u. rw u) (λ u. rw u (object-listed L i))
 
 -- ---- how long what is kept and counted is
-
--- no more is kept than there is
-pub keep-few : {A : Type 0} (t : A → Bool) (L : List A) → length (keep t L) ≤ length L
-unfolding keep
-keep-few t [] = zero-le
-keep-few t (x ∷ L) = let h = keep-few t L in by-test (t x) _ (λ u. rw u (omega arith)) (λ u. rw u (omega arith))
 
 module _ (t u : ℕ → Bool) (weaker : (p : ℕ) → t p ≡ true → u p ≡ true) where
   -- no more numbers pass a test than one that they all pass

@@ -25,9 +25,8 @@ use Rattle.tree.specs.Tree.{isIn}
 use Rattle.tree.specs.Ways.{reasonBy, up, reasonOf, goesOn}
 use Rattle.tree.specs.declared.reason.Reason.the-variants as reason
 use Rattle.tree.proofs.Climbing.{header-kind, leads-on, leads-off, first-walked, walked-join}
-use Rattle.tree.proofs.HeadRows.{one-row, head-at}
+use Rattle.tree.proofs.HeadRows.{one-row, head-at, stand-at}
 use Rattle.tree.proofs.Paths.{listed-below, below-listed}
-use Rattle.tree.proofs.Standing.{stand-head}
 use Rattle.tree.proofs.Ways.{absorbed, looped}
 
 -- ---- the first list
@@ -133,7 +132,7 @@ module _ (says : ℕ → Record) (n : ℕ) (heads : List ℕ) (rows : Heads says
   row-stands : (i : ℕ) → i < length heads → standOf says n (objectAt heads i) ≡ missing → ⊥
   row-stands i h e =
       let r = says (valueOf (getD heads i 0)) in
-      let s : standBy r ≡ missing = sym (stand-head says n _ _ (head-at says n heads rows i h)) ∙ e in
+      let s : standBy r ≡ missing = sym (stand-at says n heads rows i h) ∙ e in
       let k : kindBy (standBy r) ≡ 3 = ap kindBy s in
       omega (arith, header-kind r)
 
