@@ -2,19 +2,18 @@
 -- as long as the list of those; a live object has a live page, which is a header. The rows go by the same recursion as the entries: they are as many.
 use Prim.Native.Nat.{ℕ, zero, suc, _+_, _≤_, zero-le}
 use mathlib.Core.Bool.{Bool, true, false, not}
-use mathlib.Core.List.{List, [], _∷_, _++_, map}
+use mathlib.Core.List.{List, [], _∷_, _++_}
 use mathlib.Core.Logic.{inl, inr, ⊎-elim}
 use mathlib.Core.Path.{_≡_, refl, sym, ap, ap₂, _∙_}
 use native.Mathlib.Nat.{le-trans}
 use native.Mathlib.Omega.{arith}
-use borrow.Author.Tests.{not-true, eqb-true, eqb-false, eq-eqb, ne-eqb}
+use borrow.Author.Tests.{not-true, eqb-false, ne-eqb}
 use lib.Dec.{eqb}
 use lib.ListN.{length, length-append, length-map}
 use Rattle.page.specs.Search.{count}
 use Rattle.page.specs.declared.record.Record.{Record}
 use Rattle.page.proofs.Layouts.{and-left}
 use Rattle.page.proofs.Searching.{clash, by-test}
-use Rattle.sort.specs.Arranged.{timesIn}
 use Rattle.sort.proofs.Ascending.{In}
 use Rattle.chunk.specs.Live.{livePage, liveIds, liveCount}
 use Rattle.chunk.proofs.Living.{live-ids-ascend, live-length}
@@ -25,34 +24,8 @@ use Rattle.tree.specs.Rows.{eachAt, rowsAt, rowsUnder, listedRows, other
 use Rattle.tree.specs.Tree.{isIn, others}
 use Rattle.tree.proofs.Both.{others-of, others-live, others-ascend, one-list}
 use Rattle.tree.proofs.Lists.{keep-in, keep-of, keep-ascends, keep-few}
-use Rattle.tree.proofs.Paths.{timesListed, listed-below, listed-once}
+use Rattle.tree.proofs.Paths.{listed-below, listed-once, objectsOf, listed-object, object-listed}
 use Rattle.tree.proofs.Times.{Once, times-joined, times-out, joined-in, in-joined, ascends-once, once-length}
-
--- ---- a list of entries by its objects
-
--- the objects of a list of entries
-abbrev pub objectsOf : List Entry → List ℕ
-objectsOf L = map (λ e. e .object) L
-
-module _ (o : ℕ) where
-  -- an object is as often among them as in the entries
-  pub object-times : (L : List Entry) → timesIn o (objectsOf L) ≡ timesListed o L
-  unfolding timesIn timesListed
-  object-times [] = refl
-  object-times (e ∷ L) = by-test (eqb (e .object) o) _ (λ t. rw (t, object-times L)) (λ t. rw (t, object-times L))
-
-  -- it is among them where it is in the entries
-  pub listed-object : (L : List Entry) → isIn o L ≡ true → In o (objectsOf L)
-  unfolding isIn
-  listed-object [] t = clash (cc)
-  listed-object (e ∷ L) t = by-test (eqb (e .object) o) _ (λ u. inl (sym (eqb-true _ _ u))) (λ u. inr (listed-object L (rw u at t)))
-
-  -- and nowhere else
-  pub object-listed : (L : List Entry) → In o (objectsOf L) → isIn o L ≡ true
-  unfolding isIn
-  object-listed [] i = absurd i
-  object-listed (e ∷ L) (inl q) = rw (eq-eqb (e .object) o (sym q))
-  object-listed (e ∷ L) (inr i) = by-test (eqb (e .object) o) _ (λ u. rw u) (λ u. rw u (object-listed L i))
 
 -- ---- how long what is kept and counted is
 
@@ -105,7 +78,7 @@ module _ (says : ℕ → Record) (names : ℕ → List ℕ) (n : ℕ) where
       (by-test (isIn o (listed says names n)) _
       (λ t.
       let none = times-out o (others says names n) (λ i. let z : true ≡ false = sym t ∙ others-of says names n o i .2 in clash (cc)) in
-      omega (arith, object-times o (listed says names n), listed-once says names n o))
+      omega (arith, listed-once says names n o))
       (λ t.
       let none =
       times-out o (objectsOf (listed says names n))
