@@ -1,45 +1,28 @@
 -- The children's rows: which objects they are, and that those of one directory stand side by side, ascending by id.
-use Prim.Native.Nat.{ℕ, _+_, _-_, _≤_, _<_}
+use Prim.Native.Nat.{ℕ, _-_, _<_}
 use mathlib.Core.Bool.{Bool, true, false, not, _&&_}
-use mathlib.Core.List.{List, _++_}
+use mathlib.Core.List.{List}
 use mathlib.Core.Path.{_≡_, refl, sym, ap, _∙_}
-use native.Mathlib.Nat.{zero-add, le-refl}
+use native.Mathlib.Nat.{le-refl}
 use native.Mathlib.Omega.{arith}
 use borrow.Author.Tests.{eq-eqb, ne-eqb}
 use lib.Dec.{eqb}
-use lib.ListN.{length, take, drop, getD}
-use lib.Seq.{take-at}
+use lib.ListN.{length, getD}
 use Rattle.page.specs.Records.{isHeader}
 use Rattle.page.specs.declared.record.Record.{Record}
 use Rattle.page.specs.declared.record.Record.the-variants.{Header}
 use Rattle.page.specs.declared.record.Header as header
-use Rattle.sort.specs.Arranged.{arranged}
 use Rattle.sort.specs.Packed.{packed, keyOf, valueOf}
-use Rattle.sort.proofs.Arranging.{arranged-length}
 use Rattle.sort.proofs.Ascending.{Ascends}
 use Rattle.sort.proofs.Packing.{packed-key, packed-value}
 use Rattle.chunk.specs.Live.{passed, idsOf}
 use Rattle.chunk.specs.Records.{isGone}
 use Rattle.chunk.proofs.Living.{ids-of, ids-ascend-below}
-use Rattle.text.specs.Put.{counted, Put}
-use Rattle.text.proofs.Putting.{whole, exact}
 use Rattle.tree.specs.Children.{isChild, childRow, childRows}
 use Rattle.tree.specs.Heads.{Heads, objectAt, saidAt}
 use Rattle.tree.specs.Objects.{root, parentIn}
 use Rattle.tree.specs.Search.{Sorted}
 use Rattle.tree.proofs.Places.{at-in, arranged-sorted}
-
--- words that were put in front of others are sorted
-pub put-length : {text before after : List ℕ} {next : ℕ} → Put text before 0 after next → length text ≤ length before → next ≡ length text
-put-length {text} {before} {after} {next} p h =
-    p .behind ∙ ap counted (zero-add (length text)) ∙ exact (length text) (omega (arith, p .short))
-
-pub put-sorted : {text before after : List ℕ} {next : ℕ} (v : List ℕ) → Put text before 0 after next → length text ≤ length before
-    → v ≡ arranged (take next after) ++ drop next after → take next v ≡ arranged text
-put-sorted {text} {before} {after} {next} v p h e =
-    let n = put-length p h in
-    let f : take next after ≡ text = ap (take next) (whole p h) ∙ take-at text (drop (length text) before) next (sym n) in
-    ap (take next) e ∙ rw f (take-at (arranged text) (drop next after) next (arranged-length text ∙ sym n))
 
 module _ (says : ℕ → Record) (heads : List ℕ) (j : ℕ) where
   -- the root, a page that is no header, and a deleted object are passed over

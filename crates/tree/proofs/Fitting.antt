@@ -113,10 +113,6 @@ module _ (says : ℕ → Record) (names : ℕ → List ℕ) (n : ℕ) where
       let e = once-length bothObjects (belowRoot says n) both-once (λ o. ascends-once o 0 (belowRoot says n) ascend) both-below below-both in
       omega (arith, length-append (objectsOf (listed says names n)) (others says names n), length-map (listed says names n) (λ e. e .object))
 
-  -- so that they are no longer than the headers are many
-  pub entries-few : length (listed says names n) + length (others says names n) ≤ headCount says n
-  entries-few = rw entries-all (below-few says n)
-
   -- ---- their rows
 
   -- an object has as many rows as entries, if what is below it has

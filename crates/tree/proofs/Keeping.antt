@@ -1,26 +1,18 @@
 -- Rows in order of which the newest of each object is kept, in place: what was kept so far stands in front, the newest row so far of the object that the
 -- scan is at is at hand, and the rows not yet read are as they were.
 use Prim.Native.Nat.{ℕ, suc, _+_, _≤_, _<_}
-use mathlib.Core.List.{List, [], _∷_, _++_, append-nil}
+use mathlib.Core.List.{List, [], _∷_, _++_}
 use mathlib.Core.Path.{_≡_, refl, sym, ap, _∙_}
 use native.Mathlib.Nat.{add-zero, not-suc-le-zero}
 use native.Mathlib.Numerals.{add-one}
 use native.Mathlib.Omega.{arith}
 use borrow.Author.Tests.{le-leb, lt-leb, eq-eqb, ne-eqb}
 use lib.ListN.{length, take, drop, set, getD, length-set, drop-of-length-le}
-use lib.Seq.{take-all, drop-cons, getD-drop, drop-set-lt, take-suc-set, append-snoc}
+use lib.Seq.{drop-cons, getD-drop, drop-set-lt, take-suc-set, append-snoc}
 use Rattle.page.specs.declared.record.Record.{Record}
-use Rattle.sort.specs.Arranged.{arranged}
 use Rattle.sort.specs.Packed.{keyOf, valueOf}
 use Rattle.chunk.specs.Records.{ageOf}
-use Rattle.text.specs.Put.{Put}
-use Rattle.text.proofs.Putting.{whole}
 use Rattle.tree.specs.Heads.{newerRow, newestFrom, newestEach}
-
--- a text that fills all words is what they hold
-pub filled : {text before after : List ℕ} {next : ℕ} → Put text before 0 after next → length text ≡ length before → after ≡ text
-filled {text} {before} {after} {next} p e =
-    whole p (omega arith) ∙ rw (drop-of-length-le before {i = length text} (omega arith)) (append-nil text)
 
 module _ (says : ℕ → Record) where
   pub newer-next : (a b : ℕ) → ageOf says (valueOf a) ≤ ageOf says (valueOf b) → newerRow says a b ≡ b
@@ -104,10 +96,6 @@ module _ (says : ℕ → Record) where
         (ap (λ (l : List ℕ). take at rows ++ l) (sym (newest-last best) ∙ ap (newestFrom says best) (sym e)) ∙ k .made)
 
 -- no rows are kept of none
-pub each-none : (says : ℕ → Record) (L : List ℕ) → length L ≡ 0 → newestEach says L ≡ []
-each-none says [] e = refl
-each-none says (x ∷ L) e = absurd (omega arith)
-
--- all words are sorted
-pub sorted-all : (n : ℕ) (L v : List ℕ) → v ≡ arranged (take n L) ++ drop n L → length L ≤ n → v ≡ arranged L
-sorted-all n L v e h = e ∙ rw (take-all n L h, drop-of-length-le L h) (append-nil (arranged L))
+pub newest-none : (says : ℕ → Record) (L : List ℕ) → length L ≡ 0 → newestEach says L ≡ []
+newest-none says [] e = refl
+newest-none says (x ∷ L) e = absurd (omega arith)

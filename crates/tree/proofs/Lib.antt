@@ -1,5 +1,6 @@
 pub mod Searching
 pub mod Places
+pub mod Fronts
 pub mod Standing
 pub mod HeadRows
 pub mod Passing

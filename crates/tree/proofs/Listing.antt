@@ -38,10 +38,6 @@ module _ (f : (at x : ℕ) → List ℕ) where
   unfolding eachAt
   each-none at = refl
 
-  each-one : (at x : ℕ) → eachAt f at (x ∷ []) ≡ f at x
-  unfolding eachAt
-  each-one at x = append-nil (f at x)
-
   -- one more behind the others
   each-more : (at x : ℕ) (L : List ℕ) → eachAt f at (L ++ (x ∷ [])) ≡ eachAt f at L ++ f (at + length (eachAt f at L)) x
   unfolding eachAt

@@ -1,7 +1,7 @@
 -- The rows of the newest headers are what `Heads` says. The rows of all headers stand in order of their objects, so that those of one object stand side by
 -- side: of these the newest is kept, and no other object's. So the ids ascend, each kept page is its object's newest header, and none is left out.
-use Prim.Native.Nat.{ℕ, zero, suc, _≤_, _<_, zero-le}
-use mathlib.Core.Bool.{Bool, true}
+use Prim.Native.Nat.{ℕ, suc, _≤_, _<_, zero-le}
+use mathlib.Core.Bool.{true}
 use mathlib.Core.List.{List, [], _∷_, map}
 use mathlib.Core.Logic.{_⊎_, inl, inr, ⊎-elim}
 use mathlib.Core.Option.{some}
@@ -12,11 +12,10 @@ use borrow.Author.Tests.{leb-true, leb-false, eqb-true, eqb-false, eq-eqb}
 use lib.Dec.{eqb, leb}
 use lib.ListN.{length}
 use Rattle.page.specs.Records.{isHeader}
-use Rattle.page.specs.Search.{count}
 use Rattle.page.specs.declared.record.Record.{Record}
 use Rattle.page.specs.declared.record.Record.the-variants.{Other, Header, Data}
 use Rattle.page.proofs.Layouts.{and-left, and-right}
-use Rattle.page.proofs.Searching.{by-test, clash}
+use Rattle.page.proofs.Searching.{by-test, clash, count-le}
 use Rattle.sort.specs.Arranged.{rises}
 use Rattle.sort.specs.Packed.{wordValues, packed, keyOf, valueOf}
 use Rattle.sort.proofs.Arranging.{arranged-rises, rises-cons}
@@ -40,12 +39,6 @@ own-header : (k : Record) → isHeader k ≡ true → headerOf (objectOf k) k �
 own-header Other e = clash (cc)
 own-header (Header h) e = rw (eq-eqb (h .object .0) (h .object .0) refl)
 own-header (Data d) e = clash (cc)
-
--- no more numbers pass a test than there are
-pub count-few : (test : ℕ → Bool) (n : ℕ) → count test n ≤ n
-unfolding count
-count-few test zero = zero-le
-count-few test (suc n) = by-test (test n) _ (λ t. rw t (omega (arith, count-few test n))) (λ t. rw t (omega (arith, count-few test n)))
 
 -- where keys rise from a number on, none is below it
 rise-in : (b z : ℕ) (L : List ℕ) → rises b (map keyOf L) ≡ true → In z L → b ≤ keyOf z
@@ -259,5 +252,5 @@ module _ (says : ℕ → Record) where
       ascend = each-ascends rows rows-rise;
       right = heads-right;
       all = heads-all;
-      few = omega (arith, heads-few, count-few (isHead says) n);
+      few = omega (arith, heads-few, count-le (isHead says) n);
     }

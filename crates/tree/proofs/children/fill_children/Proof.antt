@@ -7,6 +7,7 @@ use borrow.Author.Needs.{needs}
 use lib.ListN.{length}
 use Rattle.page.specs.Records.{isHeader}
 use Rattle.page.proofs.Sound.{else-header}
+use Rattle.page.proofs.Searching.{count-le}
 use Rattle.chunk.specs.Live.{passed, idsOf}
 use Rattle.chunk.specs.Records.{isGone}
 use Rattle.chunk.proofs.Living.{passed-none, passed-skip, passed-take, passed-length}
@@ -15,8 +16,8 @@ use Rattle.text.proofs.Putting.{nothing, also, kept}
 use Rattle.tree.specs.Children.{isChild, childRow, childRows}
 use Rattle.tree.specs.Heads.{saidAt}
 use Rattle.tree.specs.Objects.{saysBy}
-use Rattle.tree.proofs.Entries.{put-length, put-sorted, root-no-child, page-no-child, deleted-no-child, is-child, child-row}
-use Rattle.tree.proofs.NewestHeads.{count-few}
+use Rattle.tree.proofs.Entries.{root-no-child, page-no-child, deleted-no-child, is-child, child-row}
+use Rattle.tree.proofs.Fronts.{put-length, put-sorted}
 use Rattle.tree.proofs.children.fill_children.Statement.{statement}
 use Rattle.tree.proofs.children.fill_children.Tie as tie
 
@@ -103,14 +104,14 @@ fits c =
     let a = s .args in
     let says = saysBy (a .g) (a .dump .now) (a .t) in
     let test = isChild says (a .heads .now) in
-    omega (arith, s .pre .1, passed-length test (childRow says (a .heads .now)) (length (a .heads .now)), count-few test (length (a .heads .now)))
+    omega (arith, s .pre .1, passed-length test (childRow says (a .heads .now)) (length (a .heads .now)), count-le test (length (a .heads .now)))
 
 returns : tie.Need-returns Inv-loop μ-loop
 unfolding childRows idsOf
 returns c =
     let s = c .before .before in
     let l = s .before .before in
-    (omega (arith, put-length (put-all l) (fits l), fits l), put-sorted _ (put-all l) (fits l) (s .sort .ensures))
+    (omega (arith, put-length (put-all l) (fits l), fits l), put-sorted (put-all l) _ (fits l) (s .sort .ensures))
 
 pub fill-children-spec : {M : Type 1} → statement M
 fill-children-spec =

@@ -7,7 +7,7 @@ use Rattle.sort.specs.Arranged.{arranged}
 use Rattle.chunk.specs.Live.{idsOf}
 use Rattle.tree.specs.Heads.{newestEach, headRows}
 use Rattle.tree.specs.Objects.{saysBy}
-use Rattle.tree.proofs.Keeping.{sorted-all}
+use Rattle.tree.proofs.Fronts.{sorted-all}
 use Rattle.tree.proofs.heads.fill_heads.Statement.{statement}
 use Rattle.tree.proofs.heads.fill_heads.Tie as tie
 

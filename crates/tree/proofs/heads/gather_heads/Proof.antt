@@ -14,7 +14,7 @@ use Rattle.text.specs.Put.{Put}
 use Rattle.text.proofs.Putting.{nothing, also, kept}
 use Rattle.tree.specs.Heads.{isHead, headRow}
 use Rattle.tree.specs.Objects.{saysBy}
-use Rattle.tree.proofs.Keeping.{filled}
+use Rattle.tree.proofs.Fronts.{put-filled}
 use Rattle.tree.proofs.heads.gather_heads.Statement.{statement}
 use Rattle.tree.proofs.heads.gather_heads.Tie as tie
 
@@ -55,7 +55,7 @@ returns c =
     let a = s .args in
     let says = saysBy (a .g) (a .dump .now) (a .t) in
     let e : q .i ≡ a .pages = omega arith in
-    filled (rw e at (q .inv .1)) (passed-length (isHead says) (headRow says) (a .pages) ∙ sym (s .pre))
+    put-filled (rw e at (q .inv .1)) (passed-length (isHead says) (headRow says) (a .pages) ∙ sym (s .pre))
 
 pub gather-heads-spec : {M : Type 1} → statement M
 gather-heads-spec =

@@ -5,7 +5,7 @@ use native.Mathlib.Omega.{arith}
 use borrow.Author.Needs.{needs}
 use lib.ListN.{length, length-set}
 use Rattle.tree.specs.Objects.{saysBy}
-use Rattle.tree.proofs.Keeping.{Kept, kept-none, kept-same, kept-other, kept-end, each-none}
+use Rattle.tree.proofs.Keeping.{Kept, kept-none, kept-same, kept-other, kept-end, newest-none}
 use Rattle.tree.proofs.heads.keep_newest.Statement.{statement}
 use Rattle.tree.proofs.heads.keep_newest.Tie as tie
 
@@ -19,7 +19,7 @@ returns : tie.Need-returns Inv-loop μ-loop
 returns c =
     let rows = c .before .before .before .args .rows .now in
     let e : length rows ≡ 0 = omega (arith, c .if1 .taken) in
-    (search needs, sym (each-none _ rows e))
+    (search needs, sym (newest-none _ rows e))
 
 loop-again : tie.Need-loop-again Inv-loop μ-loop
 loop-again c =

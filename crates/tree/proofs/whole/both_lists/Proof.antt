@@ -5,10 +5,11 @@ use native.Mathlib.Omega.{arith}
 use borrow.Author.Needs.{needs}
 use lib.ListN.{length, take, drop}
 use lib.Seq.{length-take-le}
+use Rattle.page.proofs.Searching.{count-le}
 use Rattle.tree.specs.Heads.{isHead}
 use Rattle.tree.specs.Objects.{saysBy}
-use Rattle.tree.proofs.Joined.{cleared-all}
-use Rattle.tree.proofs.NewestHeads.{heads-are, count-few}
+use Rattle.tree.proofs.Fronts.{cleared-all}
+use Rattle.tree.proofs.NewestHeads.{heads-are}
 use Rattle.tree.proofs.whole.both_lists.Statement.{statement}
 use Rattle.tree.proofs.whole.both_lists.Tie as tie
 
@@ -30,7 +31,7 @@ lists-requires c κs =
     let says = saysBy (a .g) (a .dump .now) (a .t) in (
       rw (f .fill-heads .ensures .1) (heads-are says (a .pages) (omega (arith, s .fits))),
       (
-        omega (arith, in-front f, f .fill-heads .ensures .0, s .pre .0, s .pre .1 .1 .0, count-few (isHead says) (a .pages)),
+        omega (arith, in-front f, f .fill-heads .ensures .0, s .pre .0, s .pre .1 .1 .0, count-le (isHead says) (a .pages)),
         (work-in-front f ∙ sym (in-front f), s .pre .1 .0),
       ),
     )
