@@ -20,7 +20,7 @@ use Rattle.chunk.proofs.Living.{live-ids-ascend, live-length}
 use Rattle.tree.specs.Heads.{isHead, headCount}
 use Rattle.tree.specs.Objects.{root, standOf, isStanding}
 use Rattle.tree.specs.Paths.{Entry, keep, each, mostDepth, childrenOf, stepTo, entryOf, under, listed}
-use Rattle.tree.specs.Rows.{eachAt, rowsAt, rowsUnder, listedRows, otherRows, treeRows, keyBehind}
+use Rattle.tree.specs.Rows.{eachAt, rowsAt, entryRows, rowsUnder, listedRows, otherRows, treeRows, keyBehind}
 use Rattle.tree.specs.Tree.{isIn, others}
 use Rattle.tree.proofs.Both.{others-of, others-live, others-ascend, one-list}
 use Rattle.tree.proofs.Lists.{keep-in, keep-of, keep-ascends, keep-few}
@@ -131,7 +131,7 @@ module _ (says : ℕ → Record) (names : ℕ → List ℕ) (n : ℕ) where
   unfolding rowsUnder under
   rows-length zero key d at path = refl
   rows-length (suc k) key d at path =
-      each-length (rowsAt says names n (rowsUnder says names n k) key) (entryOf says names n (under says names n k) path)
+      each-length (entryRows says names n k key) (entryOf says names n (under says names n k) path)
       (row-length (rowsUnder says names n k) (under says names n k) (rows-length k) key path)
       at (childrenOf says names n d)
 

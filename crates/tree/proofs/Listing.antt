@@ -16,7 +16,7 @@ use Rattle.text.proofs.Putting.{also, nothing}
 use Rattle.tree.specs.Heads.{Heads, objectAt, saidAt}
 use Rattle.tree.specs.Objects.{standBy, isStanding}
 use Rattle.tree.specs.Paths.{childrenOf}
-use Rattle.tree.specs.Rows.{keyBehind, eachAt, rowsAt, rowsUnder}
+use Rattle.tree.specs.Rows.{keyBehind, eachAt, rowsAt, entryRows, rowsUnder}
 use Rattle.tree.proofs.HeadRows.{page-at, stand-at}
 use Rattle.tree.proofs.Segments.{Segment}
 
@@ -64,14 +64,14 @@ module _ (says : ℕ → Record) (names : ℕ → List ℕ) (n : ℕ) where
   unfolding rowsUnder
   under-same zero key d a b e = refl
   under-same (suc k) key d a b e =
-      each-same (rowsAt says names n (rowsUnder says names n k) key) (λ x y o q. at-same (rowsUnder says names n k) (under-same k) key x y o q) a b (childrenOf says names n d) e
+      each-same (entryRows says names n k key) (λ x y o q. at-same (rowsUnder says names n k) (under-same k) key x y o q) a b (childrenOf says names n d) e
 
   -- no step is left, or some
   pub no-level : (k key d at : ℕ) → k ≡ 0 → rowsUnder says names n k key d at ≡ []
   unfolding rowsUnder
   no-level k key d at e = rw e
 
-  a-level : (k key d at : ℕ) → (k ≡ 0 → ⊥) → rowsUnder says names n k key d at ≡ eachAt (rowsAt says names n (rowsUnder says names n (k - 1)) key) at (childrenOf says names n d)
+  a-level : (k key d at : ℕ) → (k ≡ 0 → ⊥) → rowsUnder says names n k key d at ≡ eachAt (entryRows says names n (k - 1) key) at (childrenOf says names n d)
   unfolding rowsUnder
   a-level zero key d at f = absurd (f refl)
   a-level (suc k) key d at f = rw (sub-one (suc k))
@@ -79,7 +79,7 @@ module _ (says : ℕ → Record) (names : ℕ → List ℕ) (n : ℕ) where
   -- the rows of some entries of a directory d were put
   module _ (k key d first at : ℕ) (rows₀ : List ℕ) where
     abbrev one : (at object : ℕ) → List ℕ
-    one = rowsAt says names n (rowsUnder says names n k) key
+    one = entryRows says names n k key
 
     abbrev pub Done : (rows : List ℕ) (next i : ℕ) → Type 0
     Done rows next i = Put (eachAt one at (take (i - first) (childrenOf says names n d))) rows₀ at rows next
@@ -93,7 +93,7 @@ module _ (says : ℕ → Record) (names : ℕ → List ℕ) (n : ℕ) where
     module _ (children heads : List ℕ) (end : ℕ) (s : Segment children (childrenOf says names n d) (objectAt heads) first end) where
       pub done-more :
           (rows after : List ℕ) (next r i : ℕ) → Done rows next i → first ≤ i → i < end
-          → Put (rowsAt says names n (rowsUnder says names n k) key next (objectAt heads (valueOf (getD children i 0)))) rows next after r
+          → Put (entryRows says names n k key next (objectAt heads (valueOf (getD children i 0)))) rows next after r
           → Done after r (i + 1)
       done-more rows after next r i p h l q =
           let C = childrenOf says names n d in
@@ -116,14 +116,14 @@ module _ (says : ℕ → Record) (names : ℕ → List ℕ) (n : ℕ) where
 
   pub level-done :
       (k key d at : ℕ) (rows₀ rows : List ℕ) (next : ℕ) → (k ≡ 0 → ⊥)
-      → Put (eachAt (rowsAt says names n (rowsUnder says names n (k - 1)) key) at (childrenOf says names n d)) rows₀ at rows next
+      → Put (eachAt (entryRows says names n (k - 1) key) at (childrenOf says names n d)) rows₀ at rows next
       → Put (rowsUnder says names n k key d at) rows₀ at rows next
   level-done k key d at rows₀ rows next f p = rw (a-level k key d at f) p
 
   -- an entry, which is row j of the heads
   module _ (heads : List ℕ) (w : Heads says n heads) (j : ℕ) (h : j < length heads) (k key at : ℕ) where
     abbrev entry : List ℕ
-    entry = rowsAt says names n (rowsUnder says names n k) key at (objectAt heads j)
+    entry = entryRows says names n k key at (objectAt heads j)
 
     entry-plain : isStanding (standBy (saidAt says heads j)) ≡ false → entry ≡ packed key (valueOf (getD heads j 0)) ∷ []
     unfolding rowsAt

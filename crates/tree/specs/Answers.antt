@@ -22,6 +22,10 @@ use Rattle.tree.specs.Rows.{listedRows, otherRows, treeRows}
 use Rattle.tree.specs.declared.whole.Grown.{Grown}
 use Rattle.tree.specs.declared.whole.Grown.the-variants as grown
 
+-- how many rows each list of n pages has
+abbrev pub grownTo : (says : ℕ → Record) (names : ℕ → List ℕ) (pages : ℕ) → Grown
+grownTo says names n = grown.Rows (length (listedRows says names n)) (length (otherRows says names n))
+
 -- a dump at a moment
 module _ (g : Geometry) (dump : List ℕ) (m : Moment) where
   -- what each page says then
@@ -42,11 +46,12 @@ module _ (g : Geometry) (dump : List ℕ) (m : Moment) where
       onTree (λ r. grown.Refused r 0)
       (λ n.
       pick (tooFew rows heads work n) (grown.Refused ShortBuffer (headCount saysAt n))
-      (grown.Rows (length (listedRows saysAt (namesOf g dump) n)) (length (otherRows saysAt (namesOf g dump) n))))
+      (grownTo saysAt (namesOf g dump) n))
 
   -- the words of the first slice then: the rows in front, and the rest as it was; after a refusal all as they were
   unfoldable pub rowsLeft : (rows : List ℕ) (heads work : ℕ) → List ℕ
-  rowsLeft rows heads work = onTree (λ r. rows) (λ n. pick (tooFew (length rows) heads work n) rows (inFront (treeRows saysAt (namesOf g dump) n) rows))
+  rowsLeft rows heads work =
+      onTree (λ r. rows) (λ n. pick (tooFew (length rows) heads work n) rows (inFront (treeRows saysAt (namesOf g dump) n) rows))
 
   -- those of the second and the third: zeros in the room that was needed, and the rest as it was
   unfoldable pub workLeft : (rows heads work : ℕ) (words : List ℕ) → List ℕ

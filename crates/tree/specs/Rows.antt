@@ -58,6 +58,10 @@ module _ (says : ℕ → Record) (names : ℕ → List ℕ) (n : ℕ) where
   rowsUnder zero key d at = []
   rowsUnder (suc k) key d at = eachAt (rowsAt (rowsUnder k) key) at (childrenOf says names n d)
 
+  -- those of an object at a position: its own, and what is below it so many steps deep
+  abbrev pub entryRows : (depth key at object : ℕ) → List ℕ
+  entryRows k = rowsAt (rowsUnder k)
+
   -- those of the first list, those of the second, and all
   unfoldable pub listedRows : List ℕ
   listedRows = rowsUnder mostDepth 0 root 0

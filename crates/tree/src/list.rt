@@ -8,7 +8,7 @@ ghost use Rattle.text.specs.Put.{Put};
 ghost use Rattle.tree.specs.Children.{childRows};
 ghost use Rattle.tree.specs.Heads.{Heads, objectAt};
 ghost use Rattle.tree.specs.Objects.{saysBy, namesOf};
-ghost use Rattle.tree.specs.Rows.{rowsAt, rowsUnder};
+ghost use Rattle.tree.specs.Rows.{entryRows, rowsUnder};
 use crate::objects::is_standing;
 use crate::row::MOST_KEY;
 use crate::row::key_behind;
@@ -38,7 +38,8 @@ pub(crate) fn list_directory(
 ) -> usize
     requires { ⌜ Heads (saysBy g (now dump) t) pages (now heads) ⌝ }
     requires { ⌜ now children ≡ childRows (saysBy g (now dump) t) (now heads) ⌝ }
-    ensures { λ r. ⌜ Put (rowsUnder (saysBy g (now (dump .entry)) t) (namesOf g (now (dump .entry))) pages depth key directory at) (now (rows .entry)) at (now (rows .exit)) r ⌝ }
+    ensures { λ r. ⌜ Put (rowsUnder (saysBy g (now (dump .entry)) t) (namesOf g (now (dump .entry))) pages depth key directory at)
+        (now (rows .entry)) at (now (rows .exit)) r ⌝ }
 {
     if depth == 0 {
         return at;
@@ -83,7 +84,8 @@ fn list_entry(
     requires { ⌜ Heads (saysBy g (now dump) t) pages (now heads) ⌝ }
     requires { ⌜ now children ≡ childRows (saysBy g (now dump) t) (now heads) ⌝ }
     requires { ⌜ i < length (now children) ⌝ }
-    ensures { λ r. ⌜ Put (rowsAt (saysBy g (now (dump .entry)) t) (namesOf g (now (dump .entry))) pages (rowsUnder (saysBy g (now (dump .entry)) t) (namesOf g (now (dump .entry))) pages left) key at (objectAt (now (heads .entry)) (valueOf (getD (now (children .entry)) i 0)))) (now (rows .entry)) at (now (rows .exit)) r ⌝ }
+    ensures { λ r. ⌜ Put (entryRows (saysBy g (now (dump .entry)) t) (namesOf g (now (dump .entry))) pages left key at
+        (objectAt (now (heads .entry)) (valueOf (getD (now (children .entry)) i 0)))) (now (rows .entry)) at (now (rows .exit)) r ⌝ }
 {
     let place = value_of(children[i]) as usize;
     let head = heads[place];

@@ -7,12 +7,11 @@ ghost use Rattle.page.specs.Lengths.{openedOf};
 ghost use Rattle.page.specs.declared.geometry.Opened.the-variants as opened;
 ghost use Rattle.chunk.specs.Lists.{inFront};
 ghost use Rattle.text.specs.Put.{Put};
-ghost use Rattle.tree.specs.Answers.{treeOn, rowsLeft, workLeft};
+ghost use Rattle.tree.specs.Answers.{grownTo, treeOn, rowsLeft, workLeft};
 ghost use Rattle.tree.specs.Climbs.{codePlaces};
 ghost use Rattle.tree.specs.Heads.{Heads, headCount};
 ghost use Rattle.tree.specs.Objects.{saysBy, namesOf};
 ghost use Rattle.tree.specs.Rows.{listedRows, otherRows, treeRows};
-ghost use Rattle.tree.specs.declared.whole.Grown.the-variants as grown;
 use crate::children::fill_children;
 use crate::climb::find_ways;
 use crate::heads::count_heads;
@@ -60,7 +59,8 @@ fn first_list(
 ) -> usize
     requires { ⌜ Heads (saysBy g (now dump) t) pages (now heads) ⌝ }
     requires { ⌜ length (now heads) ≤ length (now work) ⌝ }
-    ensures { λ r. ⌜ Put (listedRows (saysBy g (now (dump .entry)) t) (namesOf g (now (dump .entry))) pages) (now (rows .entry)) 0 (now (rows .exit)) r ⌝ }
+    ensures { λ r. ⌜ Put (listedRows (saysBy g (now (dump .entry)) t) (namesOf g (now (dump .entry))) pages)
+        (now (rows .entry)) 0 (now (rows .exit)) r ⌝ }
 {
     let count = fill_children(dump, g, t, heads, work);
     list_directory(
@@ -92,7 +92,8 @@ fn second_list(
     requires { ⌜ Heads (saysBy g (now dump) t) pages (now heads) ⌝ }
     requires { ⌜ length (now heads) ≤ codePlaces ⌝ }
     requires { ⌜ length (now work) ≡ length (now heads) ⌝ }
-    ensures { λ r. ⌜ Put (otherRows (saysBy g (now (dump .entry)) t) (namesOf g (now (dump .entry))) pages) (now (rows .entry)) at (now (rows .exit)) r ⌝ }
+    ensures { λ r. ⌜ Put (otherRows (saysBy g (now (dump .entry)) t) (namesOf g (now (dump .entry))) pages)
+        (now (rows .entry)) at (now (rows .exit)) r ⌝ }
 {
     find_ways(dump, g, t, pages, heads, work);
     list_others(dump, g, t, heads, work, rows, at)
@@ -112,8 +113,9 @@ fn lists(
     requires { ⌜ length (now heads) ≤ codePlaces ⌝ }
     requires { ⌜ length (now work) ≡ length (now heads) ⌝ }
     requires { ⌜ headCount (saysBy g (now dump) t) pages ≤ length (now rows) ⌝ }
-    ensures { λ r. ⌜ r ≡ grown.Rows (length (listedRows (saysBy g (now (dump .entry)) t) (namesOf g (now (dump .entry))) pages)) (length (otherRows (saysBy g (now (dump .entry)) t) (namesOf g (now (dump .entry))) pages)) ⌝ }
-    ensures { λ _. ⌜ now (rows .exit) ≡ inFront (treeRows (saysBy g (now (dump .entry)) t) (namesOf g (now (dump .entry))) pages) (now (rows .entry)) ⌝ }
+    ensures { λ r. ⌜ r ≡ grownTo (saysBy g (now (dump .entry)) t) (namesOf g (now (dump .entry))) pages ⌝ }
+    ensures { λ _. ⌜ now (rows .exit)
+        ≡ inFront (treeRows (saysBy g (now (dump .entry)) t) (namesOf g (now (dump .entry))) pages) (now (rows .entry)) ⌝ }
 {
     let listed = first_list(dump, g, t, pages, heads, work, rows);
     let all = second_list(dump, g, t, pages, heads, work, rows, listed);
@@ -137,8 +139,9 @@ fn both_lists(
     requires { ⌜ headCount (saysBy g (now dump) t) pages ≤ length (now rows) ⌝ }
     requires { ⌜ length (now heads) ≡ headCount (saysBy g (now dump) t) pages ⌝ }
     requires { ⌜ length (now work) ≡ headCount (saysBy g (now dump) t) pages ⌝ }
-    ensures { λ r. ⌜ r ≡ grown.Rows (length (listedRows (saysBy g (now (dump .entry)) t) (namesOf g (now (dump .entry))) pages)) (length (otherRows (saysBy g (now (dump .entry)) t) (namesOf g (now (dump .entry))) pages)) ⌝ }
-    ensures { λ _. ⌜ now (rows .exit) ≡ inFront (treeRows (saysBy g (now (dump .entry)) t) (namesOf g (now (dump .entry))) pages) (now (rows .entry)) ⌝ }
+    ensures { λ r. ⌜ r ≡ grownTo (saysBy g (now (dump .entry)) t) (namesOf g (now (dump .entry))) pages ⌝ }
+    ensures { λ _. ⌜ now (rows .exit)
+        ≡ inFront (treeRows (saysBy g (now (dump .entry)) t) (namesOf g (now (dump .entry))) pages) (now (rows .entry)) ⌝ }
     ensures { λ _. ⌜ now (heads .exit) ≡ replicate (length (now (heads .entry))) 0 ⌝ }
     ensures { λ _. ⌜ now (work .exit) ≡ replicate (length (now (work .entry))) 0 ⌝ }
 {
@@ -161,10 +164,14 @@ fn tree_in(
     work: &mut [u64],
 ) -> Grown
     requires { ⌜ openedOf g (length (now dump)) ≡ opened.Pages pages ⌝ }
-    ensures { λ r. ⌜ r ≡ treeOn g (now (dump .entry)) m (length (now (rows .entry))) (length (now (heads .entry))) (length (now (work .entry))) ⌝ }
-    ensures { λ _. ⌜ now (rows .exit) ≡ rowsLeft g (now (dump .entry)) m (now (rows .entry)) (length (now (heads .entry))) (length (now (work .entry))) ⌝ }
-    ensures { λ _. ⌜ now (heads .exit) ≡ workLeft g (now (dump .entry)) m (length (now (rows .entry))) (length (now (heads .entry))) (length (now (work .entry))) (now (heads .entry)) ⌝ }
-    ensures { λ _. ⌜ now (work .exit) ≡ workLeft g (now (dump .entry)) m (length (now (rows .entry))) (length (now (heads .entry))) (length (now (work .entry))) (now (work .entry)) ⌝ }
+    ensures { λ r. ⌜ r ≡ treeOn g (now (dump .entry)) m
+        (length (now (rows .entry))) (length (now (heads .entry))) (length (now (work .entry))) ⌝ }
+    ensures { λ _. ⌜ now (rows .exit) ≡ rowsLeft g (now (dump .entry)) m
+        (now (rows .entry)) (length (now (heads .entry))) (length (now (work .entry))) ⌝ }
+    ensures { λ _. ⌜ now (heads .exit) ≡ workLeft g (now (dump .entry)) m
+        (length (now (rows .entry))) (length (now (heads .entry))) (length (now (work .entry))) (now (heads .entry)) ⌝ }
+    ensures { λ _. ⌜ now (work .exit) ≡ workLeft g (now (dump .entry)) m
+        (length (now (rows .entry))) (length (now (heads .entry))) (length (now (work .entry))) (now (work .entry)) ⌝ }
 {
     if m.is_missing(pages) {
         return Grown::Refused(Refusal::BadPage, 0);
@@ -196,10 +203,14 @@ pub fn tree(
     heads: &mut [u64],
     work: &mut [u64],
 ) -> Grown
-    ensures { λ r. ⌜ r ≡ treeOn g (now (dump .entry)) m (length (now (rows .entry))) (length (now (heads .entry))) (length (now (work .entry))) ⌝ }
-    ensures { λ _. ⌜ now (rows .exit) ≡ rowsLeft g (now (dump .entry)) m (now (rows .entry)) (length (now (heads .entry))) (length (now (work .entry))) ⌝ }
-    ensures { λ _. ⌜ now (heads .exit) ≡ workLeft g (now (dump .entry)) m (length (now (rows .entry))) (length (now (heads .entry))) (length (now (work .entry))) (now (heads .entry)) ⌝ }
-    ensures { λ _. ⌜ now (work .exit) ≡ workLeft g (now (dump .entry)) m (length (now (rows .entry))) (length (now (heads .entry))) (length (now (work .entry))) (now (work .entry)) ⌝ }
+    ensures { λ r. ⌜ r ≡ treeOn g (now (dump .entry)) m
+        (length (now (rows .entry))) (length (now (heads .entry))) (length (now (work .entry))) ⌝ }
+    ensures { λ _. ⌜ now (rows .exit) ≡ rowsLeft g (now (dump .entry)) m
+        (now (rows .entry)) (length (now (heads .entry))) (length (now (work .entry))) ⌝ }
+    ensures { λ _. ⌜ now (heads .exit) ≡ workLeft g (now (dump .entry)) m
+        (length (now (rows .entry))) (length (now (heads .entry))) (length (now (work .entry))) (now (heads .entry)) ⌝ }
+    ensures { λ _. ⌜ now (work .exit) ≡ workLeft g (now (dump .entry)) m
+        (length (now (rows .entry))) (length (now (heads .entry))) (length (now (work .entry))) (now (work .entry)) ⌝ }
 {
     let p = g.opened(dump.len());
     match p {
