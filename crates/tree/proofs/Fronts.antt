@@ -1,5 +1,5 @@
--- Words of which the front is put, sorted or cleared. A text that is put at position 0 and has room is what the words begin with, so that sorting as many
--- words sorts the text.
+-- Words of which the front is put, sorted or cleared. A text that is put at position 0 and has room is what the words begin with, so that sorting as
+-- many words sorts the text.
 use Prim.Native.Nat.{ℕ, _-_, _≤_}
 use mathlib.Core.List.{List, [], _∷_, _++_, append-nil}
 use mathlib.Core.Path.{_≡_, refl, sym, ap, _∙_}

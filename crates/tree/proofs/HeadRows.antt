@@ -1,5 +1,5 @@
--- The rows of the newest headers, by their places. The ids ascend, so that later rows are of larger objects and no object has two; and what `Heads` says
--- of members holds at each place.
+-- The rows of the newest headers, by their places. The ids ascend, so that later rows are of larger objects and no object has two; and what `Heads`
+-- says of members holds at each place.
 use Prim.Native.Nat.{ℕ, _≤_, _<_}
 use mathlib.Core.Bool.{false}
 use mathlib.Core.List.{List, map}

@@ -386,4 +386,5 @@ module _ (says : ℕ → Record) (n : ℕ) where
         reason-at (w .step) (w .comes) (met-stops o (w .step) u) ∙ rw (t, u)
     means-reason reason.Missing w = reason-new (w .step) missing (w .comes) (stand-missing says n _ (w .headless)) refl
     means-reason reason.Deleted w = reason-new (w .step) deleted (w .comes) (stand-deleted says n _ (w .page) (w .head) (w .gone)) refl
-    means-reason reason.NonDirectory w = reason-new (w .step) nonDirectory (w .comes) (stand-plain says n _ (w .page) (w .head) (w .kept) (w .plain)) refl
+    means-reason reason.NonDirectory w =
+        reason-new (w .step) nonDirectory (w .comes) (stand-plain says n _ (w .page) (w .head) (w .kept) (w .plain)) refl

@@ -1,5 +1,5 @@
--- The live objects other than the root as rows in order of their parents: a parent's id as the key, and as the value the place of the object's row among
--- those of the newest headers. So the entries of a directory stand side by side, ascending by id.
+-- The live objects other than the root as rows in order of their parents: a parent's id as the key, and as the value the place of the object's row
+-- among those of the newest headers. So the entries of a directory stand side by side, ascending by id.
 use Prim.Native.Nat.{ℕ}
 use mathlib.Core.Bool.{Bool, not, _&&_}
 use mathlib.Core.List.{List}

@@ -1,5 +1,5 @@
--- The newest header of each object as a row: the object's id as its key, the page as its value. The rows of all headers are put in order, and of those
--- of one object, which stand side by side then, the newest is kept.
+-- The newest header of each object as a row: the object's id as its key, the page as its value. The rows of all headers are put in order, and of
+-- those of one object, which stand side by side then, the newest is kept.
 use Prim.Native.Nat.{ℕ, _<_}
 use mathlib.Core.Bool.{Bool}
 use mathlib.Core.List.{List, [], _∷_, map}

@@ -1,5 +1,5 @@
-// The rows of the first list. Listing a directory lists each of its entries, and listing an entry that is a directory lists that in turn, with one step
-// less to go.
+// The rows of the first list. Listing a directory lists each of its entries, and listing an entry that is a directory lists that in turn, with one
+// step less to go.
 ghost use mathlib.Core.Path.{_≡_};
 ghost use Prim.Native.Nat.{_<_};
 ghost use lib.ListN.{length, getD};

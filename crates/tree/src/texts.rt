@@ -123,8 +123,8 @@ fn put_path_lines(
     buf: &mut [u8],
     at: usize,
 ) -> usize
-    ensures { λ r. ⌜ Put (pathLines (objectIn g (now (dump .entry)) (getD (now (rows .entry)) i 0)) (pathIn g (now (dump .entry)) (now (rows .entry)) mostDepth i))
-        (now (buf .entry)) at (now (buf .exit)) r ⌝ }
+    ensures { λ r. ⌜ Put (pathLines (objectIn g (now (dump .entry)) (getD (now (rows .entry)) i 0))
+        (pathIn g (now (dump .entry)) (now (rows .entry)) mostDepth i)) (now (buf .entry)) at (now (buf .exit)) r ⌝ }
 {
     let key = put_object(dump, g, row_at(rows, i), buf, at);
     let path = put_text(buf, key, b"path=");

@@ -79,8 +79,10 @@ loop-again-4 c =
     let g : isGone (saidAt says (a .heads .now) (q .i)) ≡ false = ap isGone e ∙ sym (f .before .gone-under .ensures) ∙ f .if2 .left in
     let d = k .before .before in
     let t = is-child says (a .heads .now) (q .i) (λ z. d .if1 .left (d .before .key-of .ensures ∙ z)) (ap isHeader e) g in
-    let r : p .before .pack .result ≡ childRow says (a .heads .now) (q .i) = p .before .pack .ensures ∙ sym (child-row says (a .heads .now) (q .i) _ e) in
-    (search needs, rw (passed-take (isChild says (a .heads .now)) (childRow says (a .heads .now)) (q .i) t, ← r) (also (q .inv .1) (p .put-row .ensures)))
+    let r : p .before .pack .result ≡ childRow says (a .heads .now) (q .i) =
+    p .before .pack .ensures ∙ sym (child-row says (a .heads .now) (q .i) _ e) in
+    let more = passed-take (isChild says (a .heads .now)) (childRow says (a .heads .now)) (q .i) t in
+    (search needs, rw (more, ← r) (also (q .inv .1) (p .put-row .ensures)))
 
 -- all were put, and they are no more than the heads
 put-all :

@@ -25,7 +25,8 @@ loop-again c =
     let k = c .before in
     let q = k .before .before .loop in
     let a = k .before .before .before .before .args in
-    let h : isHead (saysBy (a .g) (a .dump .now) (a .t)) (q .i) ≡ false = rw (← k .seen-at .ensures) (else-header (k .seen-at .result) (c .match .keys2)) in
+    let h : isHead (saysBy (a .g) (a .dump .now) (a .t)) (q .i) ≡ false =
+    rw (← k .seen-at .ensures) (else-header (k .seen-at .result) (c .match .keys2)) in
     (search needs, search needs, q .inv .2 ∙ sym (count-skip _ (q .i) h))
 
 loop-again-2 : tie.Need-loop-again-2 Inv-loop μ-loop

@@ -1,4 +1,4 @@
--- The loop's invariant is `Kept`.
+-- The loop's invariant is `Kept`: what was kept stands in front, and the newest row so far of the object at hand is `best`.
 use Prim.Native.Nat.{_-_}
 use mathlib.Core.Path.{_≡_, sym, _∙_}
 use native.Mathlib.Omega.{arith}
@@ -24,9 +24,9 @@ returns c =
 loop-again : tie.Need-loop-again Inv-loop μ-loop
 loop-again c =
     let k = c .before .before in
-    let q = k .before .before .before .before .loop in
-    rw (c .newer-row .ensures)
-    (kept-same _ _ _ _ _ _ (q .inv) (k .before .before .before .loop-test .taken) (sym (k .before .key-of .ensures) ∙ c .before .if2 .taken ∙ k .key-of2 .ensures))
+    let t = k .before .before .before in
+    let e = sym (k .before .key-of .ensures) ∙ c .before .if2 .taken ∙ k .key-of2 .ensures in
+    rw (c .newer-row .ensures) (kept-same _ _ _ _ _ _ (t .before .loop .inv) (t .loop-test .taken) e)
 
 loop-again-2 : tie.Need-loop-again-2 Inv-loop μ-loop
 loop-again-2 c =

@@ -16,9 +16,14 @@ use Rattle.tree.proofs.whole.both_lists.Tie as tie
 -- the heads are in front of their words, and no more than the headers
 in-front : (c : tie.After-fill-heads) → length (take (c .fill-heads .result) (c .fill-heads .last .1 .1 .1 .1 .0)) ≡ c .fill-heads .result
 in-front c =
-    length-take-le (c .fill-heads .result) (c .fill-heads .last .1 .1 .1 .1 .0) (omega (arith, c .fill-heads .ensures .0, c .fill-heads .kept .1 .1 .1 .1 .0))
+    let f = c .fill-heads in
+    length-take-le (f .result) (f .last .1 .1 .1 .1 .0) (omega (arith, f .ensures .0, f .kept .1 .1 .1 .1 .0))
 
-work-in-front : (c : tie.After-fill-heads) → length (take (c .fill-heads .result) (c .before .before .before .before .before .before .args .work .now)) ≡ c .fill-heads .result
+-- there are as many words to work in
+work-in-front :
+    (c : tie.After-fill-heads) →
+    let a = c .before .before .before .before .before .before .args in
+    length (take (c .fill-heads .result) (a .work .now)) ≡ c .fill-heads .result
 work-in-front c =
     let s = c .before .before .before .before .before .before in
     length-take-le (c .fill-heads .result) (s .args .work .now) (omega (arith, c .fill-heads .ensures .0, s .pre .1 .1 .0, s .pre .1 .1 .1))

@@ -1,7 +1,9 @@
 -- The rows of the first list, and behind them those of the second: they fit, since they are no more than the headers.
+use Prim.Native.Nat.{_<_}
 use mathlib.Core.Path.{ap₂, _∙_}
 use native.Mathlib.Omega.{arith}
 use borrow.Author.Needs.{needs}
+use Rattle.sort.specs.Packed.{wordValues}
 use Rattle.tree.specs.Objects.{saysBy, namesOf}
 use Rattle.tree.specs.declared.whole.Grown.the-variants.{Rows}
 use Rattle.tree.proofs.Joined.{Joined, joined}
@@ -26,20 +28,18 @@ put c =
     let s = f .before .before .before .before .before .before .before in
     joined _ _ _ _ _ _ _ _ (f .first-list .ensures) (c .second-list .ensures) (s .pre .1 .1 .1)
 
+-- and their rows are no more than pages
+few : (c : tie.After-second-list) → c .second-list .result < wordValues
+few c = omega (arith, put c .few, c .before .before .before .before .before .before .before .before .before .before .before .before .before .before .fits)
+
 sub-others : tie.Need-sub-others
 sub-others c = let j = put (c .before .before .before .before) in omega (arith, j .first, j .both)
 
 cast-first : tie.Need-cast-first
-cast-first c =
-    let q = c .before .before .before .before in
-    let j = put q in
-    record { fits = omega (arith, j .first, j .both, j .few, q .before .before .before .before .before .before .before .before .before .before .before .before .before .before .fits) }
+cast-first c = let q = c .before .before .before .before in let j = put q in record { fits = omega (arith, j .first, j .both, few q) }
 
 cast-second : tie.Need-cast-second
-cast-second c =
-    let q = c .before .before .before .before in
-    let j = put q in
-    record { fits = omega (arith, j .first, j .both, j .few, q .before .before .before .before .before .before .before .before .before .before .before .before .before .before .fits) }
+cast-second c = let q = c .before .before .before .before in let j = put q in record { fits = omega (arith, j .first, j .both, few q) }
 
 returns : tie.Need-returns
 returns c = let j = put (c .before .before .before .before) in (ap₂ Rows (j .first) (j .second), j .front)

@@ -19,4 +19,5 @@ returns c =
     (c .before .before .before .before .before .before .before .find-ways .ensures)
 
 pub second-list-spec : {M : Type 1} → statement M
-second-list-spec = tie.close (tie.spec (λ c κs. c .before .before .before .before .before .pre) list-others-requires (search needs) (search needs) returns)
+second-list-spec =
+    tie.close (tie.spec (λ c κs. c .before .before .before .before .before .pre) list-others-requires (search needs) (search needs) returns)
