@@ -1,4 +1,5 @@
--- What is answered of a dump's tree, case by case.
+-- What is answered of a dump's tree, case by case: a refused dump, a moment whose page it lacks, too few words, and enough of them. In each the tests
+-- of the definitions are known, and so is what is left of all three slices.
 use Prim.Native.Nat.{ℕ, _-_, _≤_, _<_, min}
 use mathlib.Core.Bool.{true, false}
 use mathlib.Core.List.{List, _++_}
@@ -14,14 +15,15 @@ use Rattle.page.specs.declared.refusal.Refusal.the-variants.{BadPage, ShortBuff
 use Rattle.chunk.specs.Lists.{inFront}
 use Rattle.chunk.specs.Moments.{isMissing}
 use Rattle.chunk.specs.declared.moment.Moment.{Moment}
-use Rattle.tree.specs.Answers.{saysAt, namesAt, treeOn, rowsLeft, workLeft}
+use Rattle.tree.specs.Answers.{grownTo, saysAt, treeOn, rowsLeft, workLeft}
 use Rattle.tree.specs.Heads.{headCount}
-use Rattle.tree.specs.Rows.{listedRows, otherRows, treeRows}
+use Rattle.tree.specs.Objects.{namesOf}
+use Rattle.tree.specs.Rows.{treeRows}
 use Rattle.tree.specs.declared.whole.Grown.{Grown}
-use Rattle.tree.specs.declared.whole.Grown.the-variants.{Rows, Refused}
+use Rattle.tree.specs.declared.whole.Grown.the-variants.{Refused}
 
--- an answer, and what the three slices are left as
 module _ (g : Geometry) (dump : List ℕ) (m : Moment) (rows heads work : List ℕ) where
+  -- an answer, and what the three slices are left as
   abbrev pub Answered : Grown → (rows heads work : List ℕ) → Type 0
   Answered r rows₁ heads₁ work₁ =
       (r ≡ treeOn g dump m (length rows) (length heads) (length work))
@@ -42,15 +44,17 @@ module _ (g : Geometry) (dump : List ℕ) (m : Moment) (rows heads work : List �
 
     module _ (e : isMissing n m ≡ false) where
       -- too few words
-      pub room-refused : min (length rows) (min (length heads) (length work)) < headCount (saysAt g dump m) n → Answered (Refused ShortBuffer (headCount (saysAt g dump m) n)) rows heads work
+      pub room-refused :
+          min (length rows) (min (length heads) (length work)) < headCount (saysAt g dump m) n →
+          Answered (Refused ShortBuffer (headCount (saysAt g dump m) n)) rows heads work
       unfolding treeOn rowsLeft workLeft
       room-refused h = let t = lt-ltb _ _ h in (rw (o, e, t), (rw (o, e, t), (rw (o, e, t), rw (o, e, t))))
 
       -- enough of them
       pub room-enough :
           headCount (saysAt g dump m) n ≤ min (length rows) (min (length heads) (length work)) → (k : ℕ) → k ≡ headCount (saysAt g dump m) n →
-          Answered (Rows (length (listedRows (saysAt g dump m) (namesAt g dump m) n)) (length (otherRows (saysAt g dump m) (namesAt g dump m) n)))
-          (inFront (treeRows (saysAt g dump m) (namesAt g dump m) n) rows) (replicate k 0 ++ drop k heads) (replicate k 0 ++ drop k work)
+          Answered (grownTo (saysAt g dump m) (namesOf g dump) n)
+          (inFront (treeRows (saysAt g dump m) (namesOf g dump) n) rows) (replicate k 0 ++ drop k heads) (replicate k 0 ++ drop k work)
       unfolding treeOn rowsLeft workLeft
       room-enough h k q =
           let t = le-ltb _ _ h in

@@ -1,63 +1,33 @@
 -- Words that know where ways lead. A step comes to an object with a row, to the root, or to one with no header, and its code says which. Where the
 -- word of an object comes to one from which the way goes on, the word of that one knows the way on: so the steps of both are steps of the first, and
 -- if the one and the other are more than b, those are more than 2 b + 1. A word whose way ended stands for any number of steps.
-use Prim.Native.Nat.{ℕ, zero, suc, _+_, _*_, _-_, _≤_, _<_}
+use Prim.Native.Nat.{ℕ, _+_, _*_, _-_, _≤_, _<_}
 use mathlib.Core.Bool.{true, false}
-use mathlib.Core.List.{List, [], _∷_, map}
-use mathlib.Core.Logic.{inl, inr, ⊎-elim}
-use mathlib.Core.Option.{Option, none, some}
+use mathlib.Core.List.{List}
+use mathlib.Core.Logic.{⊎-elim}
 use mathlib.Core.Path.{_≡_, refl, sym, ap, _∙_}
-use native.Mathlib.Nat.{le-refl, not-suc-le-zero, le-of-suc-le-suc, eq-or-lt-of-le}
+use native.Mathlib.Nat.{le-refl, not-suc-le-zero, eq-or-lt-of-le}
 use native.Mathlib.Omega.{arith}
 use borrow.Author.Tests.{ltb-true, ltb-false, lt-ltb, le-ltb, eqb-true, eqb-false, eq-eqb, ne-eqb}
 use lib.Dec.{eqb, ltb}
 use lib.ListN.{length, getD, set, length-set}
 use lib.Seq.{getD-set-same, getD-set-other}
 use Rattle.page.specs.Choice.{pick}
-use Rattle.page.specs.Records.{isHeader}
 use Rattle.page.specs.declared.record.Record.{Record}
-use Rattle.page.specs.declared.record.Record.the-variants.{Other, Header, Data}
 use Rattle.page.proofs.Searching.{clash, by-test}
 use Rattle.sort.specs.Packed.{wordValues, packed, keyOf, valueOf}
-use Rattle.sort.proofs.Ascending.{In, Ascends}
 use Rattle.sort.proofs.Packing.{packed-key, packed-value}
 use Rattle.chunk.specs.Records.{isGone}
 use Rattle.text.proofs.Order.{le-or-lt}
-use Rattle.tree.specs.Climbs.{kindBy, placeIn, kindIn, toRoot, toNone, goesOn, idAt}
+use Rattle.tree.specs.Climbs.{kindBy, placeIn, kindIn, toRoot, toNone}
 use Rattle.tree.specs.Climbs.{Headed, Leads, Walked, Climbed, Word, Ways, IsCode, FirstWays, SomeWays, Raised, Doubled}
-use Rattle.tree.specs.Heads.{Heads}
+use Rattle.tree.specs.Heads.{Heads, objectAt}
 use Rattle.tree.specs.Objects.{Stand, missing, deleted, nonDirectory, directory}
-use Rattle.tree.specs.Objects.{root, isDirectory, parentIn, standBy, headOf, parentOf, standOf, isStanding}
-use Rattle.tree.specs.Search.{Sorted}
-use Rattle.tree.specs.Ways.{up}
-use Rattle.tree.proofs.Ways.{head-below, up-none, up-more}
-
--- ---- rows that ascend
-
--- the row at a place is in the rows
-pub get-in : (L : List ℕ) (i : ℕ) → i < length L → In (getD L i 0) L
-get-in [] i h = absurd (not-suc-le-zero h)
-get-in (x ∷ L) zero h = inl refl
-get-in (x ∷ L) (suc i) h = inr (get-in L i (le-of-suc-le-suc h))
-
--- and each of them stands at a place
-pub in-get : (x : ℕ) (L : List ℕ) → In x L → (i : ℕ) × (i < length L) × (getD L i 0 ≡ x)
-in-get x [] i = absurd i
-in-get x (y ∷ L) (inl e) = (0, omega arith, sym e)
-in-get x (y ∷ L) (inr i) = let w = in-get x L i in (suc (w .0), omega (arith, w .1), w .2)
-
--- no key is below where they begin
-least-key : (b : ℕ) (L : List ℕ) (j : ℕ) → Ascends b (map keyOf L) → j < length L → b ≤ keyOf (getD L j 0)
-least-key b [] j a h = absurd (not-suc-le-zero h)
-least-key b (x ∷ L) zero a h = a .0
-least-key b (x ∷ L) (suc j) a h = omega (arith, a .0, least-key (suc (keyOf x)) L j (a .1) (le-of-suc-le-suc h))
-
--- a later row has a larger key
-pub keys-rise : (b : ℕ) (L : List ℕ) (i j : ℕ) → Ascends b (map keyOf L) → i < j → j < length L → keyOf (getD L i 0) < keyOf (getD L j 0)
-keys-rise b [] i j a l h = absurd (not-suc-le-zero h)
-keys-rise b (x ∷ L) i zero a l h = absurd (not-suc-le-zero l)
-keys-rise b (x ∷ L) zero (suc j) a l h = least-key (suc (keyOf x)) L j (a .1) (le-of-suc-le-suc h)
-keys-rise b (x ∷ L) (suc i) (suc j) a l h = keys-rise (suc (keyOf x)) L i j (a .1) (le-of-suc-le-suc l) (le-of-suc-le-suc h)
+use Rattle.tree.specs.Objects.{root, isDirectory, parentIn, standBy, parentOf, standOf, isStanding}
+use Rattle.tree.specs.Ways.{up, goesOn}
+use Rattle.tree.proofs.HeadRows.{no-row, stand-at, parent-at}
+use Rattle.tree.proofs.Standing.{stand-missing}
+use Rattle.tree.proofs.Ways.{up-one, up-join}
 
 -- ---- kinds
 
@@ -66,11 +36,13 @@ pub header-kind : (r : Record) → kindBy (standBy r) < 3
 header-kind r =
     by-test (isGone r) _ (λ t. rw t (omega arith)) (λ t. by-test (isDirectory r) _ (λ u. rw (t, u) (omega arith)) (λ u. rw (t, u) (omega arith)))
 
--- a page that is no header has the kind of no directory
-pub other-kind : (r : Record) → isHeader r ≡ false → 2 ≡ kindBy (standBy r)
-other-kind Other e = refl
-other-kind (Header h) e = clash (cc)
-other-kind (Data d) e = refl
+-- that of one that is gone
+pub kind-gone : (r : Record) → isGone r ≡ true → kindBy (standBy r) ≡ 1
+kind-gone r e = rw e
+
+-- that of one that is not, and does not stand
+pub kind-else : (r : Record) → isGone r ≡ false → isStanding (standBy r) ≡ false → kindBy (standBy r) ≡ 2
+kind-else r e f = by-test (isDirectory r) _ (λ t. let z : true ≡ false = rw (e, t) at f in clash (cc)) (λ t. rw (e, t))
 
 -- kind 0 is that of a directory
 standing-kind : (s : Stand) → kindBy s ≡ 0 → isStanding s ≡ true
@@ -80,65 +52,14 @@ standing-kind nonDirectory e = clash (omega arith)
 standing-kind directory e = refl
 
 -- and no other is
-kind-standing : (s : Stand) → isStanding s ≡ true → kindBy s ≡ 0
+pub kind-standing : (s : Stand) → isStanding s ≡ true → kindBy s ≡ 0
 kind-standing missing e = clash (cc)
 kind-standing deleted e = clash (cc)
 kind-standing nonDirectory e = clash (cc)
 kind-standing directory e = refl
 
 module _ (says : ℕ → Record) (n : ℕ) (heads : List ℕ) where
-  -- ---- the rows of heads
-
-  module _ (rows : Heads says n heads) where
-    -- they are in order
-    pub heads-sorted : Sorted heads
-    heads-sorted =
-        record {
-          rise = λ i j l h.
-              ⊎-elim
-              (λ (e : i ≡ j). rw e (le-refl _))
-              (λ (k : i < j). omega (arith, keys-rise 0 heads i j (rows .ascend) k h))
-              (eq-or-lt-of-le l);
-        }
-
-    -- an object has one row
-    pub one-row : (i j : ℕ) → i < length heads → j < length heads → idAt says n heads i ≡ idAt says n heads j → i ≡ j
-    one-row i j h k e =
-        ⊎-elim
-        (λ (l : i ≤ j).
-        ⊎-elim
-        (λ (q : i ≡ j). q)
-        (λ (m : i < j). absurd (omega (arith, keys-rise 0 heads i j (rows .ascend) m k)))
-        (eq-or-lt-of-le l))
-        (λ (l : j < i). absurd (omega (arith, keys-rise 0 heads j i (rows .ascend) l h)))
-        (le-or-lt i j)
-
-    -- with its newest header
-    pub row-head : (i : ℕ) → i < length heads → headOf says n (idAt says n heads i) ≡ some (valueOf (getD heads i 0))
-    row-head i h = rows .right (getD heads i 0) (get-in heads i h)
-
-  -- an object that has no row has no header
-  no-row : Headed says n heads → (x : ℕ) → ((i : ℕ) → i < length heads → idAt says n heads i ≡ x → ⊥) → headOf says n x ≡ none
-  no-row w x f = go (headOf says n x) refl
-    where
-      go : (r : Option ℕ) → headOf says n x ≡ r → r ≡ none
-      go none e = refl
-      go (some p) e =
-          let r = in-get (packed x p) heads (w .right .all x p e) in
-          let k : keyOf (packed x p) ≡ x = packed-key x p (omega (arith, head-below says n x p e, w .small)) in
-          absurd (f (r .0) (r .1) (ap keyOf (r .2) ∙ k))
-
   -- ---- codes
-
-  -- an object with no header is missing
-  stand-none : (x : ℕ) → headOf says n x ≡ none → standOf says n x ≡ missing
-  unfolding standOf
-  stand-none x e = rw e
-
-  -- one with a header stands by it
-  pub stand-head : (x p : ℕ) → headOf says n x ≡ some p → standOf says n x ≡ standBy (says p)
-  unfolding standOf
-  stand-head x p e = rw e
 
   -- the code of the root
   pub leads-root : (x : ℕ) → x ≡ root → Leads says n heads x toRoot
@@ -152,18 +73,18 @@ module _ (says : ℕ → Record) (n : ℕ) (heads : List ℕ) where
 
   -- of an object that has no row
   pub leads-none :
-      Headed says n heads → (x : ℕ) → (x ≡ root → ⊥) → ((i : ℕ) → i < length heads → idAt says n heads i ≡ x → ⊥) → Leads says n heads x toNone
+      Headed says n heads → (x : ℕ) → (x ≡ root → ⊥) → ((i : ℕ) → i < length heads → objectAt heads i ≡ x → ⊥) → Leads says n heads x toNone
   leads-none w x d f =
       record {
         top = sym (ne-eqb x root d);
-        kind = λ t. ap kindBy (sym (stand-none x (no-row w x f)));
+        kind = λ t. ap kindBy (sym (stand-missing says n x (no-row says n heads (w .right) (w .small) x f)));
         inside = λ l. absurd (omega arith);
         placed = λ l. absurd (omega arith);
       }
 
   -- and of one that has a row
   pub leads-row :
-      Heads says n heads → (x i : ℕ) → (x ≡ root → ⊥) → i < length heads → idAt says n heads i ≡ x →
+      Heads says n heads → (x i : ℕ) → (x ≡ root → ⊥) → i < length heads → objectAt heads i ≡ x →
       Leads says n heads x (i * 4 + kindBy (standBy (says (valueOf (getD heads i 0)))))
   leads-row w x i d h e =
       let r = says (valueOf (getD heads i 0)) in
@@ -171,28 +92,19 @@ module _ (says : ℕ → Record) (n : ℕ) (heads : List ℕ) where
       let b : k < 3 = header-kind r in
       let p : placeIn (i * 4 + k) ≡ i = omega arith in
       let q : kindIn (i * 4 + k) ≡ k = omega arith in
-      let s : standOf says n x ≡ standBy r = stand-head x _ (rw e at (row-head w i h)) in
+      let s : standOf says n x ≡ standBy r = rw e at (stand-at says n heads w i h) in
       record {
         top = ne-eqb (i * 4 + k) toRoot (λ z. omega arith) ∙ sym (ne-eqb x root d);
         kind = λ t. q ∙ ap kindBy (sym s);
         inside = λ l. rw p h;
-        placed = λ l. ap (idAt says n heads) p ∙ e;
+        placed = λ l. ap (objectAt heads) p ∙ e;
       }
 
   -- ---- words
 
-  -- the parent of an object is what its newest header names
-  parent-head : (x p : ℕ) → headOf says n x ≡ some p → parentOf says n x ≡ parentIn (says p)
-  unfolding parentOf
-  parent-head x p e = rw e
-
-  -- a step leads to the parent
-  up-one : (o : ℕ) → up says n 1 o ≡ parentOf says n o
-  up-one o = up-more says n 0 o ∙ ap (parentOf says n) (up-none says n o)
-
   -- a way that has gone a step has come to the parent
   pub first-walked : (o code : ℕ) → Leads says n heads (parentOf says n o) code → Walked says n heads o 1 code
-  first-walked o code w = record { step = le-refl 1; leads = rw (up-one o) w; on = λ j b c. absurd (omega arith) }
+  first-walked o code w = record { step = le-refl 1; leads = rw (up-one says n o) w; on = λ j b c. absurd (omega arith) }
 
   -- the word of an object whose way has gone a step
   first-word : (o code : ℕ) → Leads says n heads (parentOf says n o) code → code < wordValues → Word says n heads 0 o (packed code code)
@@ -221,16 +133,6 @@ module _ (says : ℕ → Record) (n : ℕ) (heads : List ℕ) where
       (λ t.
       by-test (isStanding (standOf says n x)) _ (λ u. absurd (d (w .kind t ∙ kind-standing (standOf says n x) u))) (λ u. rw (t, u)))
 
-  -- so many steps and then some
-  up-join : (a k o : ℕ) → up says n k (up says n a o) ≡ up says n (a + k) o
-  up-join a zero o = let e : a ≡ a + 0 = omega arith in up-none says n (up says n a o) ∙ ap (λ (m : ℕ). up says n m o) e
-  up-join a (suc k) o =
-      let e : suc (a + k) ≡ a + suc k = omega arith in
-      up-more says n k (up says n a o)
-      ∙ ap (parentOf says n) (up-join a k o)
-      ∙ sym (up-more says n (a + k) o)
-      ∙ ap (λ (m : ℕ). up says n m o) e
-
   -- a way to an object that goes on, and the way on from there
   pub walked-join :
       (o a code k next : ℕ) → Walked says n heads o a code → goesOn says n (up says n a o) ≡ true → Walked says n heads (up says n a o) k next →
@@ -238,7 +140,7 @@ module _ (says : ℕ → Record) (n : ℕ) (heads : List ℕ) where
   walked-join o a code k next w g v =
       record {
         step = omega (arith, w .step);
-        leads = rw (← up-join a k o) (v .leads);
+        leads = rw (← up-join says n a k o) (v .leads);
         on = λ j b c.
             ⊎-elim
             (λ (l : a ≤ j).
@@ -246,7 +148,7 @@ module _ (says : ℕ → Record) (n : ℕ) (heads : List ℕ) where
             (λ (e : a ≡ j). rw (← e) g)
             (λ (m : a < j).
             let e : a + (j - a) ≡ j = omega arith in
-            rw (← e, ← up-join a (j - a) o) (v .on (j - a) (omega arith) (omega arith)))
+            rw (← e, ← up-join says n a (j - a) o) (v .on (j - a) (omega arith) (omega arith)))
             (eq-or-lt-of-le l))
             (λ (l : j < a). w .on j b l)
             (le-or-lt a j);
@@ -264,17 +166,17 @@ module _ (says : ℕ → Record) (n : ℕ) (heads : List ℕ) where
 
   -- one that goes on, and the way on from there
   pub climbed-join :
-      (b o code next : ℕ) → Climbed says n heads b o code → kindIn code ≡ 0 → Climbed says n heads b (idAt says n heads (placeIn code)) next →
+      (b o code next : ℕ) → Climbed says n heads b o code → kindIn code ≡ 0 → Climbed says n heads b (objectAt heads (placeIn code)) next →
       Climbed says n heads (b * 2 + 1) o next
   climbed-join b o code next w e v =
       let a = w .steps in
       let g = leads-on _ code (w .walked .leads) e in
-      let here : idAt says n heads (placeIn code) ≡ up says n a o = w .walked .leads .placed (omega arith) in
+      let here : objectAt heads (placeIn code) ≡ up says n a o = w .walked .leads .placed (omega arith) in
       let on : Climbed says n heads b (up says n a o) next = rw here at v in
       record {
         steps = a + on .steps;
         walked = walked-join o a code (on .steps) next (w .walked) g (on .walked);
-        far = λ t. omega (arith, w .far g, on .far (rw (up-join a (on .steps) o) t));
+        far = λ t. omega (arith, w .far g, on .far (rw (up-join says n a (on .steps) o) t));
       }
 
   -- where a word's way goes on, there is a row
@@ -300,7 +202,7 @@ module _ (says : ℕ → Record) (heads : List ℕ) where
   pub record Filled (words : List ℕ) (i : ℕ) : Type 0 where
     pub inside : i ≤ length heads
     pub long : length words ≡ length heads
-    pub filled : (n : ℕ) → Headed says n heads → (j : ℕ) → j < i → Word says n heads 0 (idAt says n heads j) (getD words j 0)
+    pub filled : (n : ℕ) → Headed says n heads → (j : ℕ) → j < i → Word says n heads 0 (objectAt heads j) (getD words j 0)
 
   -- none has
   pub filled-none : (words : List ℕ) → length words ≡ length heads → Filled words 0
@@ -316,10 +218,10 @@ module _ (says : ℕ → Record) (heads : List ℕ) where
         inside = omega arith;
         long = length-set words i (packed code code) ∙ q .long;
         filled = λ n r j l.
-            set-each (λ j v. j < i + 1 → Word says n heads 0 (idAt says n heads j) v) words i (packed code code) (omega (arith, q .long))
+            set-each (λ j v. j < i + 1 → Word says n heads 0 (objectAt heads j) v) words i (packed code code) (omega (arith, q .long))
             (λ k.
-            first-word says n heads (idAt says n heads i) code
-            (rw (parent-head says n heads (idAt says n heads i) _ (row-head says n heads (r .right) i h)) (w n r)) b)
+            first-word says n heads (objectAt heads i) code
+            (rw (parent-at says n heads (r .right) i h) (w n r)) b)
             j
             (λ d k. q .filled n r j (omega arith))
             l;
@@ -417,14 +319,14 @@ doubling-more before words i q h e =
           let k : p < length heads = omega (arith, v .long, jump-inside says n heads _ words i v h e) in
           let here = climbed-lower says n heads b _ _ _ (halfway-least b i i) (u .jump) in
           let there = climbed-lower says n heads b _ _ _ (halfway-least b i p) (v .each p k .jump) in
-          let new : Word says n heads (halfway b (i + 1) i) (idAt says n heads i) (packed (keyOf word) next) =
+          let new : Word says n heads (halfway b (i + 1) i) (objectAt heads i) (packed (keyOf word) next) =
           rw (halfway-passed b (i + 1) i (omega arith))
           record { parent = rw key (u .parent); jump = rw value (climbed-join says n heads b _ _ next here e there) }
           in
           record {
             long = same ∙ v .long;
             each = λ j l.
-                set-each (λ j x. Word says n heads (halfway b (i + 1) j) (idAt says n heads j) x) words i _ h new j
+                set-each (λ j x. Word says n heads (halfway b (i + 1) j) (objectAt heads j) x) words i _ h new j
                 (λ d. rw (halfway-other b i j d) (v .each j l));
           };
     }

@@ -1,111 +1,81 @@
--- The children's rows: which objects they are, and that those of one directory stand side by side, ascending by id.
-use Prim.Native.Nat.{ℕ, _+_, _-_, _≤_, _<_}
+-- The children's rows: a row for each place of an object that is live and not the root, and for no other. No two are the same, since each has its place
+-- as its value; so they ascend when they are sorted.
+use Prim.Native.Nat.{ℕ, _-_, _<_}
 use mathlib.Core.Bool.{Bool, true, false, not, _&&_}
-use mathlib.Core.List.{List, [], _∷_, _++_, map}
-use mathlib.Core.Option.{some}
+use mathlib.Core.List.{List}
 use mathlib.Core.Path.{_≡_, refl, sym, ap, _∙_}
-use native.Mathlib.Nat.{zero-add, le-refl}
+use native.Mathlib.Nat.{le-refl}
 use native.Mathlib.Omega.{arith}
-use borrow.Author.Tests.{eq-eqb, ne-eqb}
+use borrow.Author.Tests.{eqb-false, eq-eqb, ne-eqb, not-true}
 use lib.Dec.{eqb}
-use lib.ListN.{length, take, drop, getD, length-map}
-use lib.Seq.{take-at, take-append-seam}
+use lib.ListN.{length, getD}
 use Rattle.page.specs.Records.{isHeader}
 use Rattle.page.specs.declared.record.Record.{Record}
-use Rattle.page.specs.declared.record.Record.the-variants.{Other, Header, Data}
+use Rattle.page.specs.declared.record.Record.the-variants.{Header}
 use Rattle.page.specs.declared.record.Header as header
-use Rattle.page.proofs.Searching.{by-test}
-use Rattle.sort.specs.Arranged.{arranged}
+use Rattle.page.proofs.Layouts.{and-left, and-right}
 use Rattle.sort.specs.Packed.{wordValues, packed, keyOf, valueOf}
-use Rattle.sort.proofs.Arranging.{arranged-length}
-use Rattle.sort.proofs.Ascending.{In, Ascends}
+use Rattle.sort.proofs.Ascending.{Ascends}
 use Rattle.sort.proofs.Packing.{packed-key, packed-value}
 use Rattle.chunk.specs.Live.{passed, idsOf}
 use Rattle.chunk.specs.Records.{isGone}
-use Rattle.chunk.proofs.Living.{Live, live-in, live-of, live-ids-ascend, ids-in, ids-of, ids-ascend-below}
-use Rattle.text.specs.Put.{most, counted, Put}
-use Rattle.text.proofs.Putting.{whole, exact}
-use Rattle.tree.specs.Children.{objectAt, saidAt, isChild, childRow, childRows}
-use Rattle.tree.specs.Heads.{Heads}
-use Rattle.tree.specs.Objects.{root, headOf, pageOf, parentOf, standOf, standBy, parentIn}
-use Rattle.tree.specs.Search.{Sorted, Parted}
-use Rattle.tree.proofs.Places.{in-at, at-in, map-at, ascends-at, at-ascends, arranged-sorted}
-
--- words that were put in front of others are sorted
-pub put-length : {text before after : List ℕ} {next : ℕ} → Put text before 0 after next → length text ≤ length before → next ≡ length text
-put-length {text} {before} {after} {next} p h =
-    p .behind ∙ ap counted (zero-add (length text)) ∙ exact (length text) (omega (arith, p .short))
-
-pub put-sorted : {text before after : List ℕ} {next : ℕ} (v : List ℕ) → Put text before 0 after next → length text ≤ length before
-    → v ≡ arranged (take next after) ++ drop next after → take next v ≡ arranged text
-put-sorted {text} {before} {after} {next} v p h e =
-    let n = put-length p h in
-    let f : take next after ≡ text = ap (take next) (whole p h) ∙ take-at text (drop (length text) before) next (sym n) in
-    ap (take next) e ∙ rw f (take-at (arranged text) (drop next after) next (arranged-length text ∙ sym n))
+use Rattle.chunk.proofs.Living.{ids-of, ids-ascend-below}
+use Rattle.tree.specs.Children.{isChild, childRow, childRows}
+use Rattle.tree.specs.Heads.{Heads, objectAt, saidAt}
+use Rattle.tree.specs.Objects.{root, parentIn}
+use Rattle.tree.specs.Search.{Sorted}
+use Rattle.tree.proofs.Places.{at-in, arranged-sorted}
 
 module _ (says : ℕ → Record) (heads : List ℕ) (j : ℕ) where
-  -- the root, a page that is no header, and a deleted object are passed over
-  pub root-no-child : objectAt says heads j ≡ root → isChild says heads j ≡ false
+  -- the root is passed over
+  pub root-no-child : objectAt heads j ≡ root → isChild says heads j ≡ false
   unfolding isChild
-  root-no-child e = rw (eq-eqb (objectAt says heads j) root e)
+  root-no-child e = rw (eq-eqb (objectAt heads j) root e)
 
+  -- where the second of three tests fails, they do
   other-no-child : (b c : Bool) → (b && (false && c)) ≡ false
   other-no-child true c = refl
   other-no-child false c = refl
 
+  -- and where the third does
   gone-no-child : (b c : Bool) → (b && (c && false)) ≡ false
   gone-no-child true true = refl
   gone-no-child true false = refl
   gone-no-child false c = refl
 
+  -- a page that is no header is passed over
   pub page-no-child : isHeader (saidAt says heads j) ≡ false → isChild says heads j ≡ false
   unfolding isChild
-  page-no-child e = rw e (other-no-child (not (eqb (objectAt says heads j) root)) (not (isGone (saidAt says heads j))))
+  page-no-child e = rw e (other-no-child (not (eqb (objectAt heads j) root)) (not (isGone (saidAt says heads j))))
 
+  -- and so is a deleted object
   pub deleted-no-child : isGone (saidAt says heads j) ≡ true → isChild says heads j ≡ false
   unfolding isChild
-  deleted-no-child e = rw e (gone-no-child (not (eqb (objectAt says heads j) root)) (isHeader (saidAt says heads j)))
+  deleted-no-child e = rw e (gone-no-child (not (eqb (objectAt heads j) root)) (isHeader (saidAt says heads j)))
 
   -- every other is a child
-  pub is-child : (objectAt says heads j ≡ root → ⊥) → isHeader (saidAt says heads j) ≡ true → isGone (saidAt says heads j) ≡ false → isChild says heads j ≡ true
+  pub is-child :
+      (objectAt heads j ≡ root → ⊥) → isHeader (saidAt says heads j) ≡ true → isGone (saidAt says heads j) ≡ false → isChild says heads j ≡ true
   unfolding isChild
-  is-child f h e = rw (ne-eqb (objectAt says heads j) root f, h, e)
+  is-child f h e = rw (ne-eqb (objectAt heads j) root f, h, e)
 
+  -- and a child is so
+  pub child-is : isChild says heads j ≡ true → (objectAt heads j ≡ root → ⊥) × (isGone (saidAt says heads j) ≡ false)
+  unfolding isChild
+  child-is t =
+      let below = not (eqb (objectAt heads j) root) in (
+        eqb-false (objectAt heads j) root (not-true _ (and-left below _ t)),
+        not-true _ (and-right (isHeader (saidAt says heads j)) _ (and-right below _ t)),
+      )
+
+  -- its row has the parent that its header names, and its place
   pub child-row : (h : header.Header) → saidAt says heads j ≡ Header h → childRow says heads j ≡ packed (h .parent .0) j
   unfolding childRow
   child-row h e = rw e
 
 -- the children of n pages with these newest headers
 module _ (says : ℕ → Record) (n : ℕ) (heads : List ℕ) (w : Heads says n heads) where
-  -- the object of row j, by its newest header
-  module _ (j : ℕ) (h : j < length heads) where
-    pub head-at : headOf says n (objectAt says heads j) ≡ some (valueOf (getD heads j 0))
-    head-at = w .right (getD heads j 0) (at-in j heads h)
-
-    pub page-at : pageOf says n (objectAt says heads j) ≡ valueOf (getD heads j 0)
-    page-at = rw head-at
-
-    pub stand-at : standOf says n (objectAt says heads j) ≡ standBy (saidAt says heads j)
-    unfolding standOf
-    stand-at = rw head-at
-
-    pub parent-at : parentOf says n (objectAt says heads j) ≡ parentIn (saidAt says heads j)
-    unfolding parentOf
-    parent-at = rw head-at
-
-  -- objects of later rows are above those of earlier ones
-  pub objects-rise : (i j : ℕ) → i < j → j < length heads → objectAt says heads i < objectAt says heads j
-  objects-rise i j h k =
-      let l = length-map heads keyOf in
-      let a = ascends-at 0 i j (map keyOf heads) (w .ascend) h (omega arith) in
-      rw (map-at keyOf i heads (omega arith), map-at keyOf j heads k) at a
-
-  -- an object with a header has a row
-  pub head-stands : (o p : ℕ) → headOf says n o ≡ some p → p < wordValues → (j : ℕ) × (j < length heads) × (objectAt says heads j ≡ o) × (valueOf (getD heads j 0) ≡ p)
-  head-stands o p e h =
-      let s = in-at (packed o p) heads (w .all o p e) in
-      (s .place, s .inside, ap keyOf (s .here) ∙ packed-key o p h, ap valueOf (s .here) ∙ packed-value o p h)
-
+  -- they are in order
   pub children-sorted : Sorted (childRows says heads)
   unfolding childRows idsOf
   children-sorted = arranged-sorted (passed (isChild says heads) (childRow says heads) (length heads))
@@ -115,7 +85,9 @@ module _ (says : ℕ → Record) (n : ℕ) (heads : List ℕ) (w : Heads says n 
   unfolding childRows childRow
   children-ascend = ids-ascend-below (isChild says heads) (childRow says heads) (length heads) apart (length heads) (le-refl _)
     where
-      apart : (p q : ℕ) → p < length heads → q < length heads → isChild says heads p ≡ true → isChild says heads q ≡ true → childRow says heads p ≡ childRow says heads q → p ≡ q
+      apart :
+          (p q : ℕ) → p < length heads → q < length heads → isChild says heads p ≡ true → isChild says heads q ≡ true →
+          childRow says heads p ≡ childRow says heads q → p ≡ q
       apart p q h k t u e =
           let a = packed-value (parentIn (saidAt says heads p)) p (omega (arith, w .few)) in
           let b = packed-value (parentIn (saidAt says heads q)) q (omega (arith, w .few)) in
@@ -127,11 +99,14 @@ module _ (says : ℕ → Record) (n : ℕ) (heads : List ℕ) (w : Heads says n 
     pub live : isChild says heads (valueOf row) ≡ true
     pub under : keyOf row ≡ parentIn (saidAt says heads (valueOf row))
 
+  -- each row of theirs is one
   pub child-at : (i : ℕ) → i < length (childRows says heads) → Child (getD (childRows says heads) i 0)
   unfolding childRows childRow
   child-at i h =
       let r = getD (childRows says heads) i 0 in
       let b = ids-of (isChild says heads) (childRow says heads) r (length heads) (at-in i (childRows says heads) h) in
-      let v : valueOf r ≡ b .page = ap valueOf (sym (b .bears)) ∙ packed-value (parentIn (saidAt says heads (b .page))) (b .page) (omega (arith, b .inside, w .few)) in
-      let k : keyOf r ≡ parentIn (saidAt says heads (b .page)) = ap keyOf (sym (b .bears)) ∙ packed-key (parentIn (saidAt says heads (b .page))) (b .page) (omega (arith, b .inside, w .few)) in
+      let p = parentIn (saidAt says heads (b .page)) in
+      let few : b .page < wordValues = omega (arith, b .inside, w .few) in
+      let v : valueOf r ≡ b .page = ap valueOf (sym (b .bears)) ∙ packed-value p (b .page) few in
+      let k : keyOf r ≡ p = ap keyOf (sym (b .bears)) ∙ packed-key p (b .page) few in
       record { inside = rw v (b .inside); live = rw v (b .passes); under = rw v k }

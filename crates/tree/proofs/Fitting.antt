@@ -2,65 +2,32 @@
 -- as long as the list of those; a live object has a live page, which is a header. The rows go by the same recursion as the entries: they are as many.
 use Prim.Native.Nat.{ℕ, zero, suc, _+_, _≤_, zero-le}
 use mathlib.Core.Bool.{Bool, true, false, not}
-use mathlib.Core.List.{List, [], _∷_, _++_, map}
+use mathlib.Core.List.{List, [], _∷_, _++_}
 use mathlib.Core.Logic.{inl, inr, ⊎-elim}
 use mathlib.Core.Path.{_≡_, refl, sym, ap, ap₂, _∙_}
 use native.Mathlib.Nat.{le-trans}
 use native.Mathlib.Omega.{arith}
-use borrow.Author.Tests.{not-true, eqb-true, eqb-false, eq-eqb, ne-eqb}
+use borrow.Author.Tests.{not-true, eqb-false, ne-eqb}
 use lib.Dec.{eqb}
 use lib.ListN.{length, length-append, length-map}
 use Rattle.page.specs.Search.{count}
 use Rattle.page.specs.declared.record.Record.{Record}
 use Rattle.page.proofs.Layouts.{and-left}
 use Rattle.page.proofs.Searching.{clash, by-test}
-use Rattle.sort.specs.Arranged.{timesIn}
 use Rattle.sort.proofs.Ascending.{In}
 use Rattle.chunk.specs.Live.{livePage, liveIds, liveCount}
 use Rattle.chunk.proofs.Living.{live-ids-ascend, live-length}
 use Rattle.tree.specs.Heads.{isHead, headCount}
 use Rattle.tree.specs.Objects.{root, standOf, isStanding}
 use Rattle.tree.specs.Paths.{Entry, keep, each, mostDepth, childrenOf, stepTo, entryOf, under, listed}
-use Rattle.tree.specs.Rows.{eachAt, rowsAt, rowsUnder, listedRows, otherRows, treeRows, keyBehind}
+use Rattle.tree.specs.Rows.{eachAt, rowsAt, entryRows, rowsUnder, listedRows, otherRows, treeRows, keyBehind}
 use Rattle.tree.specs.Tree.{isIn, others}
 use Rattle.tree.proofs.Both.{others-of, others-live, others-ascend, one-list}
-use Rattle.tree.proofs.Lists.{keep-in, keep-of, keep-ascends}
-use Rattle.tree.proofs.Paths.{timesListed, listed-below, listed-once}
+use Rattle.tree.proofs.Lists.{keep-in, keep-of, keep-ascends, keep-few}
+use Rattle.tree.proofs.Paths.{listed-below, listed-once, objectsOf, listed-object, object-listed}
 use Rattle.tree.proofs.Times.{Once, times-joined, times-out, joined-in, in-joined, ascends-once, once-length}
 
--- ---- a list of entries by its objects
-
--- the objects of a list of entries
-abbrev pub objectsOf : List Entry → List ℕ
-objectsOf L = map (λ e. e .object) L
-
-module _ (o : ℕ) where
-  -- an object is as often among them as in the entries
-  pub object-times : (L : List Entry) → timesIn o (objectsOf L) ≡ timesListed o L
-  unfolding timesIn timesListed
-  object-times [] = refl
-  object-times (e ∷ L) = by-test (eqb (e .object) o) _ (λ t. rw (t, object-times L)) (λ t. rw (t, object-times L))
-
-  -- it is among them where it is in the entries
-  pub listed-object : (L : List Entry) → isIn o L ≡ true → In o (objectsOf L)
-  unfolding isIn
-  listed-object [] t = clash (cc)
-  listed-object (e ∷ L) t = by-test (eqb (e .object) o) _ (λ u. inl (sym (eqb-true _ _ u))) (λ u. inr (listed-object L (rw u at t)))
-
-  -- and nowhere else
-  pub object-listed : (L : List Entry) → In o (objectsOf L) → isIn o L ≡ true
-  unfolding isIn
-  object-listed [] i = absurd i
-  object-listed (e ∷ L) (inl q) = rw (eq-eqb (e .object) o (sym q))
-  object-listed (e ∷ L) (inr i) = by-test (eqb (e .object) o) _ (λ u. rw u) (λ u. rw u (object-listed L i))
-
 -- ---- how long what is kept and counted is
-
--- no more is kept than there is
-pub keep-few : {A : Type 0} (t : A → Bool) (L : List A) → length (keep t L) ≤ length L
-unfolding keep
-keep-few t [] = zero-le
-keep-few t (x ∷ L) = let h = keep-few t L in by-test (t x) _ (λ u. rw u (omega arith)) (λ u. rw u (omega arith))
 
 module _ (t u : ℕ → Bool) (weaker : (p : ℕ) → t p ≡ true → u p ≡ true) where
   -- no more numbers pass a test than one that they all pass
@@ -111,7 +78,7 @@ module _ (says : ℕ → Record) (names : ℕ → List ℕ) (n : ℕ) where
       (by-test (isIn o (listed says names n)) _
       (λ t.
       let none = times-out o (others says names n) (λ i. let z : true ≡ false = sym t ∙ others-of says names n o i .2 in clash (cc)) in
-      omega (arith, object-times o (listed says names n), listed-once says names n o))
+      omega (arith, listed-once says names n o))
       (λ t.
       let none =
       times-out o (objectsOf (listed says names n))
@@ -146,10 +113,6 @@ module _ (says : ℕ → Record) (names : ℕ → List ℕ) (n : ℕ) where
       let e = once-length bothObjects (belowRoot says n) both-once (λ o. ascends-once o 0 (belowRoot says n) ascend) both-below below-both in
       omega (arith, length-append (objectsOf (listed says names n)) (others says names n), length-map (listed says names n) (λ e. e .object))
 
-  -- so that they are no longer than the headers are many
-  pub entries-few : length (listed says names n) + length (others says names n) ≤ headCount says n
-  entries-few = rw entries-all (below-few says n)
-
   -- ---- their rows
 
   -- an object has as many rows as entries, if what is below it has
@@ -168,7 +131,7 @@ module _ (says : ℕ → Record) (names : ℕ → List ℕ) (n : ℕ) where
   unfolding rowsUnder under
   rows-length zero key d at path = refl
   rows-length (suc k) key d at path =
-      each-length (rowsAt says names n (rowsUnder says names n k) key) (entryOf says names n (under says names n k) path)
+      each-length (entryRows says names n k key) (entryOf says names n (under says names n k) path)
       (row-length (rowsUnder says names n k) (under says names n k) (rows-length k) key path)
       at (childrenOf says names n d)
 

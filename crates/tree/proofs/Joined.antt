@@ -1,24 +1,21 @@
--- Rows of two lists put one behind the other, with room for both.
+-- Rows of two lists put one behind the other, with room for both: together they are no more than the headers, so that they are the front of the words.
 use Prim.Native.Nat.{ℕ, _+_, _-_, _≤_}
-use mathlib.Core.List.{List, [], _∷_, append-nil}
-use mathlib.Core.Path.{_≡_, refl, ap, _∙_}
-use native.Mathlib.Nat.{le-refl}
+use mathlib.Core.List.{List}
+use mathlib.Core.Path.{_≡_, _∙_}
 use native.Mathlib.Omega.{arith}
-use lib.ListN.{length, take, drop, replicate, length-append, drop-of-length-le}
+use lib.ListN.{length, length-append}
 use Rattle.page.specs.declared.record.Record.{Record}
-use Rattle.sort.specs.Room.{inRoom, clearedIn}
-use Rattle.sort.proofs.Clearing.{clear-inside}
+use Rattle.page.proofs.Searching.{count-le}
 use Rattle.chunk.specs.Lists.{inFront}
 use Rattle.text.specs.Put.{Put}
 use Rattle.text.proofs.Putting.{also, whole}
 use Rattle.tree.specs.Heads.{isHead, headCount}
 use Rattle.tree.specs.Rows.{listedRows, otherRows, treeRows}
-use Rattle.tree.proofs.Entries.{put-length}
 use Rattle.tree.proofs.Fitting.{rows-fit}
-use Rattle.tree.proofs.NewestHeads.{count-few}
+use Rattle.tree.proofs.Fronts.{put-length}
 
--- the rows of both lists of n pages are in front of words: how many the first list has, and both
 module _ (says : ℕ → Record) (names : ℕ → List ℕ) (n : ℕ) where
+  -- the rows of both lists of n pages are in front of words: how many the first list has, and both
   pub record Joined (rows after : List ℕ) (at r : ℕ) : Type 0 where
     pub first : at ≡ length (listedRows says names n)
     pub both : r ≡ length (listedRows says names n) + length (otherRows says names n)
@@ -26,8 +23,10 @@ module _ (says : ℕ → Record) (names : ℕ → List ℕ) (n : ℕ) where
     pub front : after ≡ inFront (treeRows says names n) rows
     pub few : r ≤ n
 
-  pub joined : (rows mid after : List ℕ) (at r : ℕ) → Put (listedRows says names n) rows 0 mid at → Put (otherRows says names n) mid at after r
-      → headCount says n ≤ length rows → Joined rows after at r
+  -- they are when both were put
+  pub joined :
+      (rows mid after : List ℕ) (at r : ℕ) → Put (listedRows says names n) rows 0 mid at → Put (otherRows says names n) mid at after r →
+      headCount says n ≤ length rows → Joined rows after at r
   unfolding treeRows
   joined rows mid after at r p q h =
       let fit : length (treeRows says names n) ≤ headCount says n = rows-fit says names n in
@@ -39,17 +38,5 @@ module _ (says : ℕ → Record) (names : ℕ → List ℕ) (n : ℕ) where
         both = all ∙ long;
         second = omega (arith, one, all);
         front = whole (also p q) (omega arith);
-        few = omega (arith, count-few (isHead says) n);
+        few = omega (arith, count-le (isHead says) n);
       }
-
--- words all of which are cleared
-all-cleared : (words : List ℕ) → inRoom (take 0 words) (length words) words ≡ replicate (length words) 0
-all-cleared [] = refl
-all-cleared (x ∷ L) =
-    let e : drop (length L) L ≡ [] = drop-of-length-le L (le-refl (length L)) in
-    let m : length (x ∷ L) - 0 ≡ length (x ∷ L) = omega arith in
-    rw (e, append-nil) (ap (λ (k : ℕ). replicate {A = ℕ} k 0) m)
-
-pub cleared-all : (n m : ℕ) (words after : List ℕ) → after ≡ clearedIn 0 n words → length words ≡ n → m ≡ n → after ≡ replicate m 0
-cleared-all n m words after c e d =
-    c ∙ rw (d, ← e) (clear-inside 0 (length words) words (omega arith) (le-refl (length words)) ∙ all-cleared words)

@@ -1,5 +1,8 @@
 pub mod Searching
 pub mod Places
+pub mod Fronts
+pub mod Standing
+pub mod HeadRows
 pub mod Passing
 pub mod Pigeons
 pub mod Ways

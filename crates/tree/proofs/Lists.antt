@@ -1,17 +1,16 @@
--- Laws of `keep` and `each`. What is kept of a list is its members that pass, in their order, so that a kept part of an ascending list ascends;
--- and what each of a list gives has exactly the members that one of them gives. Both go through a list joined of two, part by part.
-use Prim.Native.Nat.{ℕ, suc, _≤_}
+-- Laws of `keep`, `map` and `each`. What is kept of a list is its members that pass, in their order, so that a kept part of an ascending list ascends.
+-- What each of a list is made, or gives, has exactly the members that one of them is made or gives. All go through joined lists part by part.
+use Prim.Native.Nat.{ℕ, suc, _+_, _≤_, _<_, zero-le}
 use mathlib.Core.Bool.{Bool, true, false, _&&_}
-use mathlib.Core.List.{List, [], _∷_, _++_, append-assoc}
+use mathlib.Core.List.{List, [], _∷_, _++_, map, append-nil}
 use mathlib.Core.Logic.{_⊎_, inl, inr, ⊎-elim}
 use mathlib.Core.Path.{_≡_, refl, sym, ap, _∙_}
+use native.Mathlib.Numerals.{add-one}
 use native.Mathlib.Omega.{arith}
-use borrow.Author.Tests.{ltb-true, ltb-false}
-use lib.Dec.{ltb}
+use lib.ListN.{length, getD, take}
+use lib.Seq.{take-suc}
 use Rattle.page.proofs.Searching.{by-test}
-use Rattle.sort.specs.Arranged.{ascend, arranged, rises, Every}
 use Rattle.sort.proofs.Ascending.{In, Ascends}
-use Rattle.sort.proofs.Arranging.{ascend-behind, ascend-least, rises-cons, rises-every, arranged-rises, every-weaker}
 use Rattle.tree.specs.Paths.{keep, each}
 
 -- x is in a list of anything
@@ -45,6 +44,12 @@ module _ {A : Type 0} where
   keep-join t [] M = refl
   keep-join t (x ∷ L) M = by-test (t x) _ (λ e. rw e (ap (λ (r : List A). x ∷ r) (keep-join t L M))) (λ e. rw e (keep-join t L M))
 
+  -- no more is kept than there is
+  pub keep-few : (t : A → Bool) (L : List A) → length (keep t L) ≤ length L
+  unfolding keep
+  keep-few t [] = zero-le
+  keep-few t (x ∷ L) = let h = keep-few t L in by-test (t x) _ (λ u. rw u (omega arith)) (λ u. rw u (omega arith))
+
   -- what passes two tests in turn passes both
   pub keep-twice : (t u : A → Bool) (L : List A) → keep t (keep u L) ≡ keep (λ x. u x && t x) L
   unfolding keep
@@ -53,12 +58,6 @@ module _ {A : Type 0} where
       by-test (u x) _
       (λ e. by-test (t x) _ (λ f. rw (e, f) (ap (λ (r : List A). x ∷ r) (keep-twice t u L))) (λ f. rw (e, f) (keep-twice t u L)))
       (λ e. rw e (keep-twice t u L))
-
-  -- what each of the joined list gives is what each of the first gives, and then of the second
-  pub each-join : {B : Type 0} (f : A → List B) (L M : List A) → each f (L ++ M) ≡ each f L ++ each f M
-  unfolding each
-  each-join f [] M = refl
-  each-join f (x ∷ L) M = ap (λ r. f x ++ r) (each-join f L M) ∙ sym (append-assoc (f x) (each f L) (each f M))
 
 -- ---- what is kept of numbers
 
@@ -96,43 +95,65 @@ module _ (t : ℕ → Bool) where
       let r : Ascends (suc x) (keep t L) = keep-ascends (suc x) L (a .1) in
       by-test (t x) _ (λ u. rw u (a .0, r)) (λ u. rw u (ascends-lower b (suc x) (keep t L) (omega (arith, a .0)) r))
 
-  -- what holds of each of a list holds of each that is kept
-  pub keep-every : (P : ℕ → Type 0) (L : List ℕ) → Every P L → Every P (keep t L)
+-- ---- what each of a list is made
+
+-- of two lists, one behind the other
+pub map-join : {A B : Type 0} (f : A → B) (L M : List A) → map f (L ++ M) ≡ map f L ++ map f M
+map-join f [] M = refl
+map-join f (x ∷ L) M = ap (λ r. f x ∷ r) (map-join f L M)
+
+module _ (f : ℕ → ℕ) where
+  -- what a member is made is there
+  pub map-in : (x : ℕ) (L : List ℕ) → In x L → In (f x) (map f L)
+  map-in x [] i = absurd i
+  map-in x (y ∷ L) (inl e) = inl (ap f e)
+  map-in x (y ∷ L) (inr i) = inr (map-in x L i)
+
+  -- and nothing else is
+  pub map-of : (y : ℕ) (L : List ℕ) → In y (map f L) → (x : ℕ) × In x L × (f x ≡ y)
+  map-of y [] i = absurd i
+  map-of y (x ∷ L) (inl e) = (x, inl refl, sym e)
+  map-of y (x ∷ L) (inr i) = let w = map-of y L i in (w .0, inr (w .1), w .2)
+
+  -- what is kept of it is what is made of those that are kept
+  pub map-keep : (t : ℕ → Bool) (L : List ℕ) → keep t (map f L) ≡ map f (keep (λ x. t (f x)) L)
   unfolding keep
-  keep-every P [] h = tt
-  keep-every P (x ∷ L) h = by-test (t x) _ (λ u. rw u (h .0, keep-every P L (h .1))) (λ u. rw u (keep-every P L (h .1)))
+  map-keep t [] = refl
+  map-keep t (x ∷ L) = by-test (t (f x)) _ (λ u. rw u (ap (λ (r : List ℕ). f x ∷ r) (map-keep t L))) (λ u. rw u (map-keep t L))
 
-  -- a number put into a list that rises is put into what is kept of it, if it passes
-  ascend-kept : (o b : ℕ) (L : List ℕ) → rises b L ≡ true → t o ≡ true → keep t (ascend o L) ≡ ascend o (keep t L)
-  unfolding keep ascend
-  ascend-kept o b [] r e = rw e
-  ascend-kept o b (x ∷ L) r e =
-      let k = rises-cons b x L r in
-      by-test (ltb x o) _
-      (λ u.
-      rw u
-      (by-test (t x) _
-      (λ v. rw v (ap (λ (l : List ℕ). x ∷ l) (ascend-kept o x L (k .1) e) ∙ sym (ascend-behind o x (keep t L) (ltb-true x o u))))
-      (λ v. rw v (ascend-kept o x L (k .1) e))))
-      (λ u.
-      let low : Every (λ y. o ≤ y) (x ∷ L) =
-      (ltb-false x o u, every-weaker (λ y. x ≤ y) (λ y. o ≤ y) (λ y q. omega (arith, ltb-false x o u)) L (rises-every x L (k .1))) in
-      rw (u, e) (sym (ascend-least o (keep t (x ∷ L)) (keep-every (λ y. o ≤ y) (x ∷ L) low))))
+  -- it ascends still, where only some are kept
+  pub kept-ascends : (t : ℕ → Bool) (b : ℕ) (L : List ℕ) → Ascends b (map f L) → Ascends b (map f (keep t L))
+  unfolding keep
+  kept-ascends t b [] a = tt
+  kept-ascends t b (x ∷ L) a =
+      let r : Ascends (suc (f x)) (map f (keep t L)) = kept-ascends t (suc (f x)) L (a .1) in
+      by-test (t x) _ (λ u. rw u (a .0, r)) (λ u. rw u (ascends-lower b (suc (f x)) (map f (keep t L)) (omega (arith, a .0)) r))
 
-  -- and leaves it as it was, if it does not
-  ascend-left : (o : ℕ) (L : List ℕ) → t o ≡ false → keep t (ascend o L) ≡ keep t L
-  unfolding keep ascend
-  ascend-left o [] e = rw e
-  ascend-left o (x ∷ L) e = by-test (ltb x o) _ (λ u. rw (u, ascend-left o L e)) (λ u. rw (u, e))
+  -- two ways to make it that agree on the members
+  pub map-same : (g h : ℕ → ℕ) (L : List ℕ) → ((x : ℕ) → In x L → g (f x) ≡ h x) → map g (map f L) ≡ map h L
+  map-same g h [] e = refl
+  map-same g h (x ∷ L) e = rw (e x (inl refl)) (ap (λ (r : List ℕ). h x ∷ r) (map-same g h L (λ y i. e y (inr i))))
 
-  -- what is kept of an arranged list is what is kept, arranged
-  pub keep-arranged : (L : List ℕ) → keep t (arranged L) ≡ arranged (keep t L)
-  unfolding keep arranged
-  keep-arranged [] = refl
-  keep-arranged (x ∷ L) =
-      by-test (t x) _
-      (λ u. rw u (ascend-kept x 0 (arranged L) (arranged-rises L) u ∙ ap (ascend x) (keep-arranged L)))
-      (λ u. rw u (ascend-left x (arranged L) u ∙ keep-arranged L))
+-- what is made of the first of a list, where some are kept
+module _ (f : ℕ → ℕ) (t : ℕ → Bool) (L : List ℕ) (i : ℕ) (h : i < length L) where
+  -- what the first i give
+  abbrev made : ℕ → List ℕ
+  made k = map f (keep t (take k L))
+
+  -- one more gives what it gives by itself
+  made-step : made (i + 1) ≡ made i ++ map f (keep t (getD L i 0 ∷ []))
+  made-step =
+      rw (add-one, take-suc L i 0 h, keep-join t (take i L) (getD L i 0 ∷ [])) (map-join f (keep t (take i L)) (keep t (getD L i 0 ∷ [])))
+
+  -- nothing, if it is not kept
+  pub made-pass : t (getD L i 0) ≡ false → made (i + 1) ≡ made i
+  unfolding keep
+  made-pass e = made-step ∙ rw e (append-nil (made i))
+
+  -- one, if it is
+  pub made-more : t (getD L i 0) ≡ true → made (i + 1) ≡ made i ++ (f (getD L i 0) ∷ [])
+  unfolding keep
+  made-more e = made-step ∙ rw e
 
 -- ---- what each number of a list gives
 

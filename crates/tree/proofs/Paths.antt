@@ -5,28 +5,30 @@
 -- No object is there twice. The root does not go on, so a way meets it at one step only, the object's depth; the children of a directory all have one
 -- depth, so that an object's way passes one of them at most, and a child is not below itself.
 use Prim.Native.Nat.{ℕ, zero, suc, _+_, _≤_, _<_, zero-le}
-use mathlib.Core.Bool.{Bool, true, false, not, _&&_}
-use mathlib.Core.List.{List, [], _∷_, _++_, append-assoc, append-nil}
+use mathlib.Core.Bool.{true, false, not}
+use mathlib.Core.List.{List, [], _∷_, _++_, map, append-assoc, append-nil}
 use mathlib.Core.Logic.{_⊎_, inl, inr, ⊎-elim}
-use mathlib.Core.Option.{Option, none, some}
+use mathlib.Core.Option.{none}
 use mathlib.Core.Path.{_≡_, refl, sym, ap, _∙_}
 use native.Mathlib.Nat.{le-refl, not-suc-le-zero, eq-or-lt-of-le, le-of-suc-le-suc}
 use native.Mathlib.Omega.{arith}
 use borrow.Author.Tests.{not-true, ltb-true, ltb-false, eqb-true, eqb-false, eq-eqb, ne-eqb}
 use lib.Dec.{eqb, ltb}
-use Rattle.page.specs.Choice.{pick}
 use Rattle.page.specs.declared.record.Record.{Record}
 use Rattle.page.proofs.Layouts.{and-left, and-right}
 use Rattle.page.proofs.Searching.{clash, by-test}
+use Rattle.sort.specs.Arranged.{timesIn}
 use Rattle.sort.proofs.Ascending.{In, Ascends, ascends-in}
-use Rattle.chunk.specs.Records.{isGone}
 use Rattle.chunk.specs.Live.{liveIds}
-use Rattle.chunk.proofs.Living.{live-in, live-ids-ascend}
-use Rattle.tree.specs.Objects.{missing, root, standBy, given, headOf, parentOf, standOf, isStanding}
+use Rattle.chunk.proofs.Living.{live-ids-ascend}
+use Rattle.tree.specs.Objects.{root, parentOf, standOf, isStanding}
 use Rattle.tree.specs.Paths.{Entry, each, mostDepth, childrenOf, stepTo, entryOf, under, listed}
-use Rattle.tree.specs.Ways.{up}
+use Rattle.tree.specs.Ways.{goesOn, up}
 use Rattle.tree.specs.Tree.{isIn}
-use Rattle.tree.proofs.Lists.{Has, keep-in, keep-of, keep-ascends, each-in, each-of}
+use Rattle.tree.proofs.Lists.{Has, keep-in, keep-of, keep-ascends, each-in, each-of, map-join}
+use Rattle.tree.proofs.Standing.{standing-live, goes-on, on-goes}
+use Rattle.tree.proofs.Times.{times-joined, times-out}
+use Rattle.tree.proofs.Ways.{up-first}
 
 -- ---- an object in a list of entries
 
@@ -49,36 +51,6 @@ in-has o (x ∷ L) i =
 -- ---- the way up
 
 module _ (says : ℕ → Record) (n : ℕ) where
-  -- whether the way up goes on from an object: it is not the root, and stands as a directory
-  abbrev pub goesOn : ℕ → Bool
-  goesOn x = not (eqb x root) && isStanding (standOf says n x)
-
-  -- a step and then some are one more
-  pub up-first : (j o : ℕ) → up says n j (parentOf says n o) ≡ up says n (suc j) o
-  unfolding up
-  up-first zero o = refl
-  up-first (suc j) o = ap (parentOf says n) (up-first j o)
-
-  -- what stands as a directory is live
-  pub standing-live : (x : ℕ) → isStanding (standOf says n x) ≡ true → In x (liveIds says n)
-  unfolding standOf
-  standing-live x t = go (headOf says n x) refl t
-    where
-      go : (r : Option ℕ) → headOf says n x ≡ r → isStanding (given missing (λ h. standBy (says h)) r) ≡ true → In x (liveIds says n)
-      go none e t = clash (cc)
-      go (some h) e t =
-          by-test (isGone (says h)) _
-          (λ u. let z : false ≡ true = rw u at t in clash (cc))
-          (λ u. live-in says n x record { header = h; newest-header = e; kept = u })
-
-  -- what goes on is not the root, and stands as a directory
-  pub goes-on : (x : ℕ) → goesOn x ≡ true → (x ≡ root → ⊥) × (isStanding (standOf says n x) ≡ true)
-  goes-on x t = (eqb-false x root (not-true _ (and-left (not (eqb x root)) _ t)), and-right (not (eqb x root)) _ t)
-
-  -- and what is so goes on
-  pub on-goes : (x : ℕ) → (x ≡ root → ⊥) → isStanding (standOf says n x) ≡ true → goesOn x ≡ true
-  on-goes x d t = rw (ne-eqb x root d, t)
-
   -- object o is live and below object d: at most k steps lead up to d, and the objects between go on
   pub record Below (k d o : ℕ) : Type 0 where
     pub live : In o (liveIds says n)
@@ -87,7 +59,7 @@ module _ (says : ℕ → Record) (n : ℕ) where
     pub some-step : 1 ≤ steps
     pub few : steps ≤ k
     pub arrives : up says n steps o ≡ d
-    pub between : (i : ℕ) → 1 ≤ i → i < steps → goesOn (up says n i o) ≡ true
+    pub between : (i : ℕ) → 1 ≤ i → i < steps → goesOn says n (up says n i o) ≡ true
 
 module _ (says : ℕ → Record) (names : ℕ → List ℕ) (n : ℕ) where
   -- the children of a directory are the live objects other than the root with that parent
@@ -268,30 +240,39 @@ module _ (says : ℕ → Record) (names : ℕ → List ℕ) (n : ℕ) where
 
 -- ---- how often an object is in the first list
 
--- how often an object is in a list of entries
-unfoldable pub timesListed : (object : ℕ) (entries : List Entry) → ℕ
-timesListed o [] = 0
-timesListed o (e ∷ rest) = let more = timesListed o rest in pick (eqb (e .object) o) (suc more) more
+-- the objects of a list of entries, and how often one is among them
+abbrev pub objectsOf : List Entry → List ℕ
+objectsOf L = map (λ e. e .object) L
+
+abbrev pub timesListed : (object : ℕ) (entries : List Entry) → ℕ
+timesListed o L = timesIn o (objectsOf L)
 
 module _ (o : ℕ) where
+  -- an object is among them where it is in the entries
+  pub listed-object : (L : List Entry) → isIn o L ≡ true → In o (objectsOf L)
+  unfolding isIn
+  listed-object [] t = clash (cc)
+  listed-object (e ∷ L) t = by-test (eqb (e .object) o) _ (λ u. inl (sym (eqb-true _ _ u))) (λ u. inr (listed-object L (rw u at t)))
+
+  -- and nowhere else
+  pub object-listed : (L : List Entry) → In o (objectsOf L) → isIn o L ≡ true
+  unfolding isIn
+  object-listed [] i = absurd i
+  object-listed (e ∷ L) (inl q) = rw (eq-eqb (e .object) o (sym q))
+  object-listed (e ∷ L) (inr i) = by-test (eqb (e .object) o) _ (λ u. rw u) (λ u. rw u (object-listed L i))
+
   -- in a list joined of two as often as in both
   times-join : (L M : List Entry) → timesListed o (L ++ M) ≡ timesListed o L + timesListed o M
-  unfolding timesListed
-  times-join [] M = omega arith
-  times-join (e ∷ L) M =
-      by-test (eqb (e .object) o) _ (λ t. rw (t, times-join L M) (omega arith)) (λ t. rw (t, times-join L M) (omega arith))
+  times-join L M = ap (timesIn o) (map-join (λ e. e .object) L M) ∙ times-joined o (objectsOf L) (objectsOf M)
 
   -- not once where it is not in the list
   times-none : (L : List Entry) → isIn o L ≡ false → timesListed o L ≡ 0
-  unfolding timesListed isIn
-  times-none [] e = refl
-  times-none (x ∷ L) e =
-      by-test (eqb (x .object) o) _ (λ t. let z : true ≡ false = rw t at e in clash (cc)) (λ t. rw t (times-none L (rw t at e)))
+  times-none L e = times-out o (objectsOf L) (λ i. let t = object-listed L i in clash (cc))
 
   module _ (f : ℕ → List Entry) where
     -- not once in what each of a list gives, where none gives it
     each-none : (L : List ℕ) → ((c : ℕ) → In c L → isIn o (f c) ≡ false) → timesListed o (each f L) ≡ 0
-    unfolding each timesListed
+    unfolding each timesIn
     each-none [] h = refl
     each-none (x ∷ L) h =
         let a = times-none (f x) (h x (inl refl)) in
@@ -302,7 +283,7 @@ module _ (o : ℕ) where
     each-once :
         (b : ℕ) (L : List ℕ) → Ascends b L → ((c : ℕ) → In c L → timesListed o (f c) ≤ 1) →
         ((c d : ℕ) → In c L → In d L → isIn o (f c) ≡ true → isIn o (f d) ≡ true → c ≡ d) → timesListed o (each f L) ≤ 1
-    unfolding each timesListed
+    unfolding each timesIn
     each-once b [] a one same = zero-le
     each-once b (x ∷ L) a one same =
         rw (times-join (f x) (each f L))
@@ -429,7 +410,7 @@ module _ (says : ℕ → Record) (names : ℕ → List ℕ) (n : ℕ) where
       (m k : ℕ) (path : List ℕ) (c o : ℕ) → (c ≡ root → ⊥) → Depth says n (suc m) c →
       (goesOn says n c ≡ true → timesListed o (under says names n k (path ++ stepTo says names n c) c) ≤ 1) →
       timesListed o (entryOf says names n (under says names n k) path c) ≤ 1
-  unfolding entryOf timesListed
+  unfolding entryOf timesIn
   entry-once m k path c o r a once =
       let here = path ++ stepTo says names n c in
       by-test (isStanding (standOf says n c)) _
@@ -450,7 +431,7 @@ module _ (says : ℕ → Record) (names : ℕ → List ℕ) (n : ℕ) where
   under-once :
       (k : ℕ) (path : List ℕ) (d m o : ℕ) → ((c : ℕ) → parentOf says n c ≡ d → Depth says n (suc m) c) →
       timesListed o (under says names n k path d) ≤ 1
-  unfolding under childrenOf timesListed
+  unfolding under childrenOf timesIn
   under-once zero path d m o deep = zero-le
   under-once (suc k) path d m o deep =
       each-once o (entryOf says names n (under says names n k) path) 0 (childrenOf says names n d)

@@ -11,10 +11,8 @@ use native.Mathlib.Omega.{arith}
 use borrow.Author.Tests.{ne-eqb, lt-ltb, le-ltb}
 use lib.Dec.{eqb, ltb}
 use lib.ListN.{length, getD, length-append}
-use Rattle.page.specs.Asked.{textAt}
 use Rattle.page.specs.Choice.{pick}
 use Rattle.page.specs.Records.{recordAt}
-use Rattle.page.specs.declared.fields.Text.the-variants.{Name}
 use Rattle.page.specs.declared.geometry.Geometry.{Geometry}
 use Rattle.page.specs.declared.record.Record.{Record}
 use Rattle.page.proofs.Layouts.{and-left}
@@ -31,7 +29,7 @@ use Rattle.chunk.proofs.Living.{live-of}
 use Rattle.chunk.proofs.Meaning.{newest-found}
 use Rattle.chunk.proofs.Records.{of-object}
 use Rattle.tree.specs.Heads.{isHead}
-use Rattle.tree.specs.Objects.{root, pageOf, standOf, isStanding}
+use Rattle.tree.specs.Objects.{root, pageOf, standOf, isStanding, saysBy, namesOf}
 use Rattle.tree.specs.Paths.{Entry, mostDepth, slash, each, childrenOf, stepTo, entryOf, under, listed}
 use Rattle.tree.specs.Rows.{mostKey, keyBehind, numberOf, reasonAt, eachAt, rowsAt, rowsUnder, listedRows, otherRows, treeRows}
 use Rattle.tree.specs.Rows.{nameOn, objectIn, pathIn, pathAt, rowLines, linesTo, rowsText}
@@ -75,10 +73,10 @@ module _ (g : Geometry) (dump : List ℕ) where
   module _ (t : Takes) (n : ℕ) where
     -- what the pages say, and the names on them
     abbrev says : ℕ → Record
-    says = seenBy t (recordAt g dump)
+    says = saysBy g dump t
 
     abbrev names : ℕ → List ℕ
-    names = textAt Name g dump
+    names = namesOf g dump
 
     -- ---- what an object's page tells
 

@@ -11,6 +11,7 @@ use Rattle.text.proofs.Order.{le-or-lt}
 use Rattle.tree.specs.Search.{Sorted, Parted}
 
 module _ (x : ℕ) (L : List ℕ) where
+  -- the search is between these bounds
   pub record Sought (low high : ℕ) : Type 0 where
     pub order : low ≤ high
     pub inside : high ≤ length L
@@ -48,8 +49,8 @@ module _ (x : ℕ) (L : List ℕ) where
   }
 
 -- a row with the key stands where the search for the key's first number ends, or nowhere
-pub nowhere : (key : ℕ) (L : List ℕ) (r : ℕ) → Sorted L → Parted (packed key 0) L r → (r < length L → keyOf (getD L r 0) ≡ key → ⊥)
-    → (i : ℕ) → i < length L → keyOf (getD L i 0) ≡ key → ⊥
+pub nowhere : (key : ℕ) (L : List ℕ) (r : ℕ) → Sorted L → Parted (packed key 0) L r → (r < length L → keyOf (getD L r 0) ≡ key → ⊥) →
+    (i : ℕ) → i < length L → keyOf (getD L i 0) ≡ key → ⊥
 nowhere key L r s p f i h e =
     let behind : r ≤ i → ⊥ = λ k.
     f (omega arith) (let up = s .rise r i k h in let low = p .high r (omega arith) (omega arith) in omega arith) in

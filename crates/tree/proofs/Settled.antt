@@ -17,14 +17,15 @@ use Rattle.sort.specs.Packed.{keyOf, valueOf}
 use Rattle.sort.proofs.Ascending.{In}
 use Rattle.chunk.specs.Live.{liveIds}
 use Rattle.text.proofs.Order.{le-or-lt}
-use Rattle.tree.specs.Climbs.{kindBy, placeIn, kindIn, toRoot, goesOn, idAt, Leads, Walked, Ways, SomeWays, TellsListed, reasonIn}
-use Rattle.tree.specs.Heads.{Heads}
+use Rattle.tree.specs.Climbs.{kindBy, placeIn, kindIn, toRoot, Leads, Walked, Ways, SomeWays, TellsListed, reasonIn}
+use Rattle.tree.specs.Heads.{Heads, objectAt}
 use Rattle.tree.specs.Objects.{Stand, missing, deleted, nonDirectory, directory, root, standBy, standOf}
 use Rattle.tree.specs.Paths.{mostDepth, listed}
 use Rattle.tree.specs.Tree.{isIn}
-use Rattle.tree.specs.Ways.{reasonBy, up, reasonOf}
+use Rattle.tree.specs.Ways.{reasonBy, up, reasonOf, goesOn}
 use Rattle.tree.specs.declared.reason.Reason.the-variants as reason
-use Rattle.tree.proofs.Climbing.{header-kind, one-row, row-head, stand-head, leads-on, leads-off, first-walked, walked-join}
+use Rattle.tree.proofs.Climbing.{header-kind, leads-on, leads-off, first-walked, walked-join}
+use Rattle.tree.proofs.HeadRows.{one-row, head-at, stand-at}
 use Rattle.tree.proofs.Paths.{listed-below, below-listed}
 use Rattle.tree.proofs.Ways.{absorbed, looped}
 
@@ -62,7 +63,7 @@ pub record Tracked (words : List ℕ) (i code steps : ℕ) : Type 0 where
   pub few : steps ≤ mostDepth
   pub tracked :
       (says : ℕ → Record) (n : ℕ) (heads : List ℕ) (bound : ℕ → ℕ) → Ways says n heads bound words →
-      Walked says n heads (idAt says n heads i) steps code
+      Walked says n heads (objectAt heads i) steps code
 
 -- its first step
 pub tracked-first : (words : List ℕ) (i : ℕ) → i < length words → Tracked words i (keyOf (getD words i 0)) 1
@@ -86,9 +87,9 @@ module _ (words : List ℕ) (i code steps : ℕ) (q : Tracked words i code steps
         few = omega (arith, q .few);
         tracked = λ says n heads bound w.
             let v = q .tracked says n heads bound w in
-            let o = idAt says n heads i in
+            let o = objectAt heads i in
             let p = placeIn code in
-            let here : idAt says n heads p ≡ up says n steps o = v .leads .placed (omega arith) in
+            let here : objectAt heads p ≡ up says n steps o = v .leads .placed (omega arith) in
             let next = first-walked says n heads _ _ (w .each p (v .leads .inside (omega arith)) .parent) in
             walked-join says n heads o steps code 1 _ v (leads-on says n heads _ code (v .leads) e) (rw here at next);
       }
@@ -107,7 +108,7 @@ module _ (words : List ℕ) (i code steps : ℕ) (q : Tracked words i code steps
   pub tracked-end : (kindIn code ≡ 0 → ⊥) → TellsListed words i (eqb code toRoot)
   tracked-end d says names n heads bound w live r =
       let v = q .tracked says n heads bound w in
-      let o = idAt says n heads i in
+      let o = objectAt heads i in
       let off = leads-off says n heads _ code (v .leads) d in
       v .leads .top
       ∙ by-test (eqb (up says n steps o) root) _
@@ -128,30 +129,30 @@ root-reason i code t = rw t
 
 module _ (says : ℕ → Record) (n : ℕ) (heads : List ℕ) (rows : Heads says n heads) where
   -- an object with a row is not missing
-  row-stands : (i : ℕ) → i < length heads → standOf says n (idAt says n heads i) ≡ missing → ⊥
+  row-stands : (i : ℕ) → i < length heads → standOf says n (objectAt heads i) ≡ missing → ⊥
   row-stands i h e =
       let r = says (valueOf (getD heads i 0)) in
-      let s : standBy r ≡ missing = sym (stand-head says n heads _ _ (row-head says n heads rows i h)) ∙ e in
+      let s : standBy r ≡ missing = sym (stand-at says n heads rows i h) ∙ e in
       let k : kindBy (standBy r) ≡ 3 = ap kindBy s in
       omega (arith, header-kind r)
 
   -- a code with a place has that of row i where it is of the same object
   own-place :
-      (i x code : ℕ) → i < length heads → Leads says n heads x code → kindIn code < 3 → eqb (placeIn code) i ≡ eqb x (idAt says n heads i)
+      (i x code : ℕ) → i < length heads → Leads says n heads x code → kindIn code < 3 → eqb (placeIn code) i ≡ eqb x (objectAt heads i)
   own-place i x code h w l =
-      let e : idAt says n heads (placeIn code) ≡ x = w .placed l in
+      let e : objectAt heads (placeIn code) ≡ x = w .placed l in
       by-test (eqb (placeIn code) i) _
-      (λ t. t ∙ sym (eq-eqb x (idAt says n heads i) (sym e ∙ ap (idAt says n heads) (eqb-true _ _ t))))
-      (λ t. t ∙ sym (ne-eqb x (idAt says n heads i) (λ q. eqb-false _ _ t (one-row says n heads rows _ i (w .inside l) h (e ∙ q)))))
+      (λ t. t ∙ sym (eq-eqb x (objectAt heads i) (sym e ∙ ap (objectAt heads) (eqb-true _ _ t))))
+      (λ t. t ∙ sym (ne-eqb x (objectAt heads i) (λ q. eqb-false _ _ t (one-row says n heads rows _ i (w .inside l) h (e ∙ q)))))
 
   -- an object that is not the root and from which the way does not go on, at the end of the way of row i
   ended-reason :
       (i x code : ℕ) → i < length heads → Leads says n heads x code → eqb x root ≡ false → (s : Stand) → standOf says n x ≡ s →
-      (kindBy s ≡ 0 → ⊥) → reasonIn i code ≡ pick (eqb x (idAt says n heads i)) reason.Loop (reasonBy s)
+      (kindBy s ≡ 0 → ⊥) → reasonIn i code ≡ pick (eqb x (objectAt heads i)) reason.Loop (reasonBy s)
   unfolding reasonIn
   ended-reason i x code h w t missing e d =
       let k : kindIn code ≡ 3 = w .kind t ∙ ap kindBy e in
-      let z : eqb x (idAt says n heads i) ≡ false = ne-eqb _ _ (λ q. row-stands i h (ap (standOf says n) (sym q) ∙ e)) in
+      let z : eqb x (objectAt heads i) ≡ false = ne-eqb _ _ (λ q. row-stands i h (ap (standOf says n) (sym q) ∙ e)) in
       rw (w .top, t, k, z)
   ended-reason i x code h w t deleted e d =
       let k : kindIn code ≡ 1 = w .kind t ∙ ap kindBy e in
@@ -164,15 +165,15 @@ module _ (says : ℕ → Record) (n : ℕ) (heads : List ℕ) (rows : Heads says
   -- the code that a way has come to tells the reason, where it has ended or has gone more steps than there are pages
   pub settled-reason :
       (words : List ℕ) (i : ℕ) → Ways says n heads (λ j. n) words → i < length heads →
-      reasonIn i (valueOf (getD words i 0)) ≡ reasonOf says n (idAt says n heads i)
+      reasonIn i (valueOf (getD words i 0)) ≡ reasonOf says n (objectAt heads i)
   settled-reason words i w h =
-      let o = idAt says n heads i in
+      let o = objectAt heads i in
       let code = valueOf (getD words i 0) in
       let j = w .each i h .jump in
       let v = j .walked in
       let a = j .steps in
       let x = up says n a o in
-      let head = row-head says n heads rows i h in
+      let head = head-at says n heads rows i h in
       by-test (eqb (kindIn code) 0) _
       (λ t.
       let e : kindIn code ≡ 0 = eqb-true _ _ t in

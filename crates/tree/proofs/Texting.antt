@@ -10,11 +10,10 @@ use borrow.Author.Tests.{eq-eqb, ne-eqb}
 use lib.Dec.{eqb}
 use lib.ListN.{length, getD, take, drop}
 use lib.Seq.{drop-cons}
-use Rattle.page.specs.Asked.{textAt}
 use Rattle.page.specs.Choice.{pick}
-use Rattle.page.specs.declared.fields.Text.the-variants.{Name}
 use Rattle.page.specs.declared.geometry.Geometry.{Geometry}
 use Rattle.sort.specs.Packed.{keyOf, valueOf}
+use Rattle.tree.specs.Objects.{namesOf}
 use Rattle.tree.specs.Paths.{slash, upToZero}
 use Rattle.tree.specs.Rows.{nameOn, pathIn, rowLines, linesTo}
 
@@ -45,7 +44,7 @@ name-in-front (x ∷ L) = by (eqb x 0) (name-in-front L)
 
 module _ (g : Geometry) (dump : List ℕ) where
   -- so the bytes that are put are the name
-  pub name-put : (p : ℕ) {L : List ℕ} {n : ℕ} → L ≡ textAt Name g dump p → n ≡ length (upToZero L) → take n L ≡ nameOn g dump p
+  pub name-put : (p : ℕ) {L : List ℕ} {n : ℕ} → L ≡ namesOf g dump p → n ≡ length (upToZero L) → take n L ≡ nameOn g dump p
   unfolding nameOn
   name-put p {L} {n} e h = rw (h, name-in-front, e)
 

@@ -8,7 +8,7 @@
 use Prim.Native.Nat.{ℕ, zero, suc, _+_, _-_, _≤_, _<_}
 use mathlib.Core.Bool.{Bool, true, false, not, _&&_, _||_}
 use mathlib.Core.Logic.{_⊎_, inl, inr, ⊎-elim}
-use mathlib.Core.Option.{Option, none, some}
+use mathlib.Core.Option.{none, some}
 use mathlib.Core.Path.{_≡_, refl, sym, ap, _∙_}
 use native.Mathlib.Omega.{arith}
 use lib.Dec.{eqb}
@@ -16,18 +16,17 @@ use borrow.Author.Tests.{eqb-true, eqb-false, eq-eqb, ne-eqb, not-true, not-fals
 use Rattle.page.specs.Choice.{pick}
 use Rattle.page.specs.Search.{firstFrom}
 use Rattle.page.specs.declared.record.Record.{Record}
-use Rattle.page.proofs.Layouts.{and-left, and-right}
+use Rattle.page.proofs.Layouts.{and-left}
 use Rattle.page.proofs.Searching.{clash, by-test}
-use Rattle.chunk.specs.Records.{isOf, headerOf, isGone}
-use Rattle.chunk.proofs.Records.{of-object}
-use Rattle.chunk.proofs.Meaning.{newest-found}
-use Rattle.tree.specs.Objects.{Stand, missing, deleted, nonDirectory, directory, standBy, isStanding}
-use Rattle.tree.specs.Objects.{root, isDirectory, given, headOf, pageOf, parentOf, standOf}
-use Rattle.tree.specs.Ways.{anyBelow, reasonBy, up, metAt, stopsAt, stopOf, reasonOf}
+use Rattle.chunk.specs.Records.{isGone}
+use Rattle.tree.specs.Objects.{Stand, missing, deleted, nonDirectory, isStanding}
+use Rattle.tree.specs.Objects.{root, isDirectory, headOf, pageOf, parentOf, standOf}
+use Rattle.tree.specs.Ways.{anyBelow, reasonBy, goesOn, up, metAt, stopsAt, stopOf, reasonOf}
 use Rattle.tree.specs.declared.reason.Reason.{Reason}
 use Rattle.tree.specs.declared.reason.Reason.the-variants as reason
 use Rattle.tree.proofs.Passing.{IsFirst, any-passes, passes-any, none-passes, first-least, first-only, first-found}
 use Rattle.tree.proofs.Pigeons.{pigeons}
+use Rattle.tree.proofs.Standing.{head-below, same-head, head-page, on-headed, by-stand, stand-missing, stand-deleted, stand-plain}
 
 -- a stop at the root, or at one met before, or at no directory, is one at one met before or where the way does not go on
 stop-test : (r m s : Bool) → r || (m || not s) ≡ m || not (not r && s)
@@ -42,38 +41,6 @@ or-true false = refl
 
 -- a dump of n pages
 module _ (says : ℕ → Record) (n : ℕ) where
-  -- whether a way goes on from an object: it is not the root, and stands as a directory
-  abbrev pub goesOn : (object : ℕ) → Bool
-  goesOn x = not (eqb x root) && isStanding (standOf says n x)
-
-  -- ---- newest headers
-
-  -- the page of a newest header is below n
-  pub head-below : (x p : ℕ) → headOf says n x ≡ some p → p < n
-  head-below x p e = newest-found says (headerOf x) n p e .below
-
-  -- and it is a header of the object
-  pub head-of : (x p : ℕ) → headOf says n x ≡ some p → headerOf x (says p) ≡ true
-  head-of x p e = newest-found says (headerOf x) n p e .passes
-
-  -- so that two objects with the same one are the same
-  pub same-head : (x y p : ℕ) → headOf says n x ≡ some p → headOf says n y ≡ some p → x ≡ y
-  same-head x y p e f =
-      sym (of-object x (says p) (and-left (isOf x (says p)) _ (head-of x p e))) ∙ of-object y (says p) (and-left (isOf y (says p)) _ (head-of y p f))
-
-  -- an object with a newest header has it on its page
-  pub head-page : (x p : ℕ) → headOf says n x ≡ some p → headOf says n x ≡ some (pageOf says n x)
-  head-page x p e = rw e
-
-  -- an object that goes on has a newest header
-  pub on-headed : (x : ℕ) → goesOn x ≡ true → headOf says n x ≡ some (pageOf says n x)
-  unfolding standOf
-  on-headed x g = go (headOf says n x) (and-right (not (eqb x root)) _ g)
-    where
-      go : (r : Option ℕ) → isStanding (given missing (λ h. standBy (says h)) r) ≡ true → r ≡ some (given 0 (λ h. h) r)
-      go none t = clash (cc)
-      go (some p) t = refl
-
   -- ---- steps
 
   -- no step leads nowhere else
@@ -81,18 +48,26 @@ module _ (says : ℕ → Record) (n : ℕ) where
   unfolding up
   up-none o = refl
 
-  -- and one step more leads to the parent
-  pub up-more : (k o : ℕ) → up says n (suc k) o ≡ parentOf says n (up says n k o)
+  -- a step leads to the parent
+  pub up-one : (o : ℕ) → up says n 1 o ≡ parentOf says n o
   unfolding up
-  up-more k o = refl
+  up-one o = refl
+
+  -- a step and then some are one more
+  pub up-first : (j o : ℕ) → up says n j (parentOf says n o) ≡ up says n (suc j) o
+  unfolding up
+  up-first zero o = refl
+  up-first (suc j) o = ap (parentOf says n) (up-first j o)
+
+  -- so many steps and then some
+  pub up-join : (a k o : ℕ) → up says n k (up says n a o) ≡ up says n (a + k) o
+  unfolding up
+  up-join a zero o = let e : a + 0 ≡ a = omega arith in rw e
+  up-join a (suc k) o = let e : a + suc k ≡ suc (a + k) = omega arith in rw e (ap (parentOf says n) (up-join a k o))
 
   -- two steps that lead to the same object lead on alike
   pub up-alike : (i j t o : ℕ) → up says n i o ≡ up says n j o → up says n (i + t) o ≡ up says n (j + t) o
-  up-alike i j zero o e = let a : i + 0 ≡ i = omega arith in let b : j + 0 ≡ j = omega arith in rw (a, b) e
-  up-alike i j (suc t) o e =
-      let a : i + suc t ≡ suc (i + t) = omega arith in
-      let b : j + suc t ≡ suc (j + t) = omega arith in
-      rw (a, b, up-more (i + t) o, up-more (j + t) o) (ap (parentOf says n) (up-alike i j t o e))
+  up-alike i j t o e = sym (up-join i t o) ∙ ap (up says n t) e ∙ up-join j t o
 
   -- the steps from o
   module _ (o : ℕ) where
@@ -127,7 +102,7 @@ module _ (says : ℕ → Record) (n : ℕ) where
     means-unmet k f = by-test (metAt says n o k) _ (λ t. absurd (f (met-means k t))) (λ t. t)
 
     -- the way stops where it comes to one met before, or does not go on, and nowhere else
-    stops-as : (k : ℕ) → stopsAt says n o k ≡ metAt says n o k || not (goesOn (at k))
+    stops-as : (k : ℕ) → stopsAt says n o k ≡ metAt says n o k || not (goesOn says n (at k))
     unfolding stopsAt
     stops-as k = stop-test (eqb (at k) root) (metAt says n o k) (isStanding (standOf says n (at k)))
 
@@ -136,11 +111,11 @@ module _ (says : ℕ → Record) (n : ℕ) where
     met-stops k t = stops-as k ∙ rw t
 
     -- it stops where it does not go on
-    pub off-stops : (k : ℕ) → goesOn (up says n k o) ≡ false → stopsAt says n o k ≡ true
+    pub off-stops : (k : ℕ) → goesOn says n (up says n k o) ≡ false → stopsAt says n o k ≡ true
     off-stops k t = stops-as k ∙ rw t (or-true (metAt says n o k))
 
     -- it does not stop at a new one where it goes on
-    pub on-passes : (k : ℕ) → metAt says n o k ≡ false → goesOn (up says n k o) ≡ true → stopsAt says n o k ≡ false
+    pub on-passes : (k : ℕ) → metAt says n o k ≡ false → goesOn says n (up says n k o) ≡ true → stopsAt says n o k ≡ false
     on-passes k t u = stops-as k ∙ rw (t, u)
 
     -- where it does not stop, it comes to a new one
@@ -148,17 +123,17 @@ module _ (says : ℕ → Record) (n : ℕ) where
     passed-unmet k e = by-test (metAt says n o k) _ (λ t. let z = met-stops k t in clash (cc)) (λ t. t)
 
     -- and goes on
-    pub passed-on : (k : ℕ) → stopsAt says n o k ≡ false → goesOn (up says n k o) ≡ true
-    passed-on k e = by-test (goesOn (at k)) _ (λ t. t) (λ t. let z = off-stops k t in clash (cc))
+    pub passed-on : (k : ℕ) → stopsAt says n o k ≡ false → goesOn says n (up says n k o) ≡ true
+    passed-on k e = by-test (goesOn says n (at k)) _ (λ t. t) (λ t. let z = off-stops k t in clash (cc))
 
     -- step a is the first that does not go on
     pub record EndsAt (a : ℕ) : Type 0 where
       pub step : 1 ≤ a
-      pub off : goesOn (up says n a o) ≡ false
-      pub on : (j : ℕ) → 1 ≤ j → j < a → goesOn (up says n j o) ≡ true
+      pub off : goesOn says n (up says n a o) ≡ false
+      pub on : (j : ℕ) → 1 ≤ j → j < a → goesOn says n (up says n j o) ≡ true
 
     -- a way ends within n steps, or all of them go on
-    pub first-stop : ((a : ℕ) × (a ≤ n) × EndsAt a) ⊎ ((j : ℕ) → 1 ≤ j → j ≤ n → goesOn (up says n j o) ≡ true)
+    pub first-stop : ((a : ℕ) × (a ≤ n) × EndsAt a) ⊎ ((j : ℕ) → 1 ≤ j → j ≤ n → goesOn says n (up says n j o) ≡ true)
     first-stop =
         by-test (anyBelow (λ j. off (suc j)) n) _
         (λ t.
@@ -178,7 +153,7 @@ module _ (says : ℕ → Record) (n : ℕ) where
         not-false _ (ap off (sym e) ∙ z)))
       where
         off : ℕ → Bool
-        off j = not (goesOn (at j))
+        off j = not (goesOn says n (at j))
 
     -- an end at step a
     module _ (a : ℕ) (end : EndsAt a) where
@@ -188,8 +163,8 @@ module _ (says : ℕ → Record) (n : ℕ) where
           let j = w .earlier in
           let r : at (j + (a - k)) ≡ at (k + (a - k)) = up-alike j k (a - k) o (w .same) in
           let s : k + (a - k) ≡ a = omega arith in
-          let g : goesOn (at (j + (a - k))) ≡ true = end .on (j + (a - k)) (omega arith) (omega (arith, w .before)) in
-          let z : goesOn (at a) ≡ true = rw (← s, ← r) g in
+          let g : goesOn says n (at (j + (a - k))) ≡ true = end .on (j + (a - k)) (omega arith) (omega (arith, w .before)) in
+          let z : goesOn says n (at a) ≡ true = rw (← s, ← r) g in
           clash (cc (end .off))
 
       -- and it comes to one itself only if that is the start
@@ -199,7 +174,7 @@ module _ (says : ℕ → Record) (n : ℕ) where
           (eqb-true (w .earlier) 0)
           (λ t.
           let z : w .earlier ≡ 0 → ⊥ = eqb-false (w .earlier) 0 t in
-          let g : goesOn (at a) ≡ true = rw (← w .same) (end .on (w .earlier) (omega arith) (w .before)) in
+          let g : goesOn says n (at a) ≡ true = rw (← w .same) (end .on (w .earlier) (omega arith) (w .before)) in
           clash (cc (end .off)))
 
       -- which is how the test of that comes out there
@@ -221,20 +196,20 @@ module _ (says : ℕ → Record) (n : ℕ) where
     -- an object with a header
     module _ (p : ℕ) (head : headOf says n o ≡ some p) where
       -- of whose way n steps go on
-      module _ (on : (j : ℕ) → 1 ≤ j → j ≤ n → goesOn (at j) ≡ true) where
+      module _ (on : (j : ℕ) → 1 ≤ j → j ≤ n → goesOn says n (at j) ≡ true) where
         -- up to there its objects have newest headers
         headed : (i : ℕ) → i ≤ n → headOf says n (at i) ≡ some (pageOf says n (at i))
         headed i h =
             by-test (eqb i 0) _
-            (λ t. let e : i ≡ 0 = eqb-true i 0 t in rw (e, up-none o) (head-page o p head))
-            (λ t. let z : i ≡ 0 → ⊥ = eqb-false i 0 t in on-headed (at i) (on i (omega arith) h))
+            (λ t. let e : i ≡ 0 = eqb-true i 0 t in rw (e, up-none o) (head-page says n o p head))
+            (λ t. let z : i ≡ 0 → ⊥ = eqb-false i 0 t in on-headed says n (at i) (on i (omega arith) h))
 
         -- and one of the steps comes to one met before
         all-met : (k : ℕ) × (1 ≤ k) × (k ≤ n) × Met k
         all-met =
-            let w = pigeons n (λ i. pageOf says n (at i)) (λ i h. head-below (at i) _ (headed i h)) in
+            let w = pigeons n (λ i. pageOf says n (at i)) (λ i h. head-below says n (at i) _ (headed i h)) in
             let one = headed (w .one) (omega (arith, w .before, w .inside)) ∙ ap some (w .same) in
-            let same = same-head (at (w .one)) (at (w .other)) (pageOf says n (at (w .other))) one (headed (w .other) (w .inside)) in
+            let same = same-head says n (at (w .one)) (at (w .other)) (pageOf says n (at (w .other))) one (headed (w .other) (w .inside)) in
             (w .other, omega (arith, w .before), w .inside, record { earlier = w .one; before = w .before; same = same })
 
       -- a way stops within n steps
@@ -262,7 +237,7 @@ module _ (says : ℕ → Record) (n : ℕ) where
 
       -- a way that ends at step a: the reason is what is there
       pub absorbed :
-          (a : ℕ) → 1 ≤ a → goesOn (up says n a o) ≡ false → ((j : ℕ) → 1 ≤ j → j < a → goesOn (up says n j o) ≡ true) →
+          (a : ℕ) → 1 ≤ a → goesOn says n (up says n a o) ≡ false → ((j : ℕ) → 1 ≤ j → j < a → goesOn says n (up says n j o) ≡ true) →
           (a ≤ n)
           × (reasonOf says n o
           ≡ pick (eqb (up says n a o) root) reason.TooDeep (pick (eqb (up says n a o) o) reason.Loop (reasonBy (standOf says n (up says n a o)))))
@@ -273,7 +248,7 @@ module _ (says : ℕ → Record) (n : ℕ) where
           (omega (arith, stop-within), rw (e, end-met a end))
 
       -- a way of which n steps go on: a loop
-      pub looped : ((j : ℕ) → 1 ≤ j → j ≤ n → goesOn (up says n j o) ≡ true) → reasonOf says n o ≡ reason.Loop
+      pub looped : ((j : ℕ) → 1 ≤ j → j ≤ n → goesOn says n (up says n j o) ≡ true) → reasonOf says n o ≡ reason.Loop
       unfolding reasonOf
       looped on =
           let k = stopOf says n o in
@@ -284,46 +259,13 @@ module _ (says : ℕ → Record) (n : ℕ) where
           in
           rw (below, met)
 
-  -- ---- how an object stands
-
-  -- by its newest header
-  by-stand :
-      (x : ℕ) (P : Stand → Type 0) → (headOf says n x ≡ none → P missing) →
-      ((h : ℕ) → headOf says n x ≡ some h → isGone (says h) ≡ true → P deleted) →
-      ((h : ℕ) → headOf says n x ≡ some h → isGone (says h) ≡ false → isDirectory (says h) ≡ true → P directory) →
-      ((h : ℕ) → headOf says n x ≡ some h → isGone (says h) ≡ false → isDirectory (says h) ≡ false → P nonDirectory) → P (standOf says n x)
-  unfolding standOf
-  by-stand x P without gone here plain = go (headOf says n x) refl
-    where
-      go : (r : Option ℕ) → headOf says n x ≡ r → P (given missing (λ h. standBy (says h)) r)
-      go none e = without e
-      go (some h) e =
-          by-test (isGone (says h)) _
-          (λ t. rw t (gone h e t))
-          (λ t. by-test (isDirectory (says h)) _ (λ u. rw (t, u) (here h e t u)) (λ u. rw (t, u) (plain h e t u)))
-
-  -- an object with no header is missing
-  stand-missing : (x : ℕ) → headOf says n x ≡ none → standOf says n x ≡ missing
-  unfolding standOf
-  stand-missing x e = rw e
-
-  -- one whose newest header is gone is deleted
-  stand-deleted : (x h : ℕ) → headOf says n x ≡ some h → isGone (says h) ≡ true → standOf says n x ≡ deleted
-  unfolding standOf
-  stand-deleted x h e t = rw (e, t)
-
-  -- and one whose newest header is neither gone nor a directory's is no directory
-  stand-plain : (x h : ℕ) → headOf says n x ≡ some h → isGone (says h) ≡ false → isDirectory (says h) ≡ false → standOf says n x ≡ nonDirectory
-  unfolding standOf
-  stand-plain x h e t u = rw (e, t, u)
-
   -- ---- what each reason says of an object
 
   module _ (o : ℕ) where
     -- the way comes to step k: each step before it goes on, and comes to none met before
     pub record ComesTo (k : ℕ) : Type 0 where
       pub first : 1 ≤ k
-      pub on : (j : ℕ) → 1 ≤ j → j < k → goesOn (up says n j o) ≡ true
+      pub on : (j : ℕ) → 1 ≤ j → j < k → goesOn says n (up says n j o) ≡ true
       pub unmet : (j : ℕ) → 1 ≤ j → j < k → Met o j → ⊥
 
     -- and there to an object that is not the root and was not met before
@@ -406,7 +348,7 @@ module _ (says : ℕ → Record) (n : ℕ) where
         beside : eqb (up says n stop o) root ≡ false → metAt says n o stop ≡ false → Reasoned (reasonBy (standOf says n (up says n stop o))) o
         beside t u =
             let new : ComesToNew o stop = record { comes = stop-comes; below = eqb-false _ _ t; unmet = unmet-means o stop u } in
-            by-stand (up says n stop o) (λ s. standOf says n (up says n stop o) ≡ s → Reasoned (reasonBy s) o)
+            by-stand says n (up says n stop o) (λ s. standOf says n (up says n stop o) ≡ s → Reasoned (reasonBy s) o)
             (λ e _. record { step = stop; comes = new; headless = e })
             (λ h e g _. record { step = stop; comes = new; page = h; head = e; gone = g })
             (λ h e g d s. let z = on-passes o stop u (rw (t, s)) in clash (cc (stop-first o p head .passes)))
@@ -442,6 +384,7 @@ module _ (says : ℕ → Record) (n : ℕ) where
         let t : eqb (up says n (w .step) o) root ≡ false = ne-eqb _ _ (w .below) in
         let u = means-met o (w .step) (w .met) in
         reason-at (w .step) (w .comes) (met-stops o (w .step) u) ∙ rw (t, u)
-    means-reason reason.Missing w = reason-new (w .step) missing (w .comes) (stand-missing _ (w .headless)) refl
-    means-reason reason.Deleted w = reason-new (w .step) deleted (w .comes) (stand-deleted _ (w .page) (w .head) (w .gone)) refl
-    means-reason reason.NonDirectory w = reason-new (w .step) nonDirectory (w .comes) (stand-plain _ (w .page) (w .head) (w .kept) (w .plain)) refl
+    means-reason reason.Missing w = reason-new (w .step) missing (w .comes) (stand-missing says n _ (w .headless)) refl
+    means-reason reason.Deleted w = reason-new (w .step) deleted (w .comes) (stand-deleted says n _ (w .page) (w .head) (w .gone)) refl
+    means-reason reason.NonDirectory w =
+        reason-new (w .step) nonDirectory (w .comes) (stand-plain says n _ (w .page) (w .head) (w .kept) (w .plain)) refl

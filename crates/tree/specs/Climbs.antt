@@ -13,12 +13,12 @@ use Rattle.sort.proofs.Ascending.{In}
 use Rattle.chunk.specs.Live.{liveIds}
 use Rattle.chunk.specs.Records.{isGone}
 use Rattle.text.specs.Put.{Put}
-use Rattle.tree.specs.Heads.{Heads}
-use Rattle.tree.specs.Objects.{Stand, missing, deleted, nonDirectory, directory, root, parentOf, standOf, isStanding}
+use Rattle.tree.specs.Heads.{objectAt, Heads}
+use Rattle.tree.specs.Objects.{Stand, missing, deleted, nonDirectory, directory, root, parentOf, standOf}
 use Rattle.tree.specs.Paths.{listed}
 use Rattle.tree.specs.Rows.{numberOf, otherRows}
 use Rattle.tree.specs.Tree.{isIn}
-use Rattle.tree.specs.Ways.{up, reasonOf}
+use Rattle.tree.specs.Ways.{goesOn, up, reasonOf}
 use Rattle.tree.specs.declared.reason.Reason.{Reason}
 use Rattle.tree.specs.declared.reason.Reason.the-variants as reason
 
@@ -48,15 +48,7 @@ abbrev pub toNone : ℕ
 toNone = 7
 
 module _ (says : ℕ → Record) (n : ℕ) where
-  -- whether a way goes on from an object: it is not the root, and stands as a directory
-  abbrev pub goesOn : (object : ℕ) → Bool
-  goesOn x = not (eqb x root) && isStanding (standOf says n x)
-
   module _ (heads : List ℕ) where
-    -- the object of row i
-    abbrev pub idAt : (row : ℕ) → ℕ
-    idAt i = keyOf (getD heads i 0)
-
     -- rows of a dump whose page numbers are words
     pub record Headed : Type 0 where
       pub small : n ≤ wordValues
@@ -67,19 +59,19 @@ module _ (says : ℕ → Record) (n : ℕ) where
       pub top : eqb code toRoot ≡ eqb x root
       pub kind : eqb x root ≡ false → kindIn code ≡ kindBy (standOf says n x)
       pub inside : kindIn code < 3 → placeIn code < length heads
-      pub placed : kindIn code < 3 → idAt (placeIn code) ≡ x
+      pub placed : kindIn code < 3 → objectAt heads (placeIn code) ≡ x
 
     -- so many steps up from object o come to this code, and the way goes on at each step before
     pub record Walked (o steps code : ℕ) : Type 0 where
       pub step : 1 ≤ steps
       pub leads : Leads (up says n steps o) code
-      pub on : (j : ℕ) → 1 ≤ j → j < steps → goesOn (up says n j o) ≡ true
+      pub on : (j : ℕ) → 1 ≤ j → j < steps → goesOn says n (up says n j o) ≡ true
 
     -- some steps do, more than a bound unless the way ends there
     pub record Climbed (bound o code : ℕ) : Type 0 where
       pub steps : ℕ
       pub walked : Walked o steps code
-      pub far : goesOn (up says n steps o) ≡ true → bound < steps
+      pub far : goesOn says n (up says n steps o) ≡ true → bound < steps
 
     -- the word of object o: the code of its parent, and one that its way has come to
     pub record Word (bound o word : ℕ) : Type 0 where
@@ -89,7 +81,7 @@ module _ (says : ℕ → Record) (n : ℕ) where
     -- the words of all rows, with a bound for each
     pub record Ways (bound : (row : ℕ) → ℕ) (words : List ℕ) : Type 0 where
       pub long : length words ≡ length heads
-      pub each : (i : ℕ) → i < length heads → Word (bound i) (idAt i) (getD words i 0)
+      pub each : (i : ℕ) → i < length heads → Word (bound i) (objectAt heads i) (getD words i 0)
 
 -- a code is that of object x, for as many pages as the rows are of
 abbrev pub IsCode : (says : ℕ → Record) (heads : List ℕ) (x code : ℕ) → Type 0
@@ -120,7 +112,7 @@ Doubled before after = (b : ℕ) → Raised b (b * 2 + 1) before after
 abbrev pub TellsListed : (words : List ℕ) (row : ℕ) → Bool → Type 0
 TellsListed words i r =
     (says : ℕ → Record) (names : ℕ → List ℕ) (n : ℕ) (heads : List ℕ) (bound : ℕ → ℕ) → Ways says n heads bound words →
-    In (idAt says n heads i) (liveIds says n) → (idAt says n heads i ≡ root → ⊥) → r ≡ isIn (idAt says n heads i) (listed says names n)
+    In (objectAt heads i) (liveIds says n) → (objectAt heads i ≡ root → ⊥) → r ≡ isIn (objectAt heads i) (listed says names n)
 
 -- the reason of the object of row i whose way has come to a code
 unfoldable pub reasonIn : (row code : ℕ) → Reason

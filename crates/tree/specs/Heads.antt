@@ -1,24 +1,32 @@
--- The newest header of each object as a row: the object's id as its key, the page as its value. The rows of all headers are put in order, and of those
--- of one object, which stand side by side then, the newest is kept.
+-- The newest header of each object as a row: the object's id as its key, the page as its value. The rows of all headers are put in order, and of
+-- those of one object, which stand side by side then, the newest is kept.
 use Prim.Native.Nat.{ℕ, _<_}
 use mathlib.Core.Bool.{Bool}
 use mathlib.Core.List.{List, [], _∷_, map}
 use mathlib.Core.Option.{some}
 use mathlib.Core.Path.{_≡_}
 use lib.Dec.{eqb, leb}
-use lib.ListN.{length}
+use lib.ListN.{length, getD}
 use Rattle.page.specs.Choice.{pick}
 use Rattle.page.specs.Records.{isHeader}
 use Rattle.page.specs.Search.{count}
 use Rattle.page.specs.declared.record.Record.{Record}
 use Rattle.sort.specs.Packed.{packed, keyOf, valueOf}
 use Rattle.sort.proofs.Ascending.{In, Ascends}
-use Rattle.chunk.specs.Live.{passed, idsOf}
+use Rattle.chunk.specs.Live.{idsOf}
 use Rattle.chunk.specs.Records.{ageOf, objectOf}
 use Rattle.tree.specs.Objects.{headOf}
 
+-- the object of row i
+abbrev pub objectAt : (heads : List ℕ) (row : ℕ) → ℕ
+objectAt heads i = keyOf (getD heads i 0)
+
 -- over what each page says
 module _ (says : ℕ → Record) where
+  -- what the newest header of row i says
+  abbrev pub saidAt : (heads : List ℕ) (row : ℕ) → Record
+  saidAt heads i = says (valueOf (getD heads i 0))
+
   -- whether a page is a header, and its row
   abbrev pub isHead : (page : ℕ) → Bool
   isHead p = isHeader (says p)

@@ -1,14 +1,27 @@
 -- The objects of a tree (document 02, item 13): what the newest header of each says of it, over what each page says.
 use Prim.Native.Nat.{ℕ}
-use mathlib.Core.Bool.{Bool, true, false, not, _&&_}
-use mathlib.Core.List.{List, []}
+use mathlib.Core.Bool.{Bool, true, false}
+use mathlib.Core.List.{List}
 use mathlib.Core.Option.{Option, none, some}
 use lib.Dec.{eqb}
+use Rattle.page.specs.Asked.{textAt}
 use Rattle.page.specs.Choice.{pick}
+use Rattle.page.specs.Records.{recordAt}
+use Rattle.page.specs.declared.fields.Text.the-variants.{Name}
+use Rattle.page.specs.declared.geometry.Geometry.{Geometry}
 use Rattle.page.specs.declared.record.Record.{Record}
 use Rattle.page.specs.declared.record.Record.the-variants.{Other, Header, Data}
 use Rattle.chunk.specs.Records.{isGone}
 use Rattle.chunk.specs.Newest.{newestHeader}
+use Rattle.chunk.specs.Takes.{seenBy}
+use Rattle.chunk.specs.declared.takes.Takes.{Takes}
+
+-- what each page of a dump says, if these of its records are taken, and the names on its header pages
+abbrev pub saysBy : Geometry → (dump : List ℕ) → Takes → (page : ℕ) → Record
+saysBy g dump t = seenBy t (recordAt g dump)
+
+abbrev pub namesOf : Geometry → (dump : List ℕ) → (page : ℕ) → List ℕ
+namesOf g dump = textAt Name g dump
 
 -- the root, which stands whatever its header says, or with none
 abbrev pub root : ℕ

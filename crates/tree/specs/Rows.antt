@@ -4,17 +4,15 @@
 use Prim.Native.Nat.{ℕ, zero, suc, _+_, _-_, min}
 use mathlib.Core.List.{List, [], _∷_, _++_, map}
 use lib.Dec.{eqb, ltb}
-use lib.ListN.{length, getD, take, drop}
-use Rattle.page.specs.Asked.{textAt}
+use lib.ListN.{length, getD}
 use Rattle.page.specs.Choice.{pick}
 use Rattle.page.specs.Records.{recordAt}
-use Rattle.page.specs.declared.fields.Text.the-variants.{Name}
 use Rattle.page.specs.declared.geometry.Geometry.{Geometry}
 use Rattle.page.specs.declared.record.Record.{Record}
 use Rattle.sort.specs.Packed.{packed, keyOf, valueOf}
 use Rattle.chunk.specs.Records.{objectOf}
-use Rattle.tree.specs.Objects.{root, pageOf, standOf, isStanding}
-use Rattle.tree.specs.Paths.{mostDepth, slash, upToZero, each, childrenOf}
+use Rattle.tree.specs.Objects.{root, pageOf, standOf, isStanding, namesOf}
+use Rattle.tree.specs.Paths.{mostDepth, slash, upToZero, childrenOf}
 use Rattle.tree.specs.Tree.{pathLines, reasonLines, others}
 use Rattle.tree.specs.Ways.{reasonOf}
 use Rattle.tree.specs.declared.reason.Reason.{Reason}
@@ -60,6 +58,10 @@ module _ (says : ℕ → Record) (names : ℕ → List ℕ) (n : ℕ) where
   rowsUnder zero key d at = []
   rowsUnder (suc k) key d at = eachAt (rowsAt (rowsUnder k) key) at (childrenOf says names n d)
 
+  -- those of an object at a position: its own, and what is below it so many steps deep
+  abbrev pub entryRows : (depth key at object : ℕ) → List ℕ
+  entryRows k = rowsAt (rowsUnder k)
+
   -- those of the first list, those of the second, and all
   unfoldable pub listedRows : List ℕ
   listedRows = rowsUnder mostDepth 0 root 0
@@ -74,7 +76,7 @@ module _ (says : ℕ → Record) (names : ℕ → List ℕ) (n : ℕ) where
 module _ (g : Geometry) (dump : List ℕ) where
   -- the name on a page, up to its first zero byte; none where the page is no header
   unfoldable pub nameOn : (page : ℕ) → List ℕ
-  nameOn p = upToZero (textAt Name g dump p)
+  nameOn p = upToZero (namesOf g dump p)
 
   -- the object of a row's page; 0 where that is no record
   abbrev pub objectIn : (row : ℕ) → ℕ

@@ -1,6 +1,6 @@
 -- Why an object is not in the first list (document 02, item 13): where the way up its parents stops.
-use Prim.Native.Nat.{ℕ, zero, suc, _+_}
-use mathlib.Core.Bool.{Bool, false, not, _||_}
+use Prim.Native.Nat.{ℕ, zero, suc}
+use mathlib.Core.Bool.{Bool, false, not, _&&_, _||_}
 use lib.Dec.{eqb}
 use Rattle.page.specs.Choice.{pick}
 use Rattle.page.specs.Search.{firstFrom}
@@ -23,6 +23,10 @@ reasonBy directory = reason.NonDirectory
 
 -- a dump of n pages
 module _ (says : ℕ → Record) (n : ℕ) where
+  -- whether a way goes on from an object: it is not the root, and stands as a directory
+  abbrev pub goesOn : (object : ℕ) → Bool
+  goesOn x = not (eqb x root) && isStanding (standOf says n x)
+
   -- where so many steps up from object o lead
   unfoldable pub up : (steps object : ℕ) → ℕ
   up zero o = o

@@ -2,9 +2,9 @@
 ghost use mathlib.Core.Path.{_≡_};
 ghost use Prim.Native.Nat.{_≤_, _<_, _^_};
 ghost use lib.ListN.{length, take};
-ghost use Rattle.page.specs.Records.{recordAt};
-ghost use Rattle.chunk.specs.Takes.{seenBy};
 ghost use Rattle.tree.specs.Children.{childRows};
+ghost use Rattle.tree.specs.Objects.{saysBy};
+use crate::objects::ROOT;
 use crate::row::put_row;
 use chunk::record::gone_under;
 use chunk::takes::Takes;
@@ -17,9 +17,6 @@ use sort::rows::key_of;
 use sort::rows::pack;
 use sort::rows::value_of;
 
-// The id of the root.
-pub(crate) const ROOT: u32 = 1;
-
 // Puts the children's rows in front of words that have room for as many as there are heads. Answers how many they are.
 pub(crate) fn fill_children(
     dump: &[u8],
@@ -31,7 +28,7 @@ pub(crate) fn fill_children(
     requires { ⌜ length (now heads) < 2 ^ 32 ⌝ }
     requires { ⌜ length (now heads) ≤ length (now rows) ⌝ }
     ensures { λ r. ⌜ r ≤ length (now (rows .entry)) ⌝ }
-    ensures { λ r. ⌜ take r (now (rows .exit)) ≡ childRows (seenBy t (recordAt g (now (dump .entry)))) (now (heads .entry)) ⌝ }
+    ensures { λ r. ⌜ take r (now (rows .exit)) ≡ childRows (saysBy g (now (dump .entry)) t) (now (heads .entry)) ⌝ }
 {
     let mut at: usize = 0;
     let mut i: usize = 0;

@@ -2,17 +2,19 @@
 ghost use Prim.Native.Nat.{_≤_, _<_};
 ghost use mathlib.Core.Path.{_≡_};
 ghost use lib.ListN.{length, getD};
-ghost use Rattle.page.specs.Records.{recordAt};
 ghost use Rattle.sort.specs.Packed.{valueOf};
-ghost use Rattle.chunk.specs.Takes.{seenBy};
 ghost use Rattle.tree.specs.Climbs.{kindBy, codePlaces, IsCode, FirstWays, SomeWays, Raised, Doubled, Ways, TellsListed, reasonIn};
 ghost use Rattle.tree.specs.Heads.{Heads};
-ghost use Rattle.tree.specs.Objects.{parentIn, standBy};
+ghost use Rattle.tree.specs.Objects.{standBy, saysBy};
 ghost use Rattle.tree.specs.Search.{Sorted};
+use crate::objects::MOST_DEPTH;
+use crate::objects::ROOT;
+use crate::objects::is_gone;
+use crate::objects::is_standing;
+use crate::objects::parent_in;
 use crate::reason::Reason;
 use crate::search::Found;
 use crate::search::find;
-use chunk::record::gone_under;
 use chunk::takes::Takes;
 use chunk::takes::seen_at;
 use page::geometry::Geometry;
@@ -21,13 +23,6 @@ use page::record::Record;
 use sort::rows::key_of;
 use sort::rows::pack;
 use sort::rows::value_of;
-
-// The root of the tree.
-pub(crate) const ROOT: u32 = 1;
-// The type of a directory.
-const DIRECTORY: u32 = 3;
-// How many steps below the root the first list goes.
-const MOST_DEPTH: u32 = 32;
 
 // The kinds of objects in codes.
 const GOES_ON: u32 = 0;
@@ -46,13 +41,10 @@ const TO_NONE: u32 = 7;
 fn kind_of(r: Record) -> u32
     ensures { λ k. ⌜ k ≡ kindBy (standBy r) ⌝ }
 {
-    let Record::Header(h) = r else {
-        return NON_DIRECTORY;
-    };
-    if gone_under(h.parent) {
+    if is_gone(r) {
         return DELETED;
     }
-    if h.page_type == DIRECTORY {
+    if is_standing(r) {
         return GOES_ON;
     }
     NON_DIRECTORY
@@ -62,7 +54,7 @@ fn kind_of(r: Record) -> u32
 fn code_of(dump: &[u8], g: Geometry, t: Takes, heads: &[u64], o: u32) -> u32
     requires { ⌜ Sorted (now heads) ⌝ }
     requires { ⌜ length (now heads) ≤ codePlaces ⌝ }
-    ensures { λ r. ⌜ IsCode (seenBy t (recordAt g (now (dump .entry)))) (now (heads .entry)) o r ⌝ }
+    ensures { λ r. ⌜ IsCode (saysBy g (now (dump .entry)) t) (now (heads .entry)) o r ⌝ }
 {
     if o == ROOT {
         return TO_ROOT;
@@ -76,23 +68,12 @@ fn code_of(dump: &[u8], g: Geometry, t: Takes, heads: &[u64], o: u32) -> u32
     }
 }
 
-// The parent that a header names; 0, which no object has, for another page.
-pub(crate) fn parent_in(r: Record) -> u32
-    ensures { λ p. ⌜ p ≡ parentIn r ⌝ }
-{
-    match r {
-        Record::Other => 0,
-        Record::Header(h) => h.parent.0,
-        Record::Data(_) => 0,
-    }
-}
-
 // Makes the words of all rows: each has gone the step to its object's parent.
 fn fill_ways(dump: &[u8], g: Geometry, t: Takes, heads: &[u64], ways: &mut [u64])
     requires { ⌜ Sorted (now heads) ⌝ }
     requires { ⌜ length (now heads) ≤ codePlaces ⌝ }
     requires { ⌜ length (now ways) ≡ length (now heads) ⌝ }
-    ensures { λ _. ⌜ FirstWays (seenBy t (recordAt g (now (dump .entry)))) (now (heads .entry)) (now (ways .exit)) ⌝ }
+    ensures { λ _. ⌜ FirstWays (saysBy g (now (dump .entry)) t) (now (heads .entry)) (now (ways .exit)) ⌝ }
 {
     let mut i: usize = 0;
     while i < heads.len() {
@@ -144,10 +125,10 @@ pub(crate) fn find_ways(
     heads: &[u64],
     ways: &mut [u64],
 )
-    requires { ⌜ Heads (seenBy t (recordAt g (now dump))) pages (now heads) ⌝ }
+    requires { ⌜ Heads (saysBy g (now dump) t) pages (now heads) ⌝ }
     requires { ⌜ length (now heads) ≤ codePlaces ⌝ }
     requires { ⌜ length (now ways) ≡ length (now heads) ⌝ }
-    ensures { λ _. ⌜ Ways (seenBy t (recordAt g (now (dump .entry)))) pages (now (heads .entry)) (λ _. pages) (now (ways .exit)) ⌝ }
+    ensures { λ _. ⌜ Ways (saysBy g (now (dump .entry)) t) pages (now (heads .entry)) (λ _. pages) (now (ways .exit)) ⌝ }
 {
     fill_ways(dump, g, t, heads, ways);
     climb(ways, pages);

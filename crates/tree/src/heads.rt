@@ -1,12 +1,11 @@
 // The newest header of each object, as rows in order of their ids.
 ghost use mathlib.Core.Path.{_≡_};
-ghost use Prim.Native.Nat.{_≤_, _^_};
+ghost use Prim.Native.Nat.{_≤_};
 ghost use lib.ListN.{length, take};
-ghost use Rattle.page.specs.Records.{recordAt};
 ghost use Rattle.chunk.specs.Live.{passed};
 ghost use Rattle.chunk.specs.Records.{ageOf};
-ghost use Rattle.chunk.specs.Takes.{seenBy};
 ghost use Rattle.tree.specs.Heads.{isHead, headRow, headCount, newerRow, newestEach, headRows};
+ghost use Rattle.tree.specs.Objects.{saysBy};
 use crate::row::put_row;
 use chunk::record::order_of;
 use chunk::record::sequence_of;
@@ -22,7 +21,7 @@ use sort::rows::value_of;
 
 // How many headers the first pages have.
 pub(crate) fn count_heads(dump: &[u8], g: Geometry, t: Takes, pages: u32) -> u32
-    ensures { λ r. ⌜ r ≡ headCount (seenBy t (recordAt g (now (dump .entry)))) pages ⌝ }
+    ensures { λ r. ⌜ r ≡ headCount (saysBy g (now (dump .entry)) t) pages ⌝ }
 {
     let mut count: u32 = 0;
     let mut i: u32 = 0;
@@ -39,8 +38,8 @@ pub(crate) fn count_heads(dump: &[u8], g: Geometry, t: Takes, pages: u32) -> u32
 
 // Fills rows with those of all headers, as they come.
 fn gather_heads(dump: &[u8], g: Geometry, t: Takes, pages: u32, rows: &mut [u64])
-    requires { ⌜ length (now rows) ≡ headCount (seenBy t (recordAt g (now dump))) pages ⌝ }
-    ensures { λ _. ⌜ now (rows .exit) ≡ passed (isHead (seenBy t (recordAt g (now (dump .entry))))) (headRow (seenBy t (recordAt g (now (dump .entry))))) pages ⌝ }
+    requires { ⌜ length (now rows) ≡ headCount (saysBy g (now dump) t) pages ⌝ }
+    ensures { λ _. ⌜ now (rows .exit) ≡ passed (isHead (saysBy g (now (dump .entry)) t)) (headRow (saysBy g (now (dump .entry)) t)) pages ⌝ }
 {
     let mut at: usize = 0;
     let mut i: u32 = 0;
@@ -57,14 +56,14 @@ fn gather_heads(dump: &[u8], g: Geometry, t: Takes, pages: u32, rows: &mut [u64]
 
 // How new a page is.
 fn age_at(dump: &[u8], g: Geometry, t: Takes, p: PageNumber) -> u64
-    ensures { λ r. ⌜ r ≡ ageOf (seenBy t (recordAt g (now (dump .entry)))) (p .0) ⌝ }
+    ensures { λ r. ⌜ r ≡ ageOf (saysBy g (now (dump .entry)) t) (p .0) ⌝ }
 {
     order_of(sequence_of(seen_at(dump, g, t, p)), p)
 }
 
 // The newer of two rows, the second of which stands behind the first.
 fn newer_row(dump: &[u8], g: Geometry, t: Takes, row: u64, next: u64) -> u64
-    ensures { λ r. ⌜ r ≡ newerRow (seenBy t (recordAt g (now (dump .entry)))) row next ⌝ }
+    ensures { λ r. ⌜ r ≡ newerRow (saysBy g (now (dump .entry)) t) row next ⌝ }
 {
     if age_at(dump, g, t, PageNumber(value_of(row)))
         <= age_at(dump, g, t, PageNumber(value_of(next)))
@@ -77,7 +76,7 @@ fn newer_row(dump: &[u8], g: Geometry, t: Takes, row: u64, next: u64) -> u64
 // Of rows in order, keeps the newest of each object, in front. Answers how many they are.
 fn keep_newest(dump: &[u8], g: Geometry, t: Takes, rows: &mut [u64]) -> usize
     ensures { λ r. ⌜ r ≤ length (now (rows .entry)) ⌝ }
-    ensures { λ r. ⌜ take r (now (rows .exit)) ≡ newestEach (seenBy t (recordAt g (now (dump .entry)))) (now (rows .entry)) ⌝ }
+    ensures { λ r. ⌜ take r (now (rows .exit)) ≡ newestEach (saysBy g (now (dump .entry)) t) (now (rows .entry)) ⌝ }
 {
     let n = rows.len();
     if n == 0 {
@@ -103,9 +102,9 @@ fn keep_newest(dump: &[u8], g: Geometry, t: Takes, rows: &mut [u64]) -> usize
 
 // Puts the newest headers of all objects in front of rows that have room for all headers. Answers how many they are.
 pub(crate) fn fill_heads(dump: &[u8], g: Geometry, t: Takes, pages: u32, rows: &mut [u64]) -> usize
-    requires { ⌜ length (now rows) ≡ headCount (seenBy t (recordAt g (now dump))) pages ⌝ }
+    requires { ⌜ length (now rows) ≡ headCount (saysBy g (now dump) t) pages ⌝ }
     ensures { λ r. ⌜ r ≤ length (now (rows .entry)) ⌝ }
-    ensures { λ r. ⌜ take r (now (rows .exit)) ≡ headRows (seenBy t (recordAt g (now (dump .entry)))) pages ⌝ }
+    ensures { λ r. ⌜ take r (now (rows .exit)) ≡ headRows (saysBy g (now (dump .entry)) t) pages ⌝ }
 {
     gather_heads(dump, g, t, pages, rows);
     let n = rows.len();

@@ -3,6 +3,7 @@ mod children;
 mod climb;
 mod heads;
 mod list;
+mod objects;
 mod others;
 pub mod reason;
 mod row;

@@ -1,48 +1,26 @@
-// The rows of the first list. Listing a directory lists each of its entries, and listing an entry that is a directory lists that in turn, with one step
-// less to go.
+// The rows of the first list. Listing a directory lists each of its entries, and listing an entry that is a directory lists that in turn, with one
+// step less to go.
 ghost use mathlib.Core.Path.{_≡_};
 ghost use Prim.Native.Nat.{_<_};
 ghost use lib.ListN.{length, getD};
-ghost use Rattle.page.specs.Asked.{textAt};
-ghost use Rattle.page.specs.Records.{recordAt};
-ghost use Rattle.page.specs.declared.fields.Text.the-variants.{Name};
 ghost use Rattle.sort.specs.Packed.{valueOf};
-ghost use Rattle.chunk.specs.Takes.{seenBy};
 ghost use Rattle.text.specs.Put.{Put};
-ghost use Rattle.tree.specs.Children.{objectAt, childRows};
-ghost use Rattle.tree.specs.Heads.{Heads};
-ghost use Rattle.tree.specs.Objects.{standBy, isStanding};
-ghost use Rattle.tree.specs.Rows.{rowsAt, rowsUnder};
+ghost use Rattle.tree.specs.Children.{childRows};
+ghost use Rattle.tree.specs.Heads.{Heads, objectAt};
+ghost use Rattle.tree.specs.Objects.{saysBy, namesOf};
+ghost use Rattle.tree.specs.Rows.{entryRows, rowsUnder};
+use crate::objects::is_standing;
+use crate::row::MOST_KEY;
 use crate::row::key_behind;
 use crate::row::put_row;
 use crate::search::first_from;
-use chunk::record::gone_under;
 use chunk::takes::Takes;
 use chunk::takes::seen_at;
 use page::geometry::Geometry;
 use page::number::PageNumber;
-use page::record::Record;
 use sort::rows::key_of;
 use sort::rows::pack;
 use sort::rows::value_of;
-
-// The type of a directory.
-const DIRECTORY: u32 = 3;
-// A value above those of all rows.
-const LAST: u32 = 0xFFFF_FFFF;
-
-// Whether an object stands as a directory, by its newest header.
-pub(crate) fn is_standing(r: Record) -> bool
-    ensures { λ b. ⌜ b ≡ isStanding (standBy r) ⌝ }
-{
-    let Record::Header(h) = r else {
-        return false;
-    };
-    if gone_under(h.parent) {
-        return false;
-    }
-    h.page_type == DIRECTORY
-}
 
 // Puts the rows of the entries of a directory, whose rows have this key, so many steps deep.
 pub(crate) fn list_directory(
@@ -58,15 +36,16 @@ pub(crate) fn list_directory(
     rows: &mut [u64],
     at: usize,
 ) -> usize
-    requires { ⌜ Heads (seenBy t (recordAt g (now dump))) pages (now heads) ⌝ }
-    requires { ⌜ now children ≡ childRows (seenBy t (recordAt g (now dump))) (now heads) ⌝ }
-    ensures { λ r. ⌜ Put (rowsUnder (seenBy t (recordAt g (now (dump .entry)))) (textAt Name g (now (dump .entry))) pages depth key directory at) (now (rows .entry)) at (now (rows .exit)) r ⌝ }
+    requires { ⌜ Heads (saysBy g (now dump) t) pages (now heads) ⌝ }
+    requires { ⌜ now children ≡ childRows (saysBy g (now dump) t) (now heads) ⌝ }
+    ensures { λ r. ⌜ Put (rowsUnder (saysBy g (now (dump .entry)) t) (namesOf g (now (dump .entry))) pages depth key directory at)
+        (now (rows .entry)) at (now (rows .exit)) r ⌝ }
 {
     if depth == 0 {
         return at;
     }
     let first = first_from(children, pack(directory, 0));
-    let end = first_from(children, pack(directory, LAST));
+    let end = first_from(children, pack(directory, MOST_KEY));
     let mut next = at;
     let mut i = first;
     while i < end {
@@ -102,10 +81,11 @@ fn list_entry(
     rows: &mut [u64],
     at: usize,
 ) -> usize
-    requires { ⌜ Heads (seenBy t (recordAt g (now dump))) pages (now heads) ⌝ }
-    requires { ⌜ now children ≡ childRows (seenBy t (recordAt g (now dump))) (now heads) ⌝ }
+    requires { ⌜ Heads (saysBy g (now dump) t) pages (now heads) ⌝ }
+    requires { ⌜ now children ≡ childRows (saysBy g (now dump) t) (now heads) ⌝ }
     requires { ⌜ i < length (now children) ⌝ }
-    ensures { λ r. ⌜ Put (rowsAt (seenBy t (recordAt g (now (dump .entry)))) (textAt Name g (now (dump .entry))) pages (rowsUnder (seenBy t (recordAt g (now (dump .entry)))) (textAt Name g (now (dump .entry))) pages left) key at (objectAt (seenBy t (recordAt g (now (dump .entry)))) (now (heads .entry)) (valueOf (getD (now (children .entry)) i 0)))) (now (rows .entry)) at (now (rows .exit)) r ⌝ }
+    ensures { λ r. ⌜ Put (entryRows (saysBy g (now (dump .entry)) t) (namesOf g (now (dump .entry))) pages left key at
+        (objectAt (now (heads .entry)) (valueOf (getD (now (children .entry)) i 0)))) (now (rows .entry)) at (now (rows .exit)) r ⌝ }
 {
     let place = value_of(children[i]) as usize;
     let head = heads[place];

@@ -2,19 +2,16 @@
 ghost use mathlib.Core.Path.{_≡_};
 ghost use Prim.Native.Nat.{_<_};
 ghost use lib.ListN.{length};
-ghost use Rattle.page.specs.Records.{recordAt};
-ghost use Rattle.chunk.specs.Takes.{seenBy};
 ghost use Rattle.tree.specs.Climbs.{SomeWays, TellsOther, PutsOthers};
-use crate::climb::ROOT;
+ghost use Rattle.tree.specs.Objects.{saysBy};
 use crate::climb::is_listed;
-use crate::climb::parent_in;
 use crate::climb::reason_at;
+use crate::objects::ROOT;
+use crate::objects::is_gone;
 use crate::row::put_row;
-use chunk::record::gone_under;
 use chunk::takes::Takes;
 use chunk::takes::seen_at;
 use page::geometry::Geometry;
-use page::number::ObjectId;
 use page::number::PageNumber;
 use sort::rows::key_of;
 use sort::rows::pack;
@@ -25,15 +22,14 @@ fn is_other(dump: &[u8], g: Geometry, t: Takes, heads: &[u64], ways: &[u64], i: 
     requires { ⌜ SomeWays (now ways) ⌝ }
     requires { ⌜ length (now ways) ≡ length (now heads) ⌝ }
     requires { ⌜ i < length (now heads) ⌝ }
-    ensures { λ r. ⌜ TellsOther (seenBy t (recordAt g (now (dump .entry)))) (now (heads .entry)) (now (ways .entry)) i r ⌝ }
+    ensures { λ r. ⌜ TellsOther (saysBy g (now (dump .entry)) t) (now (heads .entry)) (now (ways .entry)) i r ⌝ }
 {
     let row = heads[i];
     if key_of(row) == ROOT {
         return false;
     }
     let page = PageNumber(value_of(row));
-    let parent = ObjectId(parent_in(seen_at(dump, g, t, page)));
-    if gone_under(parent) {
+    if is_gone(seen_at(dump, g, t, page)) {
         return false;
     }
     !is_listed(ways, i)
@@ -51,7 +47,7 @@ pub(crate) fn list_others(
 ) -> usize
     requires { ⌜ SomeWays (now ways) ⌝ }
     requires { ⌜ length (now ways) ≡ length (now heads) ⌝ }
-    ensures { λ r. ⌜ PutsOthers (seenBy t (recordAt g (now (dump .entry)))) (now (heads .entry)) (now (ways .entry))
+    ensures { λ r. ⌜ PutsOthers (saysBy g (now (dump .entry)) t) (now (heads .entry)) (now (ways .entry))
         (now (rows .entry)) at (now (rows .exit)) r ⌝ }
 {
     let mut end = at;

@@ -6,8 +6,8 @@ ghost use Rattle.tree.specs.Rows.{keyBehind};
 
 // The largest position: counting stands still there.
 const MOST: usize = 18_446_744_073_709_551_615;
-// The largest key.
-const MOST_KEY: usize = 0xFFFF_FFFF;
+// The largest key, and the largest value.
+pub(crate) const MOST_KEY: u32 = 0xFFFF_FFFF;
 
 // Puts a row into words at a position, if they have it. Answers the position behind.
 pub(crate) fn put_row(rows: &mut [u64], at: usize, row: u64) -> usize
@@ -27,8 +27,8 @@ pub(crate) fn put_row(rows: &mut [u64], at: usize, row: u64) -> usize
 pub(crate) fn key_behind(at: usize) -> u32
     ensures { λ r. ⌜ r ≡ keyBehind at ⌝ }
 {
-    if at < MOST_KEY {
+    if at < MOST_KEY as usize {
         return (at as u32) + 1;
     }
-    MOST_KEY as u32
+    MOST_KEY
 }

@@ -12,6 +12,7 @@ ghost use Rattle.tree.specs.Paths.{mostDepth, slash, upToZero};
 ghost use Rattle.tree.specs.Rows.{nameOn, objectIn, pathIn, pathAt, rowLines, rowsText, reasonAt};
 ghost use Rattle.tree.specs.Texts.{textedBy, textOn, textLeft, pathOn, pathLeft};
 ghost use Rattle.tree.specs.Tree.{wordsOf, pathLines, reasonLines};
+use crate::objects::MOST_DEPTH;
 use crate::reason::Reason;
 use chunk::record::object_of;
 use page::fields::Text;
@@ -38,8 +39,6 @@ pub enum Texted {
 const SLASH: u8 = 47;
 // The byte that ends a line.
 const NEWLINE: u8 = 10;
-// How many steps below the root the list goes.
-const MOST_DEPTH: u32 = 32;
 
 // How many bytes stand before the first zero byte.
 fn name_length(bytes: &[u8]) -> usize
@@ -124,7 +123,8 @@ fn put_path_lines(
     buf: &mut [u8],
     at: usize,
 ) -> usize
-    ensures { λ r. ⌜ Put (pathLines (objectIn g (now (dump .entry)) (getD (now (rows .entry)) i 0)) (pathIn g (now (dump .entry)) (now (rows .entry)) mostDepth i)) (now (buf .entry)) at (now (buf .exit)) r ⌝ }
+    ensures { λ r. ⌜ Put (pathLines (objectIn g (now (dump .entry)) (getD (now (rows .entry)) i 0))
+        (pathIn g (now (dump .entry)) (now (rows .entry)) mostDepth i)) (now (buf .entry)) at (now (buf .exit)) r ⌝ }
 {
     let key = put_object(dump, g, row_at(rows, i), buf, at);
     let path = put_text(buf, key, b"path=");

@@ -2,26 +2,23 @@
 ghost use mathlib.Core.Path.{_≡_};
 ghost use Prim.Native.Nat.{_≤_, _<_, min};
 ghost use lib.ListN.{length, replicate};
-ghost use Rattle.page.specs.Asked.{textAt};
 ghost use Rattle.page.specs.Numbers.{pageValues};
 ghost use Rattle.page.specs.Lengths.{openedOf};
-ghost use Rattle.page.specs.Records.{recordAt};
-ghost use Rattle.page.specs.declared.fields.Text.the-variants.{Name};
 ghost use Rattle.page.specs.declared.geometry.Opened.the-variants as opened;
 ghost use Rattle.chunk.specs.Lists.{inFront};
-ghost use Rattle.chunk.specs.Takes.{seenBy};
 ghost use Rattle.text.specs.Put.{Put};
-ghost use Rattle.tree.specs.Answers.{treeOn, rowsLeft, workLeft};
+ghost use Rattle.tree.specs.Answers.{grownTo, treeOn, rowsLeft, workLeft};
 ghost use Rattle.tree.specs.Climbs.{codePlaces};
 ghost use Rattle.tree.specs.Heads.{Heads, headCount};
+ghost use Rattle.tree.specs.Objects.{saysBy, namesOf};
 ghost use Rattle.tree.specs.Rows.{listedRows, otherRows, treeRows};
-ghost use Rattle.tree.specs.declared.whole.Grown.the-variants as grown;
 use crate::children::fill_children;
-use crate::climb::ROOT;
 use crate::climb::find_ways;
 use crate::heads::count_heads;
 use crate::heads::fill_heads;
 use crate::list::list_directory;
+use crate::objects::MOST_DEPTH;
+use crate::objects::ROOT;
 use crate::others::list_others;
 use chunk::moment::Moment;
 use chunk::takes::Takes;
@@ -29,9 +26,6 @@ use page::geometry::Geometry;
 use page::geometry::Opened;
 use page::refusal::Refusal;
 use sort::room::clear;
-
-// How many steps below the root the first list goes.
-const MOST_DEPTH: u32 = 32;
 
 // How many rows the first list has, and the second; or a refusal, with the words that each slice needs beside ShortBuffer.
 pub enum Grown {
@@ -63,9 +57,10 @@ fn first_list(
     work: &mut [u64],
     rows: &mut [u64],
 ) -> usize
-    requires { ⌜ Heads (seenBy t (recordAt g (now dump))) pages (now heads) ⌝ }
+    requires { ⌜ Heads (saysBy g (now dump) t) pages (now heads) ⌝ }
     requires { ⌜ length (now heads) ≤ length (now work) ⌝ }
-    ensures { λ r. ⌜ Put (listedRows (seenBy t (recordAt g (now (dump .entry)))) (textAt Name g (now (dump .entry))) pages) (now (rows .entry)) 0 (now (rows .exit)) r ⌝ }
+    ensures { λ r. ⌜ Put (listedRows (saysBy g (now (dump .entry)) t) (namesOf g (now (dump .entry))) pages)
+        (now (rows .entry)) 0 (now (rows .exit)) r ⌝ }
 {
     let count = fill_children(dump, g, t, heads, work);
     list_directory(
@@ -94,10 +89,11 @@ fn second_list(
     rows: &mut [u64],
     at: usize,
 ) -> usize
-    requires { ⌜ Heads (seenBy t (recordAt g (now dump))) pages (now heads) ⌝ }
+    requires { ⌜ Heads (saysBy g (now dump) t) pages (now heads) ⌝ }
     requires { ⌜ length (now heads) ≤ codePlaces ⌝ }
     requires { ⌜ length (now work) ≡ length (now heads) ⌝ }
-    ensures { λ r. ⌜ Put (otherRows (seenBy t (recordAt g (now (dump .entry)))) (textAt Name g (now (dump .entry))) pages) (now (rows .entry)) at (now (rows .exit)) r ⌝ }
+    ensures { λ r. ⌜ Put (otherRows (saysBy g (now (dump .entry)) t) (namesOf g (now (dump .entry))) pages)
+        (now (rows .entry)) at (now (rows .exit)) r ⌝ }
 {
     find_ways(dump, g, t, pages, heads, work);
     list_others(dump, g, t, heads, work, rows, at)
@@ -113,17 +109,20 @@ fn lists(
     work: &mut [u64],
     rows: &mut [u64],
 ) -> Grown
-    requires { ⌜ Heads (seenBy t (recordAt g (now dump))) pages (now heads) ⌝ }
+    requires { ⌜ Heads (saysBy g (now dump) t) pages (now heads) ⌝ }
     requires { ⌜ length (now heads) ≤ codePlaces ⌝ }
     requires { ⌜ length (now work) ≡ length (now heads) ⌝ }
-    requires { ⌜ headCount (seenBy t (recordAt g (now dump))) pages ≤ length (now rows) ⌝ }
-    ensures { λ r. ⌜ r ≡ grown.Rows (length (listedRows (seenBy t (recordAt g (now (dump .entry)))) (textAt Name g (now (dump .entry))) pages)) (length (otherRows (seenBy t (recordAt g (now (dump .entry)))) (textAt Name g (now (dump .entry))) pages)) ⌝ }
-    ensures { λ _. ⌜ now (rows .exit) ≡ inFront (treeRows (seenBy t (recordAt g (now (dump .entry)))) (textAt Name g (now (dump .entry))) pages) (now (rows .entry)) ⌝ }
+    requires { ⌜ headCount (saysBy g (now dump) t) pages ≤ length (now rows) ⌝ }
+    ensures { λ r. ⌜ r ≡ grownTo (saysBy g (now (dump .entry)) t) (namesOf g (now (dump .entry))) pages ⌝ }
+    ensures { λ _. ⌜ now (rows .exit)
+        ≡ inFront (treeRows (saysBy g (now (dump .entry)) t) (namesOf g (now (dump .entry))) pages) (now (rows .entry)) ⌝ }
 {
     let listed = first_list(dump, g, t, pages, heads, work, rows);
     let all = second_list(dump, g, t, pages, heads, work, rows, listed);
     let others = all - listed;
-    Grown::Rows(listed as u32, others as u32)
+    let first = listed as u32;
+    let second = others as u32;
+    Grown::Rows(first, second)
 }
 
 // Puts the rows of both lists. The other words, as many as there are headers, are worked in and cleared.
@@ -137,11 +136,12 @@ fn both_lists(
     work: &mut [u64],
 ) -> Grown
     requires { ⌜ pages < pageValues ⌝ }
-    requires { ⌜ headCount (seenBy t (recordAt g (now dump))) pages ≤ length (now rows) ⌝ }
-    requires { ⌜ length (now heads) ≡ headCount (seenBy t (recordAt g (now dump))) pages ⌝ }
-    requires { ⌜ length (now work) ≡ headCount (seenBy t (recordAt g (now dump))) pages ⌝ }
-    ensures { λ r. ⌜ r ≡ grown.Rows (length (listedRows (seenBy t (recordAt g (now (dump .entry)))) (textAt Name g (now (dump .entry))) pages)) (length (otherRows (seenBy t (recordAt g (now (dump .entry)))) (textAt Name g (now (dump .entry))) pages)) ⌝ }
-    ensures { λ _. ⌜ now (rows .exit) ≡ inFront (treeRows (seenBy t (recordAt g (now (dump .entry)))) (textAt Name g (now (dump .entry))) pages) (now (rows .entry)) ⌝ }
+    requires { ⌜ headCount (saysBy g (now dump) t) pages ≤ length (now rows) ⌝ }
+    requires { ⌜ length (now heads) ≡ headCount (saysBy g (now dump) t) pages ⌝ }
+    requires { ⌜ length (now work) ≡ headCount (saysBy g (now dump) t) pages ⌝ }
+    ensures { λ r. ⌜ r ≡ grownTo (saysBy g (now (dump .entry)) t) (namesOf g (now (dump .entry))) pages ⌝ }
+    ensures { λ _. ⌜ now (rows .exit)
+        ≡ inFront (treeRows (saysBy g (now (dump .entry)) t) (namesOf g (now (dump .entry))) pages) (now (rows .entry)) ⌝ }
     ensures { λ _. ⌜ now (heads .exit) ≡ replicate (length (now (heads .entry))) 0 ⌝ }
     ensures { λ _. ⌜ now (work .exit) ≡ replicate (length (now (work .entry))) 0 ⌝ }
 {
@@ -164,10 +164,14 @@ fn tree_in(
     work: &mut [u64],
 ) -> Grown
     requires { ⌜ openedOf g (length (now dump)) ≡ opened.Pages pages ⌝ }
-    ensures { λ r. ⌜ r ≡ treeOn g (now (dump .entry)) m (length (now (rows .entry))) (length (now (heads .entry))) (length (now (work .entry))) ⌝ }
-    ensures { λ _. ⌜ now (rows .exit) ≡ rowsLeft g (now (dump .entry)) m (now (rows .entry)) (length (now (heads .entry))) (length (now (work .entry))) ⌝ }
-    ensures { λ _. ⌜ now (heads .exit) ≡ workLeft g (now (dump .entry)) m (length (now (rows .entry))) (length (now (heads .entry))) (length (now (work .entry))) (now (heads .entry)) ⌝ }
-    ensures { λ _. ⌜ now (work .exit) ≡ workLeft g (now (dump .entry)) m (length (now (rows .entry))) (length (now (heads .entry))) (length (now (work .entry))) (now (work .entry)) ⌝ }
+    ensures { λ r. ⌜ r ≡ treeOn g (now (dump .entry)) m
+        (length (now (rows .entry))) (length (now (heads .entry))) (length (now (work .entry))) ⌝ }
+    ensures { λ _. ⌜ now (rows .exit) ≡ rowsLeft g (now (dump .entry)) m
+        (now (rows .entry)) (length (now (heads .entry))) (length (now (work .entry))) ⌝ }
+    ensures { λ _. ⌜ now (heads .exit) ≡ workLeft g (now (dump .entry)) m
+        (length (now (rows .entry))) (length (now (heads .entry))) (length (now (work .entry))) (now (heads .entry)) ⌝ }
+    ensures { λ _. ⌜ now (work .exit) ≡ workLeft g (now (dump .entry)) m
+        (length (now (rows .entry))) (length (now (heads .entry))) (length (now (work .entry))) (now (work .entry)) ⌝ }
 {
     if m.is_missing(pages) {
         return Grown::Refused(Refusal::BadPage, 0);
@@ -199,10 +203,14 @@ pub fn tree(
     heads: &mut [u64],
     work: &mut [u64],
 ) -> Grown
-    ensures { λ r. ⌜ r ≡ treeOn g (now (dump .entry)) m (length (now (rows .entry))) (length (now (heads .entry))) (length (now (work .entry))) ⌝ }
-    ensures { λ _. ⌜ now (rows .exit) ≡ rowsLeft g (now (dump .entry)) m (now (rows .entry)) (length (now (heads .entry))) (length (now (work .entry))) ⌝ }
-    ensures { λ _. ⌜ now (heads .exit) ≡ workLeft g (now (dump .entry)) m (length (now (rows .entry))) (length (now (heads .entry))) (length (now (work .entry))) (now (heads .entry)) ⌝ }
-    ensures { λ _. ⌜ now (work .exit) ≡ workLeft g (now (dump .entry)) m (length (now (rows .entry))) (length (now (heads .entry))) (length (now (work .entry))) (now (work .entry)) ⌝ }
+    ensures { λ r. ⌜ r ≡ treeOn g (now (dump .entry)) m
+        (length (now (rows .entry))) (length (now (heads .entry))) (length (now (work .entry))) ⌝ }
+    ensures { λ _. ⌜ now (rows .exit) ≡ rowsLeft g (now (dump .entry)) m
+        (now (rows .entry)) (length (now (heads .entry))) (length (now (work .entry))) ⌝ }
+    ensures { λ _. ⌜ now (heads .exit) ≡ workLeft g (now (dump .entry)) m
+        (length (now (rows .entry))) (length (now (heads .entry))) (length (now (work .entry))) (now (heads .entry)) ⌝ }
+    ensures { λ _. ⌜ now (work .exit) ≡ workLeft g (now (dump .entry)) m
+        (length (now (rows .entry))) (length (now (heads .entry))) (length (now (work .entry))) (now (work .entry)) ⌝ }
 {
     let p = g.opened(dump.len());
     match p {

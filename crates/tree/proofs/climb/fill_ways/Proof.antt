@@ -4,14 +4,13 @@ use mathlib.Core.Path.{sym, _∙_}
 use native.Mathlib.Omega.{arith}
 use borrow.Author.Needs.{needs}
 use lib.ListN.{length}
-use Rattle.page.specs.Records.{recordAt}
-use Rattle.chunk.specs.Takes.{seenBy}
+use Rattle.tree.specs.Objects.{saysBy}
 use Rattle.tree.proofs.Climbing.{Filled, filled-none, filled-more, filled-all}
 use Rattle.tree.proofs.climb.fill_ways.Statement.{statement}
 use Rattle.tree.proofs.climb.fill_ways.Tie as tie
 
 abbrev Inv-loop : tie.InvT-loop
-Inv-loop dump g t heads ways₀ i₀ ways i = Filled (seenBy t (recordAt g dump)) heads ways i
+Inv-loop dump g t heads ways₀ i₀ ways i = Filled (saysBy g dump t) heads ways i
 
 abbrev μ-loop : tie.MeasureT-loop
 μ-loop dump g t heads ways₀ i₀ ways i = length heads - i

@@ -1,10 +1,10 @@
 -- The words are filled, and then go up.
 use native.Mathlib.Omega.{arith}
 use borrow.Author.Needs.{needs}
-use Rattle.page.specs.Records.{recordAt}
-use Rattle.chunk.specs.Takes.{seenBy}
 use Rattle.tree.specs.Climbs.{Ways}
-use Rattle.tree.proofs.Climbing.{heads-sorted, ways-some}
+use Rattle.tree.specs.Objects.{saysBy}
+use Rattle.tree.proofs.Climbing.{ways-some}
+use Rattle.tree.proofs.HeadRows.{heads-sorted}
 use Rattle.tree.proofs.climb.find_ways.Statement.{statement}
 use Rattle.tree.proofs.climb.find_ways.Tie as tie
 
@@ -17,7 +17,7 @@ fill-ways-requires c κs =
 filled :
     (c : tie.After-fill-ways) →
     let a = c .before .before .before .before .before .args in
-    Ways (seenBy (a .t) (recordAt (a .g) (a .dump .now))) (a .pages) (a .heads .now) (λ i. 0) (c .fill-ways .last .1 .1 .1 .1 .0)
+    Ways (saysBy (a .g) (a .dump .now) (a .t)) (a .pages) (a .heads .now) (λ i. 0) (c .fill-ways .last .1 .1 .1 .1 .0)
 filled c =
     let s = c .before .before .before .before .before in
     c .fill-ways .ensures (s .args .pages) record { small = omega (arith, s .fits .pages); right = s .pre .0 }

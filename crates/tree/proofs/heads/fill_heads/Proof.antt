@@ -3,12 +3,11 @@ use mathlib.Core.Path.{_≡_, ap, _∙_}
 use native.Mathlib.Omega.{arith}
 use borrow.Author.Needs.{needs}
 use lib.ListN.{length}
-use Rattle.page.specs.Records.{recordAt}
 use Rattle.sort.specs.Arranged.{arranged}
 use Rattle.chunk.specs.Live.{idsOf}
-use Rattle.chunk.specs.Takes.{seenBy}
-use Rattle.tree.specs.Heads.{isHead, headRow, newestEach, headRows}
-use Rattle.tree.proofs.Keeping.{sorted-all}
+use Rattle.tree.specs.Heads.{isHead, headRow, headRows}
+use Rattle.tree.specs.Objects.{saysBy}
+use Rattle.tree.proofs.Fronts.{sorted-all}
 use Rattle.tree.proofs.heads.fill_heads.Statement.{statement}
 use Rattle.tree.proofs.heads.fill_heads.Tie as tie
 
@@ -19,10 +18,11 @@ returns c =
     let s = k .before .before .before .before in
     let h = s .before .before .before .before in
     let a = h .before .before .before .before .args in
-    let says = seenBy (a .t) (recordAt (a .g) (a .dump .now)) in
+    let says = saysBy (a .g) (a .dump .now) (a .t) in
     let made = h .gather-heads .last .1 .1 .1 .1 .0 in
-    let v = sorted-all (length made) made (s .sort .last .0) (s .sort .ensures) (omega arith) in
-    (omega (arith, k .keep-newest .ensures .0, s .sort .kept .0, h .gather-heads .kept .1 .1 .1 .1 .0), k .keep-newest .ensures .1 ∙ ap (newestEach says) (v ∙ ap arranged (h .gather-heads .ensures)))
+    let sorted : s .sort .last .0 ≡ idsOf (isHead says) (headRow says) (a .pages) =
+    sorted-all (length made) made (s .sort .last .0) (s .sort .ensures) (omega arith) ∙ ap arranged (h .gather-heads .ensures) in
+    (omega (arith, k .keep-newest .ensures .0, s .sort .kept .0, h .gather-heads .kept .1 .1 .1 .1 .0), rw (← sorted) (k .keep-newest .ensures .1))
 
 pub fill-heads-spec : {M : Type 1} → statement M
 fill-heads-spec = tie.close (tie.spec (search needs) (search needs) (search needs) (search needs) returns)

@@ -4,23 +4,23 @@ use mathlib.Core.Bool.{true, false}
 use mathlib.Core.Path.{_≡_, sym, ap, _∙_}
 use native.Mathlib.Omega.{arith}
 use borrow.Author.Needs.{needs}
-use Rattle.page.specs.Records.{isHeader, recordAt}
+use Rattle.page.specs.Records.{isHeader}
 use Rattle.page.proofs.Sound.{else-header}
 use Rattle.sort.specs.Packed.{packed}
 use Rattle.chunk.specs.Live.{passed}
 use Rattle.chunk.specs.Records.{objectOf}
-use Rattle.chunk.specs.Takes.{seenBy}
 use Rattle.chunk.proofs.Living.{passed-none, passed-skip, passed-take, passed-length}
 use Rattle.text.specs.Put.{Put}
 use Rattle.text.proofs.Putting.{nothing, also, kept}
 use Rattle.tree.specs.Heads.{isHead, headRow}
-use Rattle.tree.proofs.Keeping.{filled}
+use Rattle.tree.specs.Objects.{saysBy}
+use Rattle.tree.proofs.Fronts.{put-filled}
 use Rattle.tree.proofs.heads.gather_heads.Statement.{statement}
 use Rattle.tree.proofs.heads.gather_heads.Tie as tie
 
 abbrev Inv-loop : tie.InvT-loop
 Inv-loop dump g t pages rows₀ at₀ i₀ rows at i =
-    let says = seenBy t (recordAt g dump) in
+    let says = saysBy g dump t in
     (i ≤ pages) × Put (passed (isHead says) (headRow says) i) rows₀ 0 rows at
 
 abbrev μ-loop : tie.MeasureT-loop
@@ -31,7 +31,7 @@ loop-again c =
     let k = c .before in
     let q = k .before .before .loop in
     let a = k .before .before .before .before .before .args in
-    let says = seenBy (a .t) (recordAt (a .g) (a .dump .now)) in
+    let says = saysBy (a .g) (a .dump .now) (a .t) in
     let h : isHead says (q .i) ≡ false = rw (← k .seen-at .ensures) (else-header (k .seen-at .result) (c .match .keys2)) in
     (search needs, rw (passed-skip (isHead says) (headRow says) (q .i) h) (q .inv .1))
 
@@ -42,7 +42,7 @@ loop-again-2 c =
     let k = m .before .before in
     let q = k .before .before .loop in
     let a = k .before .before .before .before .before .args in
-    let says = seenBy (a .t) (recordAt (a .g) (a .dump .now)) in
+    let says = saysBy (a .g) (a .dump .now) (a .t) in
     let e = sym (k .seen-at .ensures) ∙ m .r .given .1 in
     let h : isHead says (q .i) ≡ true = ap isHeader e in
     let r : p .before .pack .result ≡ headRow says (q .i) = p .before .pack .ensures ∙ ap (λ (o : ℕ). packed o (q .i)) (sym (ap objectOf e)) in
@@ -53,9 +53,9 @@ returns c =
     let q = c .before .loop in
     let s = c .before .before .before .before in
     let a = s .args in
-    let says = seenBy (a .t) (recordAt (a .g) (a .dump .now)) in
+    let says = saysBy (a .g) (a .dump .now) (a .t) in
     let e : q .i ≡ a .pages = omega arith in
-    filled (rw e at (q .inv .1)) (passed-length (isHead says) (headRow says) (a .pages) ∙ sym (s .pre))
+    put-filled (rw e at (q .inv .1)) (passed-length (isHead says) (headRow says) (a .pages) ∙ sym (s .pre))
 
 pub gather-heads-spec : {M : Type 1} → statement M
 gather-heads-spec =

@@ -1,17 +1,16 @@
--- The loop's invariant is `Kept`.
-use Prim.Native.Nat.{_≤_, _-_}
-use mathlib.Core.Path.{_≡_, sym, ap, _∙_}
+-- The loop's invariant is `Kept`: what was kept stands in front, and the newest row so far of the object at hand is `best`.
+use Prim.Native.Nat.{_-_}
+use mathlib.Core.Path.{_≡_, sym, _∙_}
 use native.Mathlib.Omega.{arith}
 use borrow.Author.Needs.{needs}
 use lib.ListN.{length, length-set}
-use Rattle.page.specs.Records.{recordAt}
-use Rattle.chunk.specs.Takes.{seenBy}
-use Rattle.tree.proofs.Keeping.{Kept, kept-none, kept-same, kept-other, kept-end, each-none}
+use Rattle.tree.specs.Objects.{saysBy}
+use Rattle.tree.proofs.Keeping.{Kept, kept-none, kept-same, kept-other, kept-end, newest-none}
 use Rattle.tree.proofs.heads.keep_newest.Statement.{statement}
 use Rattle.tree.proofs.heads.keep_newest.Tie as tie
 
 abbrev Inv-loop : tie.InvT-loop
-Inv-loop dump g t rows₀ n best₀ at₀ i₀ rows best at i = Kept (seenBy t (recordAt g dump)) rows₀ rows best at i
+Inv-loop dump g t rows₀ n best₀ at₀ i₀ rows best at i = Kept (saysBy g dump t) rows₀ rows best at i
 
 abbrev μ-loop : tie.MeasureT-loop
 μ-loop dump g t rows₀ n best₀ at₀ i₀ rows best at i = n - i
@@ -20,14 +19,14 @@ returns : tie.Need-returns Inv-loop μ-loop
 returns c =
     let rows = c .before .before .before .args .rows .now in
     let e : length rows ≡ 0 = omega (arith, c .if1 .taken) in
-    (search needs, sym (each-none _ rows e))
+    (search needs, sym (newest-none _ rows e))
 
 loop-again : tie.Need-loop-again Inv-loop μ-loop
 loop-again c =
     let k = c .before .before in
-    let q = k .before .before .before .before .loop in
-    rw (c .newer-row .ensures)
-    (kept-same _ _ _ _ _ _ (q .inv) (k .before .before .before .loop-test .taken) (sym (k .before .key-of .ensures) ∙ c .before .if2 .taken ∙ k .key-of2 .ensures))
+    let t = k .before .before .before in
+    let e = sym (k .before .key-of .ensures) ∙ c .before .if2 .taken ∙ k .key-of2 .ensures in
+    rw (c .newer-row .ensures) (kept-same _ _ _ _ _ _ (t .before .loop .inv) (t .loop-test .taken) e)
 
 loop-again-2 : tie.Need-loop-again-2 Inv-loop μ-loop
 loop-again-2 c =

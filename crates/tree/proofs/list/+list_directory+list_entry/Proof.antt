@@ -1,25 +1,17 @@
--- Listing a directory at a depth lists entries with one step less left, and listing an entry with so many left lists a directory at that depth: twice the
--- depth for a directory, and one more than twice what is left for an entry, fall at each call. The loop's invariant is `Done`.
-use Prim.Native.Nat.{ℕ, _+_, _-_, _≤_, _<_}
-use mathlib.Core.Path.{_≡_, refl, sym, ap, _∙_}
+-- Listing a directory at a depth lists entries with one step less left, and listing an entry with so many left lists a directory at that depth: twice
+-- the depth for a directory, and one more than twice what is left for an entry, fall at each call. The loop's invariant is `Done`.
+use Prim.Native.Nat.{ℕ, _+_, _-_, _<_}
 use native.Mathlib.Omega.{arith}
 use borrow.Author.Needs.{needs}
 use borrow.Author.Tests.{not-true, not-false}
 use borrow.Fn.Kinds.{In}
 use borrow.Fn.PlainCycle.{Measures, is, falls, and}
-use Rattle.page.specs.Asked.{textAt}
-use Rattle.page.specs.Records.{recordAt}
-use Rattle.page.specs.declared.fields.Text.the-variants.{Name}
-use Rattle.page.specs.declared.record.Record.{Record}
-use Rattle.sort.specs.Packed.{packed, keyOf, valueOf}
-use Rattle.chunk.specs.Takes.{seenBy}
-use lib.ListN.{getD}
-use Rattle.text.specs.Put.{Put}
+use lib.ListN.{length}
 use Rattle.text.proofs.Putting.{nothing, kept}
-use Rattle.tree.specs.Children.{objectAt, saidAt}
-use Rattle.tree.specs.Objects.{standBy, isStanding}
+use Rattle.tree.specs.Heads.{objectAt}
+use Rattle.tree.specs.Objects.{saysBy, namesOf}
 use Rattle.tree.specs.Paths.{childrenOf}
-use Rattle.tree.proofs.Listing.{no-level, Done, done-none, done-more, done-all, level-done, plain-put, standing-put}
+use Rattle.tree.proofs.Listing.{no-level, Done, done-none, done-more, done-all, Learnt, plain-put, standing-put}
 use Rattle.tree.proofs.Segments.{Segment, rows-sorted, row-inside, row-segment}
 use Rattle.tree.proofs.list.list_directory.Reads as list-directory
 use Rattle.tree.proofs.list.list_directory.Kinds as list-directory-kinds
@@ -31,12 +23,14 @@ use Rattle.chunk.proofs.takes.seen_at.Reads as seen-at-reads
 use Rattle.sort.proofs.rows.key_of.Reads as key-of-reads
 use Rattle.sort.proofs.rows.pack.Reads as pack-reads
 use Rattle.sort.proofs.rows.value_of.Reads as value-of-reads
-use Rattle.tree.proofs.list.is_standing.Reads as is-standing-reads
+use Rattle.tree.proofs.objects.is_standing.Reads as is-standing-reads
 use Rattle.tree.proofs.row.key_behind.Reads as key-behind-reads
 use Rattle.tree.proofs.row.put_row.Reads as put-row-reads
 use Rattle.tree.proofs.search.first_from.Reads as first-from-reads
 use Rattle.tree.proofs.list.+list_directory+list_entry.{statement}
 use Rattle.tree.proofs.list.+list_directory+list_entry.Tie.{close}
+
+-- ---- what falls
 
 -- dump, g, t, pages, heads, children, directory, depth, ..
 abbrev μ-list-directory : Measures 4 list-directory-kinds.ps ℕ
@@ -46,6 +40,7 @@ abbrev μ-list-directory : Measures 4 list-directory-kinds.ps ℕ
 abbrev μ-list-entry : Measures 4 list-entry-kinds.ps ℕ
 μ-list-entry κs a = let left = a .1 .1 .1 .1 .1 .1 .1 .0 in left + left + 1
 
+-- a call at a measure, and one below it
 abbrev list-directory-at : ℕ → In 4 list-directory-kinds.ps
 list-directory-at t = and 4 list-directory-kinds.ps (is 4 list-directory-kinds.ps μ-list-directory t) list-directory.Pre
 
@@ -58,86 +53,184 @@ list-entry-at t = and 4 list-entry-kinds.ps (is 4 list-entry-kinds.ps μ-list-en
 abbrev list-entry-below : ℕ → In 4 list-entry-kinds.ps
 list-entry-below t = and 4 list-entry-kinds.ps (falls 4 list-entry-kinds.ps _<_ μ-list-entry t) list-entry.Pre
 
--- the rows of the entries from the first on were put, and where those of the directory begin and end is known
+-- ---- a directory
+
+-- what the calls in it ask and tell
+abbrev directory-claims : ℕ → list-directory-lts.Claims
+directory-claims t = (
+  pack-reads.Asked,
+  pack-reads.Learnt,
+  first-from-reads.Asked,
+  first-from-reads.Learnt,
+  list-entry-below t,
+  list-entry.Post,
+)
+
 abbrev Inv-loop : list-directory-lts.InvT-loop
 Inv-loop dump g t pages heads children directory depth key rows₀ at first end next₀ i₀ rows next i =
-    let says = seenBy t (recordAt g dump) in
-    let names = textAt Name g dump in
-    (first ≤ i)
-    × (i ≤ end)
-    × Segment children (childrenOf says names pages directory) (objectAt says heads) first end
-    × Done says names pages (depth - 1) key directory first at rows₀ rows next i
+    Done (saysBy g dump t) (namesOf g dump) pages heads children depth key directory at rows₀ first end rows next i
 
 abbrev μ-loop : list-directory-lts.MeasureT-loop
 μ-loop dump g t pages heads children directory depth key rows₀ at first end next₀ i₀ rows next i = end - i
 
+module _ (t : ℕ) where
+  -- no step is left
+  none-left : list-directory-lts.Need-returns (directory-claims t) (list-directory-at t) list-directory.Post Inv-loop μ-loop
+  none-left c = rw (no-level _ _ _ _ _ _ _ (c .if1 .taken)) (nothing _ _ (omega arith) (omega arith))
+
+  -- the children's rows are in order, for both searches
+  first-sorted : list-directory-lts.Need-first-from-requires (directory-claims t) (list-directory-at t) list-directory.Post Inv-loop μ-loop
+  first-sorted c κs =
+      let s = c .before .before .before .before .before .before in
+      rows-sorted _ (namesOf (s .args .g) (s .args .dump .now)) _ (omega arith) _ (s .pre .1 .0) _ (s .pre .1 .1)
+
+  end-sorted : list-directory-lts.Need-first-from-requires-2 (directory-claims t) (list-directory-at t) list-directory.Post Inv-loop μ-loop
+  end-sorted c κs =
+      let s = c .before .before .before .before .before .before .before .before in
+      rows-sorted _ (namesOf (s .args .g) (s .args .dump .now)) _ (omega arith) _ (s .pre .1 .0) _ (s .pre .1 .1)
+
+  -- between the two places stand the rows of the directory's entries, of which none was put yet
+  loop-holds : list-directory-lts.Need-loop-holds (directory-claims t) (list-directory-at t) list-directory.Post Inv-loop μ-loop
+  loop-holds c =
+      let l = c .before in
+      let f = l .before in
+      let p = f .before in
+      let s = p .before .before .before .before .before .before in
+      let a = s .args in
+      let says = saysBy (a .g) (a .dump .now) (a .t) in
+      let names = namesOf (a .g) (a .dump .now) in
+      let e = s .pre .1 in
+      let between : Segment (a .children .now) (childrenOf says names (a .pages) (a .directory)) (objectAt (a .heads .now)) _ _ =
+      row-segment says names (a .pages) (omega (arith, s .fits)) (a .heads .now) (e .0) (a .children .now) (a .directory) (f .first-from .result)
+      (c .first-from2 .result) (p .pack .result) (l .pack2 .result) (e .1) (p .pack .ensures) (l .pack2 .ensures) (f .first-from .ensures)
+      (c .first-from2 .ensures) in
+      done-none says names (a .pages) (a .heads .now) (a .children .now) (a .depth) (a .key) (a .directory) (a .at) (a .rows .now) _ _ between
+      (omega (arith, s .good .1 .1 .1 .1 .1 .1 .1 .1 .1 .0)) (omega (arith, s .fits))
+
+  -- an entry is listed with one step less
+  entry-requires : list-directory-lts.Need-list-entry-requires (directory-claims t) (list-directory-at t) list-directory.Post Inv-loop μ-loop
+  entry-requires c κs =
+      let q = c .before .before .loop in
+      let s = c .before .before .before .before .before .before .before .before .before .before .before .before in
+      (omega arith, (s .pre .1 .0, (s .pre .1 .1, omega (arith, c .before .loop-test .taken, q .inv .segment .inside))))
+
+  loop-again : list-directory-lts.Need-loop-again (directory-claims t) (list-directory-at t) list-directory.Post Inv-loop μ-loop
+  loop-again c =
+      let e = c .before .before in
+      let r = e .before .before in
+      let q = r .before .loop in
+      done-more _ _ _ _ _ _ _ _ _ _ _ _ _ _ _ (q .inv) _ _ (r .loop-test .taken) (e .list-entry .ensures)
+
+  all-listed : list-directory-lts.Need-returns-2 (directory-claims t) (list-directory-at t) list-directory.Post Inv-loop μ-loop
+  all-listed c =
+      let q = c .before .loop in
+      done-all _ _ _ _ _ _ _ _ _ _ _ _ _ _ _ (q .inv) (c .before .before .before .before .before .before .if1 .left) (c .loop-test .left)
+
+-- ---- an entry
+
+-- what the calls in it ask and tell
+abbrev entry-claims : ℕ → list-entry-lts.Claims
+entry-claims t = (
+  value-of-reads.Asked,
+  value-of-reads.Learnt,
+  pack-reads.Asked,
+  pack-reads.Learnt,
+  put-row-reads.Asked,
+  put-row-reads.Learnt,
+  seen-at-reads.Asked,
+  seen-at-reads.Learnt,
+  is-standing-reads.Asked,
+  is-standing-reads.Learnt,
+  key-of-reads.Asked,
+  key-of-reads.Learnt,
+  key-behind-reads.Asked,
+  key-behind-reads.Learnt,
+  list-directory-below t,
+  list-directory.Post,
+)
+
+module _ (t : ℕ) where
+  -- the place of its row among the heads
+  place-inside :
+      (c : list-entry-lts.After-value-of (entry-claims t) (list-entry-at t) list-entry.Post) →
+      let a = c .before .before .before .before .before .before .args in
+      c .value-of .result < length (a .heads .now)
+  place-inside c =
+      let s = c .before .before .before .before .before .before in
+      let a = s .args in
+      let e = s .pre .1 in
+      rw (c .value-of .ensures)
+      (row-inside (saysBy (a .g) (a .dump .now) (a .t)) (namesOf (a .g) (a .dump .now)) (a .pages) (omega (arith, s .fits)) (a .heads .now) (e .0)
+      (a .children .now) (a .i) (e .1 .0) (e .1 .1))
+
+  -- what is known of it when its row is put
+  learnt :
+      (c : list-entry-lts.After-is-standing (entry-claims t) (list-entry-at t) list-entry.Post) →
+      let p = c .before .before .before .before .before in
+      let v = p .before .before in
+      let u = v .before .before in
+      let a = u .before .before .before .before .before .before .args in
+      Learnt (saysBy (a .g) (a .dump .now) (a .t)) (namesOf (a .g) (a .dump .now)) (a .pages) (a .heads .now) (a .children .now) (a .i) (a .key)
+      (u .value-of .result) (v .value-of2 .result) (c .before .seen-at .result) (p .pack .result) (c .is-standing .result)
+  learnt c =
+      let p = c .before .before .before .before .before in
+      let v = p .before .before in
+      let u = v .before .before in
+      record {
+        inside = place-inside u;
+        its-place = u .value-of .ensures;
+        its-page = v .value-of2 .ensures;
+        its-words = c .before .seen-at .ensures;
+        its-row = p .pack .ensures;
+        tested = c .is-standing .ensures;
+      }
+
+  -- one that is no directory
+  plain : list-entry-lts.Need-returns (entry-claims t) (list-entry-at t) list-entry.Post
+  plain c =
+      let k = c .before in
+      let p = k .before .before .before .before in
+      let s = p .before .before .before .before .before .before .before .before .before .before .before in
+      plain-put _ _ _ _ _ (s .pre .1 .0) _ _ _ _ _ _ _ (learnt k) _ _ _ _ _ (p .put-row .ensures) (not-true (k .is-standing .result) (c .if1 .taken))
+
+  -- a directory is listed in turn
+  directory-requires : list-entry-lts.Need-list-directory-requires (entry-claims t) (list-entry-at t) list-entry.Post
+  directory-requires c κs =
+      let s = c .before .before .before .before .before .before .before .before .before .before .before .before .before .before .before .before .before .before .before in
+      (omega arith, (s .pre .1 .0, s .pre .1 .1 .0))
+
+  standing : list-entry-lts.Need-returns-2 (entry-claims t) (list-entry-at t) list-entry.Post
+  standing c =
+      let l = c .before .before in
+      let b = l .before .before in
+      let e = b .before .before in
+      let k = e .before in
+      let p = k .before .before .before .before in
+      let s = p .before .before .before .before .before .before .before .before .before .before .before in
+      standing-put _ _ _ _ _ (s .pre .1 .0) _ _ _ _ _ _ _ (learnt k) _ _ _ _ _ (p .put-row .ensures) _ _ _ _
+      (not-false (k .is-standing .result) (e .if1 .left)) (b .before .key-of .ensures) (b .key-behind .ensures) (l .list-directory .ensures)
+
 pub +list-directory+list-entry-spec : {M : Type 1} → statement M
 +list-directory+list-entry-spec =
-    close μ-list-directory μ-list-entry (λ t. list-directory-lts.spec (
-      pack-reads.Asked,
-      pack-reads.Learnt,
-      first-from-reads.Asked,
-      first-from-reads.Learnt,
-      list-entry-below t,
-      list-entry.Post,
-    )
+    close μ-list-directory μ-list-entry (λ t. list-directory-lts.spec (directory-claims t)
     (list-directory-at t)
     list-directory.Post
     Inv-loop
     μ-loop
-    (λ c. rw (no-level _ _ _ _ _ _ _ (c .if1 .taken)) (nothing _ _ (omega arith) (omega arith)))
+    (none-left t)
     (search needs)
-    (λ c κs. let s = c .before .before .before .before .before .before in rows-sorted _ (textAt Name (s .args .g) (s .args .dump .now)) _ (omega arith) _ (s .pre .1 .0) _ (s .pre .1 .1))
+    (first-sorted t)
     (search needs)
-    (λ c κs. let s = c .before .before .before .before .before .before .before .before in rows-sorted _ (textAt Name (s .args .g) (s .args .dump .now)) _ (omega arith) _ (s .pre .1 .0) _ (s .pre .1 .1))
-    (λ c.
-    let s = c .before .before .before .before .before .before .before .before .before in
-    let a = s .args in
-    let says = seenBy (a .t) (recordAt (a .g) (a .dump .now)) in
-    let f = c .before .before in
-    let g : Segment (a .children .now) (childrenOf says (textAt Name (a .g) (a .dump .now)) (a .pages) (a .directory)) (objectAt says (a .heads .now)) (f .first-from .result) (c .first-from2 .result) =
-    row-segment says (textAt Name (a .g) (a .dump .now)) (a .pages) (omega (arith, s .fits)) (a .heads .now) (s .pre .1 .0) (a .children .now) (a .directory)
-    (f .first-from .result) (c .first-from2 .result) (f .before .pack .result) (c .before .pack2 .result) (s .pre .1 .1) (f .before .pack .ensures) (c .before .pack2 .ensures)
-    (f .first-from .ensures) (c .first-from2 .ensures) in
-    (omega arith, g .order, g, done-none _ _ _ _ _ (a .directory) (f .first-from .result) _ _ (omega (arith, s .good .1 .1 .1 .1 .1 .1 .1 .1 .1 .0)) (omega (arith, s .fits))))
+    (end-sorted t)
+    (loop-holds t)
     (search needs)
-    (λ c κs.
-    let s = c .before .before .before .before .before .before .before .before .before .before .before .before in
-    let q = c .before .before .loop in
-    (omega arith, (s .pre .1 .0, (s .pre .1 .1, omega (arith, c .before .loop-test .taken, q .inv .2 .inside)))))
+    (entry-requires t)
     (search needs)
     (search needs)
-    (λ c.
-    let q = c .before .before .before .before .before .loop in
-    let s = c .before .before .before .before .before .before .before .before .before .before .before .before .before .before .before in (
-      omega (arith, q .inv .0),
-      omega (arith, c .before .before .before .before .loop-test .taken),
-      q .inv .2,
-      done-more _ _ _ _ _ _ _ _ _ _ (s .args .heads .now) _ (q .inv .2) _ _ _ _ _ (q .inv .3) (q .inv .0) (c .before .before .before .before .loop-test .taken) (c .before .before .list-entry .ensures),
-    ))
-    (λ c. kept (c .before .loop .inv .3))
-    (λ c.
-    let q = c .before .loop in
-    let s = c .before .before .before .before .before .before .before .before .before .before .before in
-    level-done _ _ _ _ _ _ _ _ _ _ (c .before .before .before .before .before .before .if1 .left) (done-all _ _ _ _ _ _ _ _ _ _ (s .args .heads .now) _ (q .inv .2) _ _ _ (q .inv .3) (c .loop-test .left) (q .inv .1))))
-    λ t. list-entry-lts.spec (
-      value-of-reads.Asked,
-      value-of-reads.Learnt,
-      pack-reads.Asked,
-      pack-reads.Learnt,
-      put-row-reads.Asked,
-      put-row-reads.Learnt,
-      seen-at-reads.Asked,
-      seen-at-reads.Learnt,
-      is-standing-reads.Asked,
-      is-standing-reads.Learnt,
-      key-of-reads.Asked,
-      key-of-reads.Learnt,
-      key-behind-reads.Asked,
-      key-behind-reads.Learnt,
-      list-directory-below t,
-      list-directory.Post,
-    )
+    (loop-again t)
+    (λ c. kept (c .before .loop .inv .put))
+    (all-listed t))
+    λ t. list-entry-lts.spec (entry-claims t)
     (list-entry-at t)
     list-entry.Post
     (search needs)
@@ -145,58 +238,16 @@ pub +list-directory+list-entry-spec : {M : Type 1} → statement M
     (search needs)
     (search needs)
     (search needs)
-    (λ c.
-    let s = c .before .before .before .before .before .before .before in
-    let a = s .args in
-    omega (
-      arith,
-      c .before .value-of .ensures,
-      row-inside (seenBy (a .t) (recordAt (a .g) (a .dump .now))) (textAt Name (a .g) (a .dump .now)) (a .pages) (omega (arith, s .fits)) (a .heads .now) (s .pre .1 .0) (a .children .now) (a .i) (s .pre .1 .1 .0) (s .pre .1 .1 .1),
-    ))
+    (λ c. place-inside t (c .before))
     (search needs)
     (search needs)
     (search needs)
     (search needs)
     (search needs)
     (search needs)
-    (λ c.
-    let k = c .before in
-    let p = k .before .before .before .before in
-    let v = p .before .before .before in
-    let u = v .before .before in
-    let s = c .before .before .before .before .before .before .before .before .before .before .before .before .before .before .before .before in
-    let a = s .args in
-    let says = seenBy (a .t) (recordAt (a .g) (a .dump .now)) in
-    let j = valueOf (getD (a .children .now) (a .i) 0) in
-    let page : v .value-of2 .result ≡ valueOf (getD (a .heads .now) j 0) = v .value-of2 .ensures ∙ ap (λ (x : ℕ). valueOf (getD (a .heads .now) x 0)) (u .value-of .ensures) in
-    let row : p .before .pack .result ≡ packed (a .key) (valueOf (getD (a .heads .now) j 0)) = p .before .pack .ensures ∙ ap (packed (a .key)) page in
-    let stands : k .is-standing .result ≡ isStanding (standBy (saidAt says (a .heads .now) j)) =
-    k .is-standing .ensures ∙ ap (λ (x : Record). isStanding (standBy x)) (k .before .seen-at .ensures ∙ ap says page) in
-    let inside = row-inside says (textAt Name (a .g) (a .dump .now)) (a .pages) (omega (arith, s .fits)) (a .heads .now) (s .pre .1 .0) (a .children .now) (a .i) (s .pre .1 .1 .0) (s .pre .1 .1 .1) in
-    plain-put says (textAt Name (a .g) (a .dump .now)) (a .pages) (a .heads .now) (s .pre .1 .0) j inside (a .left) (a .key) (a .at) _ _ _ _ row
-    (sym stands ∙ not-true (k .is-standing .result) (c .if1 .taken)) (p .put-row .ensures))
+    (plain t)
     (search needs)
     (search needs)
-    (λ c κs. let s = c .before .before .before .before .before .before .before .before .before .before .before .before .before .before .before .before .before .before .before in (omega arith, (s .pre .1 .0, s .pre .1 .1 .0)))
+    (directory-requires t)
     (search needs)
-    (λ c.
-    let k = c .before .before .before .before .before .before .before in
-    let p = k .before .before .before .before in
-    let v = p .before .before .before in
-    let u = v .before .before in
-    let s = c .before .before .before .before .before .before .before .before .before .before .before .before .before .before .before .before .before .before .before .before .before .before in
-    let a = s .args in
-    let says = seenBy (a .t) (recordAt (a .g) (a .dump .now)) in
-    let j = valueOf (getD (a .children .now) (a .i) 0) in
-    let page : v .value-of2 .result ≡ valueOf (getD (a .heads .now) j 0) = v .value-of2 .ensures ∙ ap (λ (x : ℕ). valueOf (getD (a .heads .now) x 0)) (u .value-of .ensures) in
-    let row : p .before .pack .result ≡ packed (a .key) (valueOf (getD (a .heads .now) j 0)) = p .before .pack .ensures ∙ ap (packed (a .key)) page in
-    let stands : k .is-standing .result ≡ isStanding (standBy (saidAt says (a .heads .now) j)) =
-    k .is-standing .ensures ∙ ap (λ (x : Record). isStanding (standBy x)) (k .before .seen-at .ensures ∙ ap says page) in
-    let inside = row-inside says (textAt Name (a .g) (a .dump .now)) (a .pages) (omega (arith, s .fits)) (a .heads .now) (s .pre .1 .0) (a .children .now) (a .i) (s .pre .1 .1 .0) (s .pre .1 .1 .1) in
-    let l = c .before .before in
-    let d = l .before .before in
-    let o : d .before .key-of .result ≡ objectAt says (a .heads .now) j =
-    d .before .key-of .ensures ∙ ap (λ (x : ℕ). keyOf (getD (a .heads .now) x 0)) (u .value-of .ensures) in
-    standing-put says (textAt Name (a .g) (a .dump .now)) (a .pages) (a .heads .now) (s .pre .1 .0) j inside (a .left) (a .key) (a .at) _ _ _ _ _ _ _ row
-    (d .key-behind .ensures) (sym stands ∙ not-false (k .is-standing .result) (c .before .before .before .before .before .before .if1 .left)) (p .put-row .ensures)
-    (rw (← o) (l .list-directory .ensures)))
+    (standing t)

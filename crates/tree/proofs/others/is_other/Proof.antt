@@ -11,21 +11,18 @@ returns c = tells-root _ _ _ _ (sym (c .before .key-of .ensures) ∙ c .if1 .tak
 returns-2 : tie.Need-returns-2
 returns-2 c =
     let g = c .before in
-    let p = g .before in
-    let s = p .before in
-    tells-gone _ _ _ _
-    (rw (← s .before .value-of .ensures, ← s .seen-at .ensures, ← p .parent-in .ensures, ← g .gone-under .ensures) (c .if2 .taken))
+    let s = g .before in
+    tells-gone _ _ _ _ (rw (← s .before .value-of .ensures, ← s .seen-at .ensures, ← g .is-gone .ensures) (c .if2 .taken))
 
 returns-3 : tie.Need-returns-3
 returns-3 c =
     let e = c .before in
     let g = e .before in
-    let p = g .before in
-    let s = p .before in
+    let s = g .before in
     let d = s .before .before in
     let k = d .before in
     tells-else _ _ _ _ _ (k .before .before .before .before .before .pre .1 .1) (λ q. d .if1 .left (k .key-of .ensures ∙ q))
-    (rw (← s .before .value-of .ensures, ← s .seen-at .ensures, ← p .parent-in .ensures, ← g .gone-under .ensures) (e .if2 .left))
+    (rw (← s .before .value-of .ensures, ← s .seen-at .ensures, ← g .is-gone .ensures) (e .if2 .left))
     (c .is-listed .ensures)
 
 pub is-other-spec : {M : Type 1} → statement M
@@ -36,7 +33,6 @@ is-other-spec =
     (search needs)
     (search needs)
     returns
-    (search needs)
     (search needs)
     (search needs)
     (search needs)

@@ -4,14 +4,13 @@ use native.Mathlib.Omega.{arith}
 use borrow.Author.Needs.{needs}
 use borrow.Author.Tests.{not-true, not-false}
 use lib.ListN.{length}
-use Rattle.page.specs.Records.{recordAt}
-use Rattle.chunk.specs.Takes.{seenBy}
+use Rattle.tree.specs.Objects.{saysBy}
 use Rattle.tree.proofs.Othering.{Listing, listing-none, listing-pass, listing-more, listing-all}
 use Rattle.tree.proofs.others.list_others.Statement.{statement}
 use Rattle.tree.proofs.others.list_others.Tie as tie
 
 abbrev Inv-loop : tie.InvT-loop
-Inv-loop dump g t heads ways rows₀ at end₀ i₀ rows end i = Listing (seenBy t (recordAt g dump)) heads ways rows₀ at rows end i
+Inv-loop dump g t heads ways rows₀ at end₀ i₀ rows end i = Listing (saysBy g dump t) heads ways rows₀ at rows end i
 
 abbrev μ-loop : tie.MeasureT-loop
 μ-loop dump g t heads ways rows₀ at end₀ i₀ rows end i = length heads - i

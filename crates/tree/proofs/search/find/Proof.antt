@@ -1,5 +1,5 @@
 -- A row with the key stands at the first word that is not below the key's least number, or there is none.
-use mathlib.Core.Path.{sym, _∙_}
+use mathlib.Core.Path.{_∙_}
 use native.Mathlib.Omega.{arith}
 use borrow.Author.Needs.{needs}
 use Rattle.sort.specs.Packed.{packed}
@@ -27,4 +27,14 @@ returns-2 c =
     nowhere _ _ _ (f .before .before .before .pre) (parted f) (λ h e. c .if2 .taken (k .key-of .ensures ∙ e))
 
 pub find-spec : {M : Type 1} → statement M
-find-spec = tie.close (tie.spec (search needs) (λ c κs. c .before .before .pre) returns (search needs) (search needs) (search needs) returns-2 (λ c. search needs))
+find-spec =
+    tie.close
+    (tie.spec
+    (search needs)
+    (λ c κs. c .before .before .pre)
+    returns
+    (search needs)
+    (search needs)
+    (search needs)
+    returns-2
+    (λ c. search needs))

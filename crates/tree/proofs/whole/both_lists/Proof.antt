@@ -5,20 +5,25 @@ use native.Mathlib.Omega.{arith}
 use borrow.Author.Needs.{needs}
 use lib.ListN.{length, take, drop}
 use lib.Seq.{length-take-le}
-use Rattle.page.specs.Records.{recordAt}
-use Rattle.chunk.specs.Takes.{seenBy}
+use Rattle.page.proofs.Searching.{count-le}
 use Rattle.tree.specs.Heads.{isHead}
-use Rattle.tree.proofs.Joined.{cleared-all}
-use Rattle.tree.proofs.NewestHeads.{heads-are, count-few}
+use Rattle.tree.specs.Objects.{saysBy}
+use Rattle.tree.proofs.Fronts.{cleared-all}
+use Rattle.tree.proofs.NewestHeads.{heads-are}
 use Rattle.tree.proofs.whole.both_lists.Statement.{statement}
 use Rattle.tree.proofs.whole.both_lists.Tie as tie
 
 -- the heads are in front of their words, and no more than the headers
 in-front : (c : tie.After-fill-heads) → length (take (c .fill-heads .result) (c .fill-heads .last .1 .1 .1 .1 .0)) ≡ c .fill-heads .result
 in-front c =
-    length-take-le (c .fill-heads .result) (c .fill-heads .last .1 .1 .1 .1 .0) (omega (arith, c .fill-heads .ensures .0, c .fill-heads .kept .1 .1 .1 .1 .0))
+    let f = c .fill-heads in
+    length-take-le (f .result) (f .last .1 .1 .1 .1 .0) (omega (arith, f .ensures .0, f .kept .1 .1 .1 .1 .0))
 
-work-in-front : (c : tie.After-fill-heads) → length (take (c .fill-heads .result) (c .before .before .before .before .before .before .args .work .now)) ≡ c .fill-heads .result
+-- there are as many words to work in
+work-in-front :
+    (c : tie.After-fill-heads) →
+    let a = c .before .before .before .before .before .before .args in
+    length (take (c .fill-heads .result) (a .work .now)) ≡ c .fill-heads .result
 work-in-front c =
     let s = c .before .before .before .before .before .before in
     length-take-le (c .fill-heads .result) (s .args .work .now) (omega (arith, c .fill-heads .ensures .0, s .pre .1 .1 .0, s .pre .1 .1 .1))
@@ -28,10 +33,10 @@ lists-requires c κs =
     let f = c .before .before .before .before .before in
     let s = f .before .before .before .before .before .before in
     let a = s .args in
-    let says = seenBy (a .t) (recordAt (a .g) (a .dump .now)) in (
+    let says = saysBy (a .g) (a .dump .now) (a .t) in (
       rw (f .fill-heads .ensures .1) (heads-are says (a .pages) (omega (arith, s .fits))),
       (
-        omega (arith, in-front f, f .fill-heads .ensures .0, s .pre .0, s .pre .1 .1 .0, count-few (isHead says) (a .pages)),
+        omega (arith, in-front f, f .fill-heads .ensures .0, s .pre .0, s .pre .1 .1 .0, count-le (isHead says) (a .pages)),
         (work-in-front f ∙ sym (in-front f), s .pre .1 .0),
       ),
     )

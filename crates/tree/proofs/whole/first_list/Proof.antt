@@ -1,5 +1,5 @@
 -- The children in order, and then the listing from the root.
-use mathlib.Core.Path.{_≡_, sym}
+use mathlib.Core.Path.{sym}
 use native.Mathlib.Omega.{arith}
 use borrow.Author.Needs.{needs}
 use lib.Seq.{length-take-le}
@@ -9,8 +9,8 @@ use Rattle.tree.proofs.whole.first_list.Tie as tie
 
 slice-aggregate-list-directory : tie.Need-slice-aggregate-list-directory
 slice-aggregate-list-directory c =
-    let f = c .before .before .before in
-    sym (length-take-le (f .fill-children .result) (f .fill-children .last .1 .1 .1 .1 .0) (omega (arith, f .fill-children .ensures .0, f .fill-children .kept .1 .1 .1 .1 .0)))
+    let f = c .before .before .before .fill-children in
+    sym (length-take-le (f .result) (f .last .1 .1 .1 .1 .0) (omega (arith, f .ensures .0, f .kept .1 .1 .1 .1 .0)))
 
 list-directory-requires : tie.Need-list-directory-requires
 list-directory-requires c κs =

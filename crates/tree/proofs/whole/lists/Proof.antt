@@ -1,11 +1,10 @@
 -- The rows of the first list, and behind them those of the second: they fit, since they are no more than the headers.
-use mathlib.Core.Path.{_≡_, ap₂, _∙_}
+use Prim.Native.Nat.{_<_}
+use mathlib.Core.Path.{ap₂, _∙_}
 use native.Mathlib.Omega.{arith}
 use borrow.Author.Needs.{needs}
-use Rattle.page.specs.Asked.{textAt}
-use Rattle.page.specs.Records.{recordAt}
-use Rattle.page.specs.declared.fields.Text.the-variants.{Name}
-use Rattle.chunk.specs.Takes.{seenBy}
+use Rattle.sort.specs.Packed.{wordValues}
+use Rattle.tree.specs.Objects.{saysBy, namesOf}
 use Rattle.tree.specs.declared.whole.Grown.the-variants.{Rows}
 use Rattle.tree.proofs.Joined.{Joined, joined}
 use Rattle.tree.proofs.whole.lists.Statement.{statement}
@@ -22,27 +21,25 @@ put :
     (c : tie.After-second-list) →
     let f = c .before .before .before .before .before .before .before in
     let a = f .before .before .before .before .before .before .before .args in
-    Joined (seenBy (a .t) (recordAt (a .g) (a .dump .now))) (textAt Name (a .g) (a .dump .now)) (a .pages) (a .rows .now) (c .second-list .last .1 .1 .1 .1 .1 .1 .0)
+    Joined (saysBy (a .g) (a .dump .now) (a .t)) (namesOf (a .g) (a .dump .now)) (a .pages) (a .rows .now) (c .second-list .last .1 .1 .1 .1 .1 .1 .0)
     (f .first-list .result) (c .second-list .result)
 put c =
     let f = c .before .before .before .before .before .before .before in
     let s = f .before .before .before .before .before .before .before in
     joined _ _ _ _ _ _ _ _ (f .first-list .ensures) (c .second-list .ensures) (s .pre .1 .1 .1)
 
+-- and their rows are no more than pages
+few : (c : tie.After-second-list) → c .second-list .result < wordValues
+few c = omega (arith, put c .few, c .before .before .before .before .before .before .before .before .before .before .before .before .before .before .fits)
+
 sub-others : tie.Need-sub-others
 sub-others c = let j = put (c .before .before .before .before) in omega (arith, j .first, j .both)
 
-cast-t19 : tie.Need-cast-t19
-cast-t19 c =
-    let q = c .before .before .before .before in
-    let j = put q in
-    record { fits = omega (arith, j .first, j .both, j .few, q .before .before .before .before .before .before .before .before .before .before .before .before .before .before .fits) }
+cast-first : tie.Need-cast-first
+cast-first c = let q = c .before .before .before .before in let j = put q in record { fits = omega (arith, j .first, j .both, few q) }
 
-cast-t20 : tie.Need-cast-t20
-cast-t20 c =
-    let q = c .before .before .before .before in
-    let j = put q in
-    record { fits = omega (arith, j .first, j .both, j .few, q .before .before .before .before .before .before .before .before .before .before .before .before .before .before .fits) }
+cast-second : tie.Need-cast-second
+cast-second c = let q = c .before .before .before .before in let j = put q in record { fits = omega (arith, j .first, j .both, few q) }
 
 returns : tie.Need-returns
 returns c = let j = put (c .before .before .before .before) in (ap₂ Rows (j .first) (j .second), j .front)
@@ -54,8 +51,8 @@ lists-spec =
     (λ c κs. let s = c .before .before .before .before .before .before in (s .pre .0, omega (arith, s .pre .1 .1 .0)))
     second-list-requires
     sub-others
-    cast-t19
-    cast-t20
+    cast-first
+    cast-second
     (search needs)
     (search needs)
     returns)

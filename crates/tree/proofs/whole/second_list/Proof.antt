@@ -1,8 +1,7 @@
 -- The ways up of all objects, and then the listing of those that no path leads to.
 use native.Mathlib.Omega.{arith}
 use borrow.Author.Needs.{needs}
-use Rattle.page.specs.Asked.{textAt}
-use Rattle.page.specs.declared.fields.Text.the-variants.{Name}
+use Rattle.tree.specs.Objects.{namesOf}
 use Rattle.tree.proofs.Climbing.{ways-some}
 use Rattle.tree.proofs.whole.second_list.Statement.{statement}
 use Rattle.tree.proofs.whole.second_list.Tie as tie
@@ -16,8 +15,9 @@ returns : tie.Need-returns
 returns c =
     let s = c .before .before .before .before .before .before .before .before .before .before .before .before .before in
     let a = s .args in
-    c .before .before .list-others .ensures (textAt Name (a .g) (a .dump .now)) (a .pages) (record { small = omega (arith, s .fits); right = s .pre .0 })
+    c .before .before .list-others .ensures (namesOf (a .g) (a .dump .now)) (a .pages) (record { small = omega (arith, s .fits); right = s .pre .0 })
     (c .before .before .before .before .before .before .before .find-ways .ensures)
 
 pub second-list-spec : {M : Type 1} → statement M
-second-list-spec = tie.close (tie.spec (λ c κs. c .before .before .before .before .before .pre) list-others-requires (search needs) (search needs) returns)
+second-list-spec =
+    tie.close (tie.spec (λ c κs. c .before .before .before .before .before .pre) list-others-requires (search needs) (search needs) returns)

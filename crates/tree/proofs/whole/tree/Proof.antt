@@ -12,7 +12,8 @@ returns : tie.Need-returns
 returns c =
     let p = c .before in
     let a = c .before .before .before .before .before .before .before .before .args in
-    dump-refused (a .g) (a .dump .now) (a .m) (a .rows .now) (a .heads .now) (a .work .now) _ (sym (p .before .before .opened .ensures) ∙ p .p .given .1)
+    dump-refused (a .g) (a .dump .now) (a .m) (a .rows .now) (a .heads .now) (a .work .now) _
+    (sym (p .before .before .opened .ensures) ∙ p .p .given .1)
 
 pub tree-spec : {M : Type 1} → statement M
 tree-spec =

@@ -1,8 +1,8 @@
 -- Refused if the dump lacks the moment's page, or a slice has fewer words than there are headers; else the lists are made in parts of the slices.
-use Prim.Native.Nat.{ℕ, _≤_, _<_, min}
-use mathlib.Core.Bool.{true, false}
+use Prim.Native.Nat.{ℕ, _≤_}
+use mathlib.Core.Bool.{false}
 use mathlib.Core.List.{List, _++_}
-use mathlib.Core.Path.{_≡_, refl, sym, ap, _∙_}
+use mathlib.Core.Path.{_≡_, sym, ap, _∙_}
 use native.Mathlib.Omega.{arith}
 use borrow.Author.Needs.{needs}
 use lib.ListN.{length, take, drop, replicate}
@@ -19,7 +19,8 @@ returns : tie.Need-returns
 returns c =
     let s = c .before .before .before .before .before .before in
     let a = s .args in
-    page-refused (a .g) (a .dump .now) (a .m) (a .rows .now) (a .heads .now) (a .work .now) (a .pages) (s .pre) (sym (c .before .is-missing .ensures) ∙ c .if1 .taken)
+    page-refused (a .g) (a .dump .now) (a .m) (a .rows .now) (a .heads .now) (a .work .now) (a .pages) (s .pre)
+    (sym (c .before .is-missing .ensures) ∙ c .if1 .taken)
 
 -- how many headers there are
 needed :
@@ -28,7 +29,11 @@ needed :
     c .before .count-heads .result ≡ headCount (saysAt (a .g) (a .dump .now) (a .m)) (a .pages)
 needed c = rw (← c .before .before .takes .ensures) (c .before .count-heads .ensures)
 
-there : (c : tie.After-least) → let a = c .before .before .before .before .before .before .before .before .before .args in isMissing (a .pages) (a .m) ≡ false
+-- the dump has the moment's page
+there :
+    (c : tie.After-least) →
+    let a = c .before .before .before .before .before .before .before .before .before .args in
+    isMissing (a .pages) (a .m) ≡ false
 there c = sym (c .before .before .before .before .is-missing .ensures) ∙ c .before .before .before .if1 .left
 
 returns-2 : tie.Need-returns-2
@@ -37,7 +42,8 @@ returns-2 c =
     let s = l .before .before .before .before .before .before .before .before .before in
     let a = s .args in
     rw (needed l)
-    (room-refused (a .g) (a .dump .now) (a .m) (a .rows .now) (a .heads .now) (a .work .now) (a .pages) (s .pre) (there l) (rw (← needed l, ← l .least .ensures) (c .if2 .taken)))
+    (room-refused (a .g) (a .dump .now) (a .m) (a .rows .now) (a .heads .now) (a .work .now) (a .pages) (s .pre) (there l)
+    (rw (← needed l, ← l .least .ensures) (c .if2 .taken)))
 
 -- each slice has room
 enough :
@@ -45,8 +51,28 @@ enough :
     let l = c .before in
     let a = l .before .before .before .before .before .before .before .before .before .args in
     let k = l .before .count-heads .result in
-    (k ≤ length (a .rows .now)) × ((k ≤ length (a .heads .now)) × (k ≤ length (a .work .now)))
-enough c = let l = c .before in (omega (arith, c .if2 .left, l .least .ensures), (omega (arith, c .if2 .left, l .least .ensures), omega (arith, c .if2 .left, l .least .ensures)))
+    (k ≤ length (a .rows .now)) × (k ≤ length (a .heads .now)) × (k ≤ length (a .work .now))
+enough c =
+    let h = c .if2 .left in
+    let e = c .before .least .ensures in
+    (omega (arith, h, e), omega (arith, h, e), omega (arith, h, e))
+
+-- so does the part of it that is lent on
+heads-part :
+    (c : tie.Else2) →
+    let l = c .before in
+    let k = l .before .count-heads .result in
+    length (take k (l .before .before .before .before .before .before .before .before .before .args .heads .now)) ≡ k
+heads-part c =
+    length-take-le _ (c .before .before .before .before .before .before .before .before .before .before .args .heads .now) (enough c .1)
+
+work-part :
+    (c : tie.Else2) →
+    let l = c .before in
+    let k = l .before .count-heads .result in
+    length (take k (l .before .before .before .before .before .before .before .before .before .args .work .now)) ≡ k
+work-part c =
+    length-take-le _ (c .before .before .before .before .before .before .before .before .before .before .args .work .now) (enough c .2)
 
 both-lists-requires : tie.Need-both-lists-requires
 both-lists-requires c κs =
@@ -54,13 +80,9 @@ both-lists-requires c κs =
     let l = e .before in
     let s = l .before .before .before .before .before .before .before .before .before in
     let a = s .args in
-    let n = l .before .count-heads .ensures in
-    let room = enough e in (
+    let n = l .before .count-heads .ensures in (
       opened-pages (a .g) (length (a .dump .now)) (a .pages) (s .pre),
-      (
-        omega (arith, n, room .0),
-        (length-take-le _ (a .heads .now) (room .1 .0) ∙ n, length-take-le _ (a .work .now) (room .1 .1) ∙ n),
-      ),
+      (omega (arith, n, enough e .0), (heads-part e ∙ n, work-part e ∙ n)),
     )
 
 returns-3 : tie.Need-returns-3
@@ -72,16 +94,19 @@ returns-3 c =
     let a = s .args in
     let k = l .before .count-heads .result in
     let room = enough e in
-    let r = room-enough (a .g) (a .dump .now) (a .m) (a .rows .now) (a .heads .now) (a .work .now) (a .pages) (s .pre) (there l)
-    (omega (arith, needed l, room .0, room .1 .0, room .1 .1)) k (needed l) in
+    let r =
+    room-enough (a .g) (a .dump .now) (a .m) (a .rows .now) (a .heads .now) (a .work .now) (a .pages) (s .pre) (there l)
+    (omega (arith, needed l, room .0, room .1, room .2)) k (needed l) in
     let t = l .before .before .takes .ensures in
-    let f = b .both-lists .ensures in (
+    let f = b .both-lists .ensures in
+    let heads = ap (λ (j : ℕ). replicate {A = ℕ} j 0) (heads-part e) in
+    let work = ap (λ (j : ℕ). replicate {A = ℕ} j 0) (work-part e) in (
       (rw t at (f .0)) ∙ r .0,
       (
         (rw t at (f .1 .0)) ∙ r .1 .0,
         (
-          ap (λ (h : List ℕ). h ++ drop k (a .heads .now)) (f .1 .1 .0 ∙ ap (λ (j : ℕ). replicate {A = ℕ} j 0) (length-take-le k (a .heads .now) (room .1 .0))) ∙ r .1 .1 .0,
-          ap (λ (h : List ℕ). h ++ drop k (a .work .now)) (f .1 .1 .1 ∙ ap (λ (j : ℕ). replicate {A = ℕ} j 0) (length-take-le k (a .work .now) (room .1 .1))) ∙ r .1 .1 .1,
+          ap (λ (h : List ℕ). h ++ drop k (a .heads .now)) (f .1 .1 .0 ∙ heads) ∙ r .1 .1 .0,
+          ap (λ (h : List ℕ). h ++ drop k (a .work .now)) (f .1 .1 .1 ∙ work) ∙ r .1 .1 .1,
         ),
       ),
     )
@@ -97,10 +122,10 @@ tree-in-spec =
     (search needs)
     (search needs)
     returns-2
-    (λ c. enough (c .before) .1 .0)
-    (λ c. sym (length-take-le _ (c .before .before .before .before .before .before .before .before .before .before .before .before .args .heads .now) (enough (c .before .before) .1 .0)))
-    (λ c. enough (c .before .before) .1 .1)
-    (λ c. sym (length-take-le _ (c .before .before .before .before .before .before .before .before .before .before .before .before .before .args .work .now) (enough (c .before .before .before) .1 .1)))
+    (λ c. enough (c .before) .1)
+    (λ c. sym (heads-part (c .before .before)))
+    (λ c. enough (c .before .before) .2)
+    (λ c. sym (work-part (c .before .before .before)))
     both-lists-requires
     (search needs)
     (search needs)

@@ -1,5 +1,4 @@
 -- The first test that holds decides, as in the definition.
-use Prim.Native.Nat.{ℕ}
 use borrow.Author.Tests.{eq-eqb, ne-eqb}
 use borrow.Author.Needs.{needs}
 use Rattle.tree.specs.Rows.{reasonAt}

@@ -5,9 +5,9 @@ use borrow.Author.Needs.{needs}
 use Rattle.page.proofs.Sound.{else-header}
 use Rattle.chunk.specs.Records.{isGone}
 use Rattle.tree.specs.Objects.{isDirectory}
-use Rattle.tree.proofs.Listing.{other-standing, gone-standing, kept-standing}
-use Rattle.tree.proofs.list.is_standing.Statement.{statement}
-use Rattle.tree.proofs.list.is_standing.Tie as tie
+use Rattle.tree.proofs.Standing.{other-standing, gone-standing, kept-standing}
+use Rattle.tree.proofs.objects.is_standing.Statement.{statement}
+use Rattle.tree.proofs.objects.is_standing.Tie as tie
 
 returns : tie.Need-returns
 returns c = sym (other-standing (c .before .args .r) (else-header (c .before .args .r) (c .match .keys2)))
