@@ -4,15 +4,14 @@ use Prim.Native.Nat.{ℕ}
 use mathlib.Core.List.{List, _++_}
 use mathlib.Core.Path.{_≡_, refl, ap, _∙_, fun-ext}
 use lib.ListN.{getD}
-use Rattle.page.specs.Asked.{askedBy, askedOf, textBy, textAt}
+use Rattle.page.specs.Asked.{textIn}
 use Rattle.page.specs.Headers.{textOf}
-use Rattle.page.specs.Kinds.{badType, typeDiffers, headerOf, kindBy, kindOf, kindAt, toldIn, toldOf}
-use Rattle.page.specs.Layouts.{dataSizes, spareSizes, tagOffsets, layoutAt, hasSizes, numberOfSizes, roomy}
-use Rattle.page.specs.Lengths.{blockFits, lengthFits, wholeBlocks, openedOf, placedIn, placedOf, pageIn}
+use Rattle.page.specs.Kinds.{badType, typeDiffers, headerOf, kindBy, kindOf, kindAt}
+use Rattle.page.specs.Layouts.{roomy}
+use Rattle.page.specs.Lengths.{pageIn}
 use Rattle.page.specs.Numbers.{badObject}
 use Rattle.page.specs.Pages.{pageAt}
 use Rattle.page.specs.Records.{recordOf, recordAt}
-use Rattle.page.specs.Search.{firstFrom}
 use Rattle.page.specs.Shelf.{shelfGeometry, wordBytes, tagged, erased, headerPage, dataPage, blankPage, shelfPages, dumpOf, shelf, shelfKinds}
 use Rattle.page.specs.Tags.{tagsOf, tagBytes, objectIn, headerClaim, dataClaim, claimOf, claimOn}
 use Rattle.page.specs.Words.{le32}
@@ -36,9 +35,8 @@ says : recordAt shelfGeometry shelf ≡ (λ i. recordOf (getD shelfKinds i Blank
 says = fun-ext pages.shelf-record
 
 -- the name on page 4
-name : textAt Name shelfGeometry shelf 4 ≡ erased 256
-unfolding shelf shelfPages dumpOf headerPage dataPage blankPage tagged wordBytes textAt textBy askedOf askedBy textOf toldOf toldIn placedOf placedIn
-    openedOf blockFits lengthFits wholeBlocks numberOfSizes firstFrom hasSizes layoutAt dataSizes spareSizes tagOffsets kindAt pageIn roomy pageAt
+name : textIn Name shelfGeometry shelf 4 ≡ erased 256
+unfolding shelf shelfPages dumpOf headerPage dataPage blankPage tagged wordBytes textIn textOf kindAt pageIn roomy pageAt
     kindOf kindBy headerOf badType typeDiffers claimOn claimOf headerClaim dataClaim objectIn badObject tagsOf tagBytes le32
 name = refl
 
@@ -53,6 +51,6 @@ unfolding treeText pathLines isIn others listed under entryOf stepTo childrenOf 
 computed names e = rw e
 
 -- and so on W
-pub shelf-tree : treeText (recordAt shelfGeometry shelf) (textAt Name shelfGeometry shelf) 8 ≡ expected
+pub shelf-tree : treeText (recordAt shelfGeometry shelf) (textIn Name shelfGeometry shelf) 8 ≡ expected
 shelf-tree =
-    ap (λ (s : ℕ → Record). treeText s (textAt Name shelfGeometry shelf) 8) says ∙ computed (textAt Name shelfGeometry shelf) name
+    ap (λ (s : ℕ → Record). treeText s (textIn Name shelfGeometry shelf) 8) says ∙ computed (textIn Name shelfGeometry shelf) name

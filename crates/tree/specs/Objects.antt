@@ -4,7 +4,7 @@ use mathlib.Core.Bool.{Bool, true, false}
 use mathlib.Core.List.{List}
 use mathlib.Core.Option.{Option, none, some}
 use lib.Dec.{eqb}
-use Rattle.page.specs.Asked.{textAt}
+use Rattle.page.specs.Asked.{textIn}
 use Rattle.page.specs.Choice.{pick}
 use Rattle.page.specs.Records.{recordAt}
 use Rattle.page.specs.declared.fields.Text.the-variants.{Name}
@@ -21,7 +21,7 @@ abbrev pub saysBy : Geometry → (dump : List ℕ) → Takes → (page : ℕ) �
 saysBy g dump t = seenBy t (recordAt g dump)
 
 abbrev pub namesOf : Geometry → (dump : List ℕ) → (page : ℕ) → List ℕ
-namesOf g dump = textAt Name g dump
+namesOf g dump = textIn Name g dump
 
 -- the root, which stands whatever its header says, or with none
 abbrev pub root : ℕ

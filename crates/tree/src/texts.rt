@@ -18,7 +18,7 @@ use chunk::record::object_of;
 use page::fields::Text;
 use page::geometry::Geometry;
 use page::geometry::Opened;
-use page::header::header_text;
+use page::header::text_in;
 use page::number::PageNumber;
 use page::record::record_at;
 use page::refusal::Refusal;
@@ -59,7 +59,7 @@ fn name_length(bytes: &[u8]) -> usize
 fn put_name(dump: &[u8], g: Geometry, p: PageNumber, buf: &mut [u8], at: usize) -> usize
     ensures { λ r. ⌜ Put (nameOn g (now (dump .entry)) (p .0)) (now (buf .entry)) at (now (buf .exit)) r ⌝ }
 {
-    let bytes = header_text(dump, g, p, Text::Name);
+    let bytes = text_in(dump, g, p, Text::Name);
     let end = name_length(bytes);
     put_text(buf, at, &bytes[..end])
 }

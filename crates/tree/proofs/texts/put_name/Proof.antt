@@ -13,7 +13,7 @@ returns : tie.Need-returns
 returns c =
     let n = c .before .before .before .before .before in
     let a = n .before .before .before .before .args in
-    let e = name-put (a .g) (a .dump .now) (a .p .0) (n .before .header-text .ensures) (n .name-length .ensures .0) in
+    let e = name-put (a .g) (a .dump .now) (a .p .0) (n .before .text-in .ensures) (n .name-length .ensures .0) in
     rw e at (c .before .before .put-text .ensures)
 
 pub put-name-spec : {M : Type 1} → statement M
