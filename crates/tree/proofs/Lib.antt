@@ -5,7 +5,6 @@ pub mod Times
 pub mod Positions
 pub mod Fronts
 pub mod Searching
-
 -- what both lists mean, over the definitions alone
 pub mod Passing
 pub mod Pigeons
@@ -14,27 +13,23 @@ pub mod Ways
 pub mod Paths
 pub mod Both
 pub mod Fitting
-
 -- the newest headers, and the children in order
 pub mod Keeping
 pub mod NewestHeads
 pub mod HeadRows
 pub mod Entries
 pub mod Segments
-
 -- the rows of the first list, and of the second
 pub mod Listing
 pub mod Climbing
 pub mod Settled
 pub mod Othering
 pub mod Joined
-
 -- the text, and what is answered
 pub mod Texting
 pub mod RowsText
 pub mod Answering
 pub mod Told
-
 -- computed
 pub mod Shelf
 pub mod Example
