@@ -8,16 +8,18 @@ use native.Mathlib.Omega.{arith}
 use borrow.Author.Tests.{lt-ltb, le-ltb}
 use lib.ListN.{length, drop, replicate}
 use Rattle.page.specs.Lengths.{openedOf}
+use Rattle.page.specs.Records.{recordAt}
 use Rattle.page.specs.declared.geometry.Geometry.{Geometry}
 use Rattle.page.specs.declared.geometry.Opened.the-variants as opened
 use Rattle.page.specs.declared.refusal.Refusal.{Refusal}
 use Rattle.page.specs.declared.refusal.Refusal.the-variants.{BadPage, ShortBuffer}
 use Rattle.chunk.specs.Lists.{inFront}
-use Rattle.chunk.specs.Moments.{isMissing}
+use Rattle.chunk.specs.Moments.{isMissing, takesAt}
 use Rattle.chunk.specs.declared.moment.Moment.{Moment}
+use Rattle.chunk.specs.declared.takes.Takes.{Takes}
 use Rattle.tree.specs.Answers.{grownTo, saysAt, treeOn, rowsLeft, workLeft}
 use Rattle.tree.specs.Heads.{headCount}
-use Rattle.tree.specs.Objects.{namesOf}
+use Rattle.tree.specs.Objects.{saysBy, namesOf}
 use Rattle.tree.specs.Rows.{treeRows}
 use Rattle.tree.specs.declared.whole.Grown.{Grown}
 use Rattle.tree.specs.declared.whole.Grown.the-variants.{Refused}
@@ -50,13 +52,14 @@ module _ (g : Geometry) (dump : List ℕ) (m : Moment) (rows heads work : List �
       unfolding treeOn rowsLeft workLeft
       room-refused h = let t = lt-ltb _ _ h in (rw (o, e, t), (rw (o, e, t), (rw (o, e, t), rw (o, e, t))))
 
-      -- enough of them
+      -- enough of them: what was made in parts of as many words, by the records that the moment takes
       pub room-enough :
-          headCount (saysAt g dump m) n ≤ min (length rows) (min (length heads) (length work)) → (k : ℕ) → k ≡ headCount (saysAt g dump m) n →
-          Answered (grownTo (saysAt g dump m) (namesOf g dump) n)
-          (inFront (treeRows (saysAt g dump m) (namesOf g dump) n) rows) (replicate k 0 ++ drop k heads) (replicate k 0 ++ drop k work)
+          headCount (saysAt g dump m) n ≤ min (length rows) (min (length heads) (length work)) → (t : Takes) → t ≡ takesAt (recordAt g dump) m →
+          (k : ℕ) → k ≡ headCount (saysAt g dump m) n → (r : Grown) (rows₁ heads₁ work₁ : List ℕ) → r ≡ grownTo (saysBy g dump t) (namesOf g dump) n →
+          rows₁ ≡ inFront (treeRows (saysBy g dump t) (namesOf g dump) n) rows → heads₁ ≡ replicate k 0 → work₁ ≡ replicate k 0 →
+          Answered r rows₁ (heads₁ ++ drop k heads) (work₁ ++ drop k work)
       unfolding treeOn rowsLeft workLeft
-      room-enough h k q =
-          let t = le-ltb _ _ h in
+      room-enough h t u k q r rows₁ heads₁ work₁ a b c d =
+          let s = le-ltb _ _ h in
           let z : k - 0 ≡ k = omega arith in
-          (rw (o, e, t), (rw (o, e, t), (rw (o, e, t, ← q) (rw z), rw (o, e, t, ← q) (rw z))))
+          (rw (o, e, s, ← u) a, (rw (o, e, s, ← u) b, (rw (o, e, s, ← q, z, c), rw (o, e, s, ← q, z, d))))

@@ -1,5 +1,5 @@
--- The children's rows: a row for each place of an object that is live and not the root, and for no other. No two are the same, since each has its place
--- as its value; so they ascend when they are sorted.
+-- The children's rows: a row for each place of an object that is live and not the root, and for no other. No two are the same, since each has its
+-- place as its value; so they ascend when they are sorted.
 use Prim.Native.Nat.{ℕ, _-_, _<_}
 use mathlib.Core.Bool.{Bool, true, false, not, _&&_}
 use mathlib.Core.List.{List}

@@ -1,4 +1,5 @@
--- Rows of two lists put one behind the other, with room for both: together they are no more than the headers, so that they are the front of the words.
+-- Rows of two lists put one behind the other, with room for both: together they are no more than the headers, so that they are the front of the
+-- words.
 use Prim.Native.Nat.{ℕ, _+_, _-_, _≤_}
 use mathlib.Core.List.{List}
 use mathlib.Core.Path.{_≡_, _∙_}

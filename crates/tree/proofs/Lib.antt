@@ -1,29 +1,35 @@
-pub mod Searching
+-- lists of numbers, by their members and by their places
 pub mod Places
+pub mod Lists
+pub mod Times
+pub mod Positions
 pub mod Fronts
-pub mod Standing
-pub mod HeadRows
+pub mod Searching
+-- what both lists mean, over the definitions alone
 pub mod Passing
 pub mod Pigeons
+pub mod Standing
 pub mod Ways
-pub mod Lists
 pub mod Paths
 pub mod Both
-pub mod Times
 pub mod Fitting
+-- the newest headers, and the children in order
 pub mod Keeping
 pub mod NewestHeads
+pub mod HeadRows
 pub mod Entries
 pub mod Segments
+-- the rows of the first list, and of the second
 pub mod Listing
 pub mod Climbing
 pub mod Settled
 pub mod Othering
 pub mod Joined
-pub mod Answering
+-- the text, and what is answered
 pub mod Texting
-pub mod Positions
 pub mod RowsText
+pub mod Answering
 pub mod Told
+-- computed
 pub mod Shelf
 pub mod Example

@@ -161,7 +161,8 @@ module _ (says : ℕ → Record) (names : ℕ → List ℕ) (n : ℕ) where
     pub tested : stands ≡ isStanding (standBy said)
 
   module _ (heads children : List ℕ) (w : Heads says n heads) (i key place page : ℕ) (said : Record) (row : ℕ) (stands : Bool)
-      (q : Learnt heads children i key place page said row stands) (k at : ℕ) (rows mid : List ℕ) (next : ℕ) (p : Put (row ∷ []) rows at mid next) where
+      (q : Learnt heads children i key place page said row stands) (k at : ℕ) (rows mid : List ℕ) (next : ℕ)
+      (p : Put (row ∷ []) rows at mid next) where
     -- the rows of its object
     abbrev entry : List ℕ
     entry = entryRows says names n k key at (objectAt heads (valueOf (getD children i 0)))

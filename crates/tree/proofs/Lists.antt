@@ -1,5 +1,5 @@
--- Laws of `keep`, `map` and `each`. What is kept of a list is its members that pass, in their order, so that a kept part of an ascending list ascends.
--- What each of a list is made, or gives, has exactly the members that one of them is made or gives. All go through joined lists part by part.
+-- Laws of `keep`, `map` and `each`. What is kept of a list is its members that pass, in their order, so that a kept part of an ascending list
+-- ascends. What each of a list is made, or gives, has exactly the members that one of them is made or gives. All go through joined lists part by part.
 use Prim.Native.Nat.{ℕ, suc, _+_, _≤_, _<_, zero-le}
 use mathlib.Core.Bool.{Bool, true, false, _&&_}
 use mathlib.Core.List.{List, [], _∷_, _++_, map, append-nil}

@@ -1,5 +1,6 @@
--- The rows of the newest headers are what `Heads` says. The rows of all headers stand in order of their objects, so that those of one object stand side
--- by side: of these the newest is kept, and no other object's. So the ids ascend, each kept page is its object's newest header, and none is left out.
+-- The rows of the newest headers are what `Heads` says. The rows of all headers stand in order of their objects, so that those of one object stand
+-- side by side: of these the newest is kept, and no other object's. So the ids ascend, each kept page is its object's newest header, and none is left
+-- out.
 use Prim.Native.Nat.{ℕ, suc, _≤_, _<_, zero-le}
 use mathlib.Core.Bool.{true}
 use mathlib.Core.List.{List, [], _∷_, map}

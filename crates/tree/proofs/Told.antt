@@ -1,5 +1,6 @@
 -- What is told of a dump's tree is so: the rows that an accepted call leaves make the text of both lists, letter by letter, and each path of the
--- first. An accepted call is one of a dump that is not refused, at a moment that it has, with room in each slice; of its rows the laws of `RowsText` hold.
+-- first. An accepted call is one of a dump that is not refused, at a moment that it has, with room in each slice; of its rows the laws of
+-- `RowsText` hold.
 use Prim.Native.Nat.{ℕ, _+_, _<_}
 use mathlib.Core.List.{List, _++_}
 use mathlib.Core.Path.{_≡_, refl}

@@ -1,14 +1,13 @@
 -- The loop's invariant: the rows of the headers passed were put in front.
-use Prim.Native.Nat.{ℕ, _≤_, _-_}
+use Prim.Native.Nat.{_≤_, _-_}
 use mathlib.Core.Bool.{true, false}
 use mathlib.Core.Path.{_≡_, sym, ap, _∙_}
 use native.Mathlib.Omega.{arith}
 use borrow.Author.Needs.{needs}
 use Rattle.page.specs.Records.{isHeader}
+use Rattle.page.specs.declared.record.Record.the-variants.{Header}
 use Rattle.page.proofs.Sound.{else-header}
-use Rattle.sort.specs.Packed.{packed}
 use Rattle.chunk.specs.Live.{passed}
-use Rattle.chunk.specs.Records.{objectOf}
 use Rattle.chunk.proofs.Living.{passed-none, passed-skip, passed-take, passed-length}
 use Rattle.text.specs.Put.{Put}
 use Rattle.text.proofs.Putting.{nothing, also, kept}
@@ -43,9 +42,9 @@ loop-again-2 c =
     let q = k .before .before .loop in
     let a = k .before .before .before .before .before .args in
     let says = saysBy (a .g) (a .dump .now) (a .t) in
-    let e = sym (k .seen-at .ensures) ∙ m .r .given .1 in
+    let e : says (q .i) ≡ Header (m .r .given .0 .0) = rw (← k .seen-at .ensures) (m .r .given .1) in
     let h : isHead says (q .i) ≡ true = ap isHeader e in
-    let r : p .before .pack .result ≡ headRow says (q .i) = p .before .pack .ensures ∙ ap (λ (o : ℕ). packed o (q .i)) (sym (ap objectOf e)) in
+    let r : p .before .pack .result ≡ headRow says (q .i) = rw e (p .before .pack .ensures) in
     (search needs, rw (passed-take (isHead says) (headRow says) (q .i) h, ← r) (also (q .inv .1) (p .put-row .ensures)))
 
 returns : tie.Need-returns Inv-loop μ-loop

@@ -196,7 +196,8 @@ module _ (t : ℕ) where
   -- a directory is listed in turn
   directory-requires : list-entry-lts.Need-list-directory-requires (entry-claims t) (list-entry-at t) list-entry.Post
   directory-requires c κs =
-      let s = c .before .before .before .before .before .before .before .before .before .before .before .before .before .before .before .before .before .before .before in
+      let p = c .before .before .before .before .before .before .before .before in
+      let s = p .before .before .before .before .before .before .before .before .before .before .before in
       (omega arith, (s .pre .1 .0, s .pre .1 .1 .0))
 
   standing : list-entry-lts.Need-returns-2 (entry-claims t) (list-entry-at t) list-entry.Post

@@ -30,7 +30,8 @@ put c =
 
 -- and their rows are no more than pages
 few : (c : tie.After-second-list) → c .second-list .result < wordValues
-few c = omega (arith, put c .few, c .before .before .before .before .before .before .before .before .before .before .before .before .before .before .fits)
+few c =
+    omega (arith, put c .few, c .before .before .before .before .before .before .before .before .before .before .before .before .before .before .fits)
 
 sub-others : tie.Need-sub-others
 sub-others c = let j = put (c .before .before .before .before) in omega (arith, j .first, j .both)

@@ -1,11 +1,10 @@
 -- Refused if the dump lacks the moment's page, or a slice has fewer words than there are headers; else the lists are made in parts of the slices.
 use Prim.Native.Nat.{ℕ, _≤_}
 use mathlib.Core.Bool.{false}
-use mathlib.Core.List.{List, _++_}
 use mathlib.Core.Path.{_≡_, sym, ap, _∙_}
 use native.Mathlib.Omega.{arith}
 use borrow.Author.Needs.{needs}
-use lib.ListN.{length, take, drop, replicate}
+use lib.ListN.{length, take, replicate}
 use lib.Seq.{length-take-le}
 use Rattle.page.proofs.Lengths.{opened-pages}
 use Rattle.chunk.specs.Moments.{isMissing}
@@ -94,22 +93,11 @@ returns-3 c =
     let a = s .args in
     let k = l .before .count-heads .result in
     let room = enough e in
-    let r =
-    room-enough (a .g) (a .dump .now) (a .m) (a .rows .now) (a .heads .now) (a .work .now) (a .pages) (s .pre) (there l)
-    (omega (arith, needed l, room .0, room .1, room .2)) k (needed l) in
-    let t = l .before .before .takes .ensures in
     let f = b .both-lists .ensures in
-    let heads = ap (λ (j : ℕ). replicate {A = ℕ} j 0) (heads-part e) in
-    let work = ap (λ (j : ℕ). replicate {A = ℕ} j 0) (work-part e) in (
-      (rw t at (f .0)) ∙ r .0,
-      (
-        (rw t at (f .1 .0)) ∙ r .1 .0,
-        (
-          ap (λ (h : List ℕ). h ++ drop k (a .heads .now)) (f .1 .1 .0 ∙ heads) ∙ r .1 .1 .0,
-          ap (λ (h : List ℕ). h ++ drop k (a .work .now)) (f .1 .1 .1 ∙ work) ∙ r .1 .1 .1,
-        ),
-      ),
-    )
+    room-enough (a .g) (a .dump .now) (a .m) (a .rows .now) (a .heads .now) (a .work .now) (a .pages) (s .pre) (there l)
+    (omega (arith, needed l, room .0, room .1, room .2)) _ (l .before .before .takes .ensures) k (needed l) _ _ _ _ (f .0) (f .1 .0)
+    (f .1 .1 .0 ∙ ap (λ (j : ℕ). replicate {A = ℕ} j 0) (heads-part e))
+    (f .1 .1 .1 ∙ ap (λ (j : ℕ). replicate {A = ℕ} j 0) (work-part e))
 
 pub tree-in-spec : {M : Type 1} → statement M
 tree-in-spec =
