@@ -1,0 +1,3 @@
+// Two dumps compared: what differs, object by object.
+pub mod answer;
+pub mod prepare;
