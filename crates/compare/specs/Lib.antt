@@ -3,6 +3,7 @@ pub mod Fields
 pub mod Differences
 pub mod Report
 pub mod Sides
+pub mod Heads
 pub mod Lists
 pub mod Prepared
 pub mod Answers
