@@ -6,3 +6,4 @@ pub mod Sides
 pub mod Lists
 pub mod Prepared
 pub mod Answers
+pub mod Parts
