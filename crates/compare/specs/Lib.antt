@@ -7,3 +7,4 @@ pub mod Heads
 pub mod Lists
 pub mod Prepared
 pub mod Answers
+pub mod Parts
