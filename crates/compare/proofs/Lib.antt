@@ -1,2 +1,4 @@
 pub mod Differing
 pub mod Heads
+pub mod Passing
+pub mod Parting

@@ -2,6 +2,7 @@ pub mod Views
 pub mod Fields
 pub mod Differences
 pub mod Report
+pub mod Lines
 pub mod Sides
 pub mod Heads
 pub mod Lists
