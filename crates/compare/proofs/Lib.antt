@@ -2,3 +2,5 @@ pub mod Differing
 pub mod Heads
 pub mod Passing
 pub mod Parting
+pub mod Lining
+pub mod Listing

@@ -9,6 +9,7 @@ use Rattle.page.specs.declared.geometry.Geometry.{Geometry}
 use Rattle.sort.specs.Packed.{keyOf}
 use Rattle.compare.specs.Report.{reportOf}
 use Rattle.compare.specs.Sides.{sideOf}
+use Rattle.compare.specs.declared.whole.Turn.{Turn}
 
 -- how many words at the front of a list are of object o
 unfoldable pub runOf : (object : ℕ) (order : List ℕ) → ℕ
@@ -42,3 +43,7 @@ module _ (g : Geometry) (dump : List ℕ) (g′ : Geometry) (dump′ : List ℕ)
   -- those of all: no more than there are words
   unfoldable pub listsReport : (order copies order′ copies′ : List ℕ) → List ℕ
   listsReport L C L′ C′ = reportsTo (length L + length L′) L C L′ C′
+
+-- the object that comes next, and how many words at the front of each list are of it
+abbrev pub nextIn : (one other : List ℕ) → Turn
+nextIn L L′ = record { object = nextOf L L′; first = runOf (nextOf L L′) L; second = runOf (nextOf L L′) L′ }

@@ -3,4 +3,8 @@ pub mod answer;
 mod bytes;
 mod fields;
 mod head;
+mod object;
 pub mod prepare;
+mod runs;
+mod stretches;
+pub mod whole;

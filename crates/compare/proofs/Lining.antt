@@ -1,0 +1,164 @@
+-- The lines of what differs, piece by piece: what each piece comes to, and that the pieces are the lines of all differences.
+use Prim.Native.Nat.{ℕ, min}
+use mathlib.Core.Bool.{Bool, true, false, not, _&&_}
+use mathlib.Core.List.{List, [], _∷_, _++_, map, append-nil, append-assoc}
+use mathlib.Core.Logic.{_≢_}
+use mathlib.Core.Option.{Option, none, some}
+use mathlib.Core.Path.{_≡_, refl, sym, ap, _∙_}
+use lib.Dec.{eqb}
+use lib.ListN.{length}
+use borrow.Author.Tests.{eq-eqb, ne-eqb}
+use Rattle.page.specs.Records.{recordAt}
+use Rattle.page.specs.declared.geometry.Geometry.{Geometry}
+use Rattle.page.proofs.Searching.{clash}
+use Rattle.chunk.specs.Live.{passed}
+use Rattle.text.specs.Lines.{lineOf}
+use Rattle.text.specs.Quoted.{bytesOf}
+use Rattle.index.specs.Held.{fromList}
+use Rattle.index.specs.Walks.{sizeWalk}
+use Rattle.compare.specs.Differences.{Difference, Side, first, second, only, deleted, headless, field, sizes, stretch, onOne, lacks, fieldDiffers, fieldsOf, sizesOf, stretchesTo, stretchesOf, differencesOf}
+use Rattle.compare.specs.Fields.{fields, placeOf}
+use Rattle.compare.specs.Heads.{headBytes}
+use Rattle.compare.specs.Lines.{sideLines, headerLines, contentLines}
+use Rattle.compare.specs.Report.{linesOf, joined, sideNumber, objectLines}
+use Rattle.compare.specs.Sides.{firstHeader, pagesIn, rowsShow, sideOf}
+use Rattle.compare.specs.Views.{View, bytesOn, isDeleted, sizeIn}
+use Rattle.compare.proofs.Passing.{joined-append}
+
+-- no fields where a header is missing, and those that differ where both are there
+module _ (g : Geometry) (dump : List ℕ) (g′ : Geometry) (dump′ : List ℕ) where
+  abbrev between : (one other : Option ℕ) → List ℕ
+  between p q = fieldsOf (bytesOn g dump p) (bytesOn g′ dump′ q)
+
+  pub fields-first : (p q : Option ℕ) → lacks p ≡ true → joined linesOf (map field (between p q)) ≡ []
+  unfolding fieldsOf joined
+  fields-first none q e = refl
+  fields-first (some h) q e = clash (cc)
+
+  pub fields-second : (p q : Option ℕ) → lacks q ≡ true → joined linesOf (map field (between p q)) ≡ []
+  unfolding fieldsOf joined
+  fields-second none q e = refl
+  fields-second (some h) none e = refl
+  fields-second (some h) (some i) e = clash (cc)
+
+  pub fields-both :
+      (p q : Option ℕ) (a b : List ℕ) → lacks p ≡ false → lacks q ≡ false → a ≡ headBytes g dump p → b ≡ headBytes g′ dump′ q →
+      between p q ≡ passed (fieldDiffers a b) placeOf fields
+  unfolding fieldsOf
+  fields-both none q a b e f x y = clash (cc)
+  fields-both (some h) none a b e f x y = clash (cc)
+  fields-both (some h) (some i) a b e f x y = rw (x, y)
+
+-- the lines of one difference alone
+one-line : (d : Difference) → joined linesOf (d ∷ []) ≡ linesOf d
+unfolding joined
+one-line d = append-nil (linesOf d)
+
+no-line : joined linesOf [] ≡ []
+unfolding joined
+no-line = refl
+
+-- the sizes
+pub sizes-same : (y z : ℕ) → y ≡ z → joined linesOf (sizesOf (some y) (some z)) ≡ []
+unfolding joined
+sizes-same y z e = rw (eq-eqb y z e)
+
+pub sizes-other : (y z : ℕ) → y ≢ z → joined linesOf (sizesOf (some y) (some z)) ≡ lineOf (bytesOf "size=") y ++ lineOf (bytesOf "size=") z
+unfolding linesOf
+sizes-other y z e = rw (ne-eqb y z e) (one-line (sizes y z))
+
+-- contents where one side is no live file, and where both are
+module _ (a b : ℕ → ℕ) where
+  pub contents-first : (z : Option ℕ) → contentLines a b none z ≡ []
+  unfolding contentLines stretchesOf joined
+  contents-first z = refl
+
+  pub contents-second : (y : Option ℕ) → contentLines a b y none ≡ []
+  unfolding contentLines stretchesOf joined
+  contents-second none = refl
+  contents-second (some y) = refl
+
+  pub contents-both :
+      (y z : ℕ) → contentLines a b (some y) (some z) ≡ joined linesOf (sizesOf (some y) (some z)) ++ joined linesOf (map stretch (stretchesTo a b (min y z)))
+  unfolding contentLines stretchesOf
+  contents-both y z = refl
+
+-- what is so on one side only
+module _ (d : Side → Difference) (key : List ℕ) (lines : (s : Side) → linesOf (d s) ≡ lineOf key (sideNumber s)) where
+  side-lines : (one other : Bool) → joined linesOf (onOne d one other) ≡ sideLines key one other
+  side-lines true true = no-line
+  side-lines true false = one-line (d first) ∙ lines first
+  side-lines false true = one-line (d second) ∙ lines second
+  side-lines false false = no-line
+
+only-lines : (one other : Bool) → joined linesOf (onOne only one other) ≡ sideLines (bytesOf "only=") one other
+unfolding linesOf
+only-lines = side-lines only (bytesOf "only=") (λ s. refl)
+
+deleted-lines : (one other : Bool) → joined linesOf (onOne deleted one other) ≡ sideLines (bytesOf "deleted=") one other
+unfolding linesOf
+deleted-lines = side-lines deleted (bytesOf "deleted=") (λ s. refl)
+
+headless-lines : (one other : Bool) → joined linesOf (onOne headless one other) ≡ sideLines (bytesOf "noheader=") one other
+unfolding linesOf
+headless-lines = side-lines headless (bytesOf "noheader=") (λ s. refl)
+
+lacks-bytes : (g : Geometry) (dump : List ℕ) (p : Option ℕ) → lacks (bytesOn g dump p) ≡ lacks p
+lacks-bytes g dump none = refl
+lacks-bytes g dump (some p) = refl
+
+-- five lists of differences, one behind the other
+five : (a b c d e : List Difference) → joined linesOf (a ++ b ++ c ++ d ++ e) ≡ (joined linesOf a ++ (joined linesOf b ++ joined linesOf c)) ++ (joined linesOf d ++ joined linesOf e)
+five a b c d e =
+    let J = joined linesOf in
+    joined-append linesOf (a ++ b ++ c ++ d) e
+    ∙ ap (λ (x : List ℕ). x ++ J e)
+    (joined-append linesOf (a ++ b ++ c) d
+    ∙ ap (λ (x : List ℕ). x ++ J d) (joined-append linesOf (a ++ b) c ∙ ap (λ (x : List ℕ). x ++ J c) (joined-append linesOf a b) ∙ append-assoc (J a) (J b) (J c)))
+    ∙ append-assoc (J a ++ (J b ++ J c)) (J d) (J e)
+
+-- one object of two dumps, by its words on each side
+module _ (g : Geometry) (dump L C : List ℕ) (g′ : Geometry) (dump′ L′ C′ : List ℕ) where
+  abbrev pub between-sides : List ℕ
+  between-sides = joined linesOf (differencesOf (sideOf g dump L C) (sideOf g′ dump′ L′ C′))
+
+  abbrev pub headOn : Option ℕ
+  headOn = firstHeader (recordAt g dump) (pagesIn g dump L)
+
+  abbrev pub headOn′ : Option ℕ
+  headOn′ = firstHeader (recordAt g′ dump′) (pagesIn g′ dump′ L′)
+
+  abbrev pub sizeOn : Option ℕ
+  sizeOn = sizeIn (sizeWalk (recordAt g dump) (g .layout .«data») (fromList (pagesIn g dump L)))
+
+  abbrev pub sizeOn′ : Option ℕ
+  sizeOn′ = sizeIn (sizeWalk (recordAt g′ dump′) (g′ .layout .«data») (fromList (pagesIn g′ dump′ L′)))
+
+  -- both sides have it
+  pub lines-both :
+      length L ≢ 0 → length L′ ≢ 0 →
+      between-sides ≡ headerLines g dump g′ dump′ headOn headOn′ ++ contentLines (rowsShow g dump C) (rowsShow g′ dump′ C′) sizeOn sizeOn′
+  unfolding differencesOf sideOf headerLines contentLines
+  lines-both h h′ =
+      rw (ne-eqb (length L) 0 h, ne-eqb (length L′) 0 h′)
+      (five
+      (onOne deleted (isDeleted (recordAt g dump) headOn) (isDeleted (recordAt g′ dump′) headOn′))
+      (onOne headless (lacks (bytesOn g dump headOn)) (lacks (bytesOn g′ dump′ headOn′)))
+      (map field (fieldsOf (bytesOn g dump headOn) (bytesOn g′ dump′ headOn′)))
+      (sizesOf sizeOn sizeOn′)
+      (map stretch (stretchesOf (rowsShow g dump C) (rowsShow g′ dump′ C′) sizeOn sizeOn′))
+      ∙ rw (
+        deleted-lines (isDeleted (recordAt g dump) headOn) (isDeleted (recordAt g′ dump′) headOn′),
+        headless-lines (lacks (bytesOn g dump headOn)) (lacks (bytesOn g′ dump′ headOn′)),
+        lacks-bytes g dump headOn,
+        lacks-bytes g′ dump′ headOn′,
+      ))
+
+  -- only one, or none
+  pub lines-second : length L ≡ 0 → between-sides ≡ sideLines (bytesOf "only=") false (not (eqb (length L′) 0))
+  unfolding differencesOf sideOf
+  lines-second e = rw (eq-eqb (length L) 0 e) (only-lines false (not (eqb (length L′) 0)))
+
+  pub lines-first : length L ≢ 0 → length L′ ≡ 0 → between-sides ≡ sideLines (bytesOf "only=") true false
+  unfolding differencesOf sideOf
+  lines-first h e = rw (ne-eqb (length L) 0 h, eq-eqb (length L′) 0 e) (only-lines true false)
