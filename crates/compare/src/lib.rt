@@ -2,3 +2,4 @@
 pub mod answer;
 mod bytes;
 pub mod prepare;
+mod stretches;
