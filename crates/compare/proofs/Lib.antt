@@ -4,3 +4,4 @@ pub mod Passing
 pub mod Parting
 pub mod Lining
 pub mod Listing
+pub mod Stretching

@@ -5,6 +5,5 @@ mod fields;
 mod head;
 mod object;
 pub mod prepare;
-mod runs;
 mod stretches;
 pub mod whole;

@@ -1,22 +1,15 @@
+-- The chunk of the row's copy has that begin.
+use mathlib.Core.Path.{_∙_, ap}
 use borrow.Author.Needs.{needs}
+use Rattle.chunk.specs.Records.{baseOf}
+use Rattle.file.specs.declared.copy.Copy.{Copy}
 use Rattle.compare.proofs.stretches.begin_of.Statement.{statement}
 use Rattle.compare.proofs.stretches.begin_of.Tie as tie
-use Rattle.compare.proofs.stretches.begin_of.Reads as reads
-use Rattle.compare.proofs.stretches.begin_of.Lts as lts
-use Rattle.chunk.proofs.record.base_of.Reads as base-of-reads
-use Rattle.file.proofs.copy.Copy.of.Reads as of-reads
 
--- src/stretches.rt:42:40
-of-requires : tie.Need-of-requires
-of-requires c κs = search needs
-
--- src/stretches.rt:42:5
-base-of-requires : tie.Need-base-of-requires
-base-of-requires c κs = search needs
-
--- src/stretches.rt:38:1
 returns : tie.Need-returns
-returns c = ?
+returns c =
+    let a = c .before .before .args in
+    (c .base-of .ensures .0 ∙ ap (λ (x : Copy). baseOf (a .g .layout .«data») (x .chunk)) (c .before .of .ensures), c .base-of .ensures .1)
 
 pub begin-of-spec : {M : Type 1} → statement M
-begin-of-spec = tie.close (tie.spec of-requires base-of-requires returns)
+begin-of-spec = tie.close (tie.spec (search needs) (search needs) returns)

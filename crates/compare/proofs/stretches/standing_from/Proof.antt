@@ -1,54 +1,44 @@
+-- The loop's invariant: of the rows from the place on, those that stand are found from row i on.
+use Prim.Native.Nat.{_≤_, _-_}
+use mathlib.Core.Path.{_≡_, refl, sym, _∙_}
+use borrow.Author.Needs.{needs}
+use lib.ListN.{length, drop}
+use Rattle.compare.specs.Sides.{standing}
+use Rattle.compare.proofs.Stretching.{standing-next, standing-here, standing-end}
 use Rattle.compare.proofs.stretches.standing_from.Statement.{statement}
 use Rattle.compare.proofs.stretches.standing_from.Tie as tie
-use Rattle.compare.proofs.stretches.standing_from.Reads as reads
-use Rattle.compare.proofs.stretches.standing_from.Lts as lts
-use Rattle.compare.proofs.stretches.end_of.Reads as end-of-reads
 
 abbrev Inv-loop : tie.InvT-loop
-Inv-loop g rows from k x i₀ i = ?
+Inv-loop g rows from k x i₀ i =
+    (i ≤ length rows) × (standing (g .layout .«data») x (drop i rows) ≡ standing (g .layout .«data») x (drop from rows))
 
 abbrev μ-loop : tie.MeasureT-loop
-μ-loop g rows from k x i₀ i = ?
+μ-loop g rows from k x i₀ i = length rows - i
 
--- src/stretches.rt:69:13
-mul-x : tie.Need-mul-x Inv-loop μ-loop
-mul-x c = ?
-
--- src/stretches.rt:71:5
 loop-holds : tie.Need-loop-holds Inv-loop μ-loop
-loop-holds c = ?
+loop-holds c = (c .before .pre .0, refl)
 
--- src/stretches.rt:72:26
-mul-end-of : tie.Need-mul-end-of Inv-loop μ-loop
-mul-end-of c = ?
-
--- src/stretches.rt:72:26
-shared-slice-read-end-of : tie.Need-shared-slice-read-end-of Inv-loop μ-loop
-shared-slice-read-end-of c = ?
-
--- src/stretches.rt:72:16
-end-of-requires : tie.Need-end-of-requires Inv-loop μ-loop
-end-of-requires c κs = ?
-
--- src/stretches.rt:73:13
 returns : tie.Need-returns Inv-loop μ-loop
-returns c = ?
+returns c =
+    let t = c .before .before .before in
+    let q = t .before .loop in
+    let a = t .before .before .before .args in
+    let stands = rw (c .before .end-of .ensures) at (c .if1 .taken) in
+    (standing-here (a .g .layout .«data») _ (q .i) (a .rows .now) (t .loop-test .taken) stands ∙ q .inv .1, q .inv .0)
 
--- src/stretches.rt:75:9
-add-i : tie.Need-add-i Inv-loop μ-loop
-add-i c = ?
-
--- src/stretches.rt:71:5
-loop-less : tie.Need-loop-less Inv-loop μ-loop
-loop-less c = ?
-
--- src/stretches.rt:71:5
 loop-again : tie.Need-loop-again Inv-loop μ-loop
-loop-again c = ?
+loop-again c =
+    let t = c .before .before .before in
+    let q = t .before .loop in
+    let a = t .before .before .before .args in
+    let ends = rw (c .before .end-of .ensures) at (c .if1 .left) in
+    (search needs, sym (standing-next (a .g .layout .«data») _ (q .i) (a .rows .now) (t .loop-test .taken) ends) ∙ q .inv .1)
 
--- src/stretches.rt:63:1
 returns-2 : tie.Need-returns-2 Inv-loop μ-loop
-returns-2 c = ?
+returns-2 c =
+    let q = c .before .loop in
+    let a = c .before .before .before .args in
+    (standing-end (a .g .layout .«data») _ (q .i) (a .rows .now) (c .loop-test .left) ∙ q .inv .1, q .inv .0)
 
 pub standing-from-spec : {M : Type 1} → statement M
 standing-from-spec =
@@ -56,13 +46,13 @@ standing-from-spec =
     (tie.spec
     Inv-loop
     μ-loop
-    mul-x
+    (search needs)
     loop-holds
-    mul-end-of
-    shared-slice-read-end-of
-    end-of-requires
+    (search needs)
+    (search needs)
+    (search needs)
     returns
-    add-i
-    loop-less
+    (search needs)
+    (search needs)
     loop-again
     returns-2)
