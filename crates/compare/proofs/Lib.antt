@@ -5,3 +5,4 @@ pub mod Parting
 pub mod Lining
 pub mod Listing
 pub mod Stretching
+pub mod Running

@@ -5,5 +5,6 @@ mod fields;
 mod head;
 mod object;
 pub mod prepare;
+mod runs;
 mod stretches;
 pub mod whole;
