@@ -2,7 +2,9 @@ pub mod Views
 pub mod Fields
 pub mod Differences
 pub mod Report
+pub mod Lines
 pub mod Sides
+pub mod Heads
 pub mod Lists
 pub mod Prepared
 pub mod Answers
