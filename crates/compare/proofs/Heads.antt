@@ -5,14 +5,24 @@ use mathlib.Core.List.{List, [], _∷_, map}
 use mathlib.Core.Path.{_≡_, refl, _∙_, ap}
 use native.Mathlib.Omega.{arith}
 use native.Mathlib.Numerals.{add-one}
+use lib.Dec.{eqb}
 use lib.ListN.{length, drop, getD, drop-of-length-le}
 use lib.Seq.{drop-cons}
 use Rattle.page.specs.Choice.{pick}
 use Rattle.page.specs.Records.{isHeader}
 use Rattle.page.specs.declared.record.Record.{Record}
+use Rattle.page.proofs.Searching.{by-test}
 use Rattle.sort.specs.Packed.{valueOf}
 use Rattle.chunk.specs.Sizes.{endOf}
-use Rattle.compare.specs.Heads.{headFrom}
+use Rattle.chunk.specs.Lookups.{fileAt}
+use Rattle.chunk.specs.Records.{isGone, isFile}
+use Rattle.index.specs.Held.{fromList}
+use Rattle.index.specs.Walks.{sizeFile, sizeAt, sizeReached, reach, sizeWalk}
+use Rattle.index.specs.declared.walks.Met.{Met}
+use Rattle.index.specs.declared.walks.Met.the-variants.{Nothing}
+use Rattle.compare.specs.Heads.{headFrom, pageOf, sizeBy}
+use Rattle.compare.specs.Sides.{firstHeader}
+use Rattle.compare.specs.Views.{sizeIn}
 use Rattle.compare.specs.declared.head.Head.the-variants as head
 
 module _ (says : ℕ → Record) (P end : ℕ) (order : List ℕ) (i : ℕ) where
@@ -37,3 +47,27 @@ module _ (says : ℕ → Record) (P end : ℕ) (order : List ℕ) (i : ℕ) wher
   pub head-on : i < length order → isHeader (says q) ≡ false → headFrom says P end on ≡ headFrom says P (max (endOf P (says q)) end) (map valueOf (drop (i + 1) order))
   unfolding headFrom
   head-on h t = rw (next h, t)
+
+-- the header that is found is the first one
+pub head-page : (says : ℕ → Record) (P : ℕ) (L : List ℕ) (end : ℕ) → pageOf (headFrom says P end L) ≡ firstHeader says L
+unfolding headFrom firstHeader
+head-page says P [] end = refl
+head-page says P (p ∷ L) end = by-test (isHeader (says p)) _ (λ t. rw t) (λ t. rw t (head-page says P L _))
+
+-- and the size that it gives with the data above it is the size by a walk along the records
+size-found : (says : ℕ → Record) (h end v : ℕ) → sizeIn (sizeFile (sizeAt says h end) (fileAt (says h) h v)) ≡ sizeBy says (head.At (record { 0 = h }) end)
+unfolding fileAt
+size-found says h end v =
+    by-test (isGone (says h)) _ (λ t. rw t) (λ t. rw t (by-test (isFile (says h)) _ (λ u. rw u) (λ u. rw u)))
+
+pub head-reached :
+    (says : ℕ → Record) (P c : ℕ) (L : List ℕ) (end : ℕ) (m : Met) (v : ℕ) →
+    sizeIn (sizeReached says (reach says P c end m v (fromList L))) ≡ sizeBy says (headFrom says P end L)
+unfolding sizeReached reach fromList headFrom
+head-reached says P c [] end m v = by-test (eqb v 0) _ (λ t. rw t) (λ t. rw t)
+head-reached says P c (p ∷ L) end m v =
+    by-test (isHeader (says p)) _ (λ t. rw t (size-found says p end (v + 1))) (λ t. rw t (head-reached says P c L _ _ _))
+
+pub head-size : (says : ℕ → Record) (P : ℕ) (L : List ℕ) → sizeIn (sizeWalk says P (fromList L)) ≡ sizeBy says (headFrom says P 0 L)
+unfolding sizeWalk
+head-size says P L = head-reached says P 0 L 0 Nothing 0

@@ -1,7 +1,7 @@
 -- The lines of what passes a test, one number after the other.
 use Prim.Native.Nat.{ℕ, _+_}
 use mathlib.Core.Bool.{Bool}
-use mathlib.Core.List.{List, [], _∷_, _++_, map, append-nil, append-assoc}
+use mathlib.Core.List.{List, [], _∷_, _++_, map, append-nil, append-assoc, map-append}
 use mathlib.Core.Path.{_≡_, refl, sym, ap, _∙_}
 use Rattle.page.specs.Choice.{pick}
 use Rattle.page.proofs.Searching.{by-test}
@@ -14,10 +14,6 @@ pub joined-append : {A : Type 0} (f : A → List ℕ) (L M : List A) → joined 
 unfolding joined
 joined-append f [] M = refl
 joined-append f (x ∷ L) M = rw (joined-append f L M) (sym (append-assoc (f x) (joined f L) (joined f M)))
-
-map-append : {A : Type 0} (f : ℕ → A) (L M : List ℕ) → map f (L ++ M) ≡ map f L ++ map f M
-map-append f [] M = refl
-map-append f (x ∷ L) M = rw (map-append f L M)
 
 -- the lines of each that passes
 module _ {A : Type 0} (lines : A → List ℕ) (of : ℕ → A) (test : ℕ → Bool) (id : ℕ → ℕ) where

@@ -3,7 +3,7 @@
 use Prim.Native.Nat.{ℕ, zero, suc, _+_, _-_, _*_, _/_, _≤_, _<_, zero-le, min, max}
 use mathlib.Core.Bool.{Bool, true, false, _&&_}
 use mathlib.Core.Logic.{⊎-elim}
-use mathlib.Core.List.{List, [], _∷_, _++_, map, map-append, append-nil, append-assoc}
+use mathlib.Core.List.{List, [], _∷_, _++_, append-nil}
 use mathlib.Core.Path.{_≡_, refl, ap, sym, _∙_}
 use native.Mathlib.Nat.{add-zero, add-assoc}
 use native.Mathlib.Numerals.{add-one}
@@ -17,8 +17,6 @@ use Rattle.page.specs.declared.geometry.Geometry.{Geometry}
 use Rattle.page.proofs.Searching.{by-test}
 use Rattle.chunk.specs.Answers.{validPart, partBy}
 use Rattle.chunk.specs.declared.answer.Looked.the-variants as looked
-use Rattle.chunk.specs.Live.{passed}
-use Rattle.chunk.proofs.Living.{passed-none, passed-skip, passed-take}
 use Rattle.text.specs.Put.{Put}
 use Rattle.text.proofs.Order.{le-or-lt}
 use Rattle.text.proofs.Putting.{also}
@@ -29,9 +27,10 @@ use Rattle.file.specs.declared.copy.Copy.{Copy}
 use Rattle.compare.specs.Views.{byteOf}
 use Rattle.compare.specs.Differences.{stretch, stretchBytes, stretchesIn, stretchDiffers}
 use Rattle.compare.specs.Parts.{Shows, beginsIn, lineIf}
-use Rattle.compare.specs.Report.{linesOf, joined}
+use Rattle.compare.specs.Report.{linesOf}
 use Rattle.compare.specs.Sides.{rowBegin, rowEnd, standing, stretchBegin, byteBy, rowsShow}
 use Rattle.compare.proofs.Differing.{differ-same, differ-equal, part-shows}
+use Rattle.compare.proofs.Passing.{linesTo, lines-more}
 
 module _ (P : ℕ) where
   -- a row that ends at or before a position does not stand there, and another does
@@ -200,40 +199,23 @@ module _ (g : Geometry) (dump : List ℕ) where
         let later = standing-later P (stretchBytes * k) (stretchBytes * l) rows (omega arith) ∙ ap (standing P (stretchBytes * l)) e in
         rw (begin-in l d n, later) (quiet L l d last b n)
 
--- what a list gives, and then what another gives
-pub joined-append : {A : Type 0} (f : A → List ℕ) (one other : List A) → joined f (one ++ other) ≡ joined f one ++ joined f other
-unfolding joined
-joined-append f [] other = refl
-joined-append f (x ∷ one) other = rw (joined-append f one other, append-assoc)
-
 module _ (test : ℕ → Bool) where
   -- the lines of those stretches below n that pass a test
-  abbrev pub linesTo : (stretches : ℕ) → List ℕ
-  linesTo n = joined linesOf (map stretch (passed test (λ k. k) n))
-
-  pub lines-none : linesTo 0 ≡ []
-  unfolding joined
-  lines-none = rw (passed-none test (λ k. k))
-
-  lines-more : (k : ℕ) → linesTo (k + 1) ≡ linesTo k ++ lineIf (test k) k
-  unfolding joined
-  lines-more k =
-      by-test (test k) _
-      (λ t. rw (passed-take test (λ k. k) k t, t, map-append, joined-append, append-nil))
-      (λ t. rw (passed-skip test (λ k. k) k t, t, append-nil))
+  abbrev pub stretchLines : (stretches : ℕ) → List ℕ
+  stretchLines n = linesTo linesOf stretch test (λ k. k) n
 
   -- where none of the next stretches passes
-  lines-still : (k n : ℕ) → ((l : ℕ) → k ≤ l → l < k + n → test l ≡ false) → linesTo (k + n) ≡ linesTo k
+  lines-still : (k n : ℕ) → ((l : ℕ) → k ≤ l → l < k + n → test l ≡ false) → stretchLines (k + n) ≡ stretchLines k
   lines-still k zero none = rw add-zero
   lines-still k (suc n) none =
       rw (← add-one n, ← add-assoc)
-      (lines-more (k + n) ∙ rw (none (k + n) (omega arith) (omega arith), append-nil) (lines-still k n (λ l h j. none l h (omega arith))))
+      (lines-more linesOf stretch test (λ k. k) (k + n) ∙ rw (none (k + n) (omega arith) (omega arith), append-nil) (lines-still k n (λ l h j. none l h (omega arith))))
 
   -- the line of stretch k, where none passes behind it up to the next
-  lines-on : (k next : ℕ) → k < next → ((l : ℕ) → k < l → l < next → test l ≡ false) → linesTo next ≡ linesTo k ++ lineIf (test k) k
+  lines-on : (k next : ℕ) → k < next → ((l : ℕ) → k < l → l < next → test l ≡ false) → stretchLines next ≡ stretchLines k ++ lineIf (test k) k
   lines-on k next h none =
       let e : next ≡ k + 1 + (next - (k + 1)) = omega arith in
-      ap linesTo e ∙ lines-still (k + 1) (next - (k + 1)) (λ l j n. none l (omega arith) (omega arith)) ∙ lines-more k
+      ap stretchLines e ∙ lines-still (k + 1) (next - (k + 1)) (λ l j n. none l (omega arith) (omega arith)) ∙ lines-more linesOf stretch test (λ k. k) k
 
 -- two sides
 module _ (g : Geometry) (dump rows : List ℕ) (g′ : Geometry) (dump′ rows′ : List ℕ) (m : ℕ) where
@@ -274,13 +256,13 @@ module _ (g : Geometry) (dump rows : List ℕ) (g′ : Geometry) (dump′ rows�
         a ≡ beginsIn (g .layout .«data») last (drop i rows) →
         b ≡ beginsIn (g′ .layout .«data») last (drop j rows′) →
         next ≡ max (k + 1) (min (min a b) last) →
-        Put (linesTo differs k) before at mid from →
+        Put (stretchLines differs k) before at mid from →
         Put (lineIf (stretchDiffers (byteBy g dump (row ∷ [])) (byteBy g′ dump′ (row′ ∷ [])) m k) k) mid from after to →
-        Put (linesTo differs next) before at after to
+        Put (stretchLines differs next) before at after to
     turn row row′ a b last next f f′ p q n one more =
         let e =
         lines-on differs k next (omega arith) (λ l h t. differs-not l last (omega arith) (omega arith) (omega arith))
-        ∙ ap (λ (x : Bool). linesTo differs k ++ lineIf x k) (differs-here row row′ f f′)
+        ∙ ap (λ (x : Bool). stretchLines differs k ++ lineIf x k) (differs-here row row′ f f′)
         in
         rw e (also one more)
 
@@ -289,4 +271,4 @@ module _ (g : Geometry) (dump rows : List ℕ) (g′ : Geometry) (dump′ rows�
     pub inside : k ≤ end
     pub one : Stands (g .layout .«data») rows k i
     pub other : Stands (g′ .layout .«data») rows′ k j
-    pub put : Put (linesTo differs k) before at after next
+    pub put : Put (stretchLines differs k) before at after next

@@ -1,10 +1,10 @@
-// Bytes compared, with zeros behind the end of each part. Bytes are counted block by block, with no way out inside of a block: so a processor does
-// many of them at a time.
+// Parts of bytes, and parts compared, with zeros behind the end of each. Bytes are counted block by block, with no way out inside of a block: so a
+// processor does many of them at a time.
 ghost use mathlib.Core.Bool.{not};
 ghost use mathlib.Core.Path.{_≡_};
 ghost use Prim.Native.Nat.{max, _+_, _≤_};
 ghost use lib.Dec.{eqb};
-ghost use lib.ListN.{length};
+ghost use lib.ListN.{length, take, drop};
 ghost use Rattle.page.specs.Search.{more};
 ghost use Rattle.compare.specs.Views.{byteOf};
 ghost use Rattle.compare.specs.Differences.{differIn};
@@ -12,6 +12,20 @@ ghost use Rattle.compare.specs.Parts.{block, differing, zeros};
 
 // The bytes of a block: no more than fit the count.
 const BLOCK: usize = 128;
+
+// So many bytes from a place on, as many of them as there are.
+pub(crate) fn part(bytes: &[u8], from: usize, n: usize) -> &[u8]
+    ensures { λ r. ⌜ now r ≡ take n (drop from (now (bytes .entry))) ⌝ }
+{
+    if bytes.len() <= from {
+        return &bytes[..0];
+    }
+    if bytes.len() - from <= n {
+        return &bytes[from..];
+    }
+    let end = from + n;
+    &bytes[from..end]
+}
 
 // One for two bytes that differ, and none for two that do not.
 fn step(x: u8, y: u8) -> u8

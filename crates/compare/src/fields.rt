@@ -1,8 +1,7 @@
 // The header fields that are compared, and the lines of those that differ.
 ghost use mathlib.Core.List.{map};
 ghost use mathlib.Core.Path.{_≡_};
-ghost use Prim.Native.Nat.{_<_, min};
-ghost use lib.ListN.{length, take, drop};
+ghost use Prim.Native.Nat.{_<_};
 ghost use Rattle.chunk.specs.Live.{passed};
 ghost use Rattle.text.specs.Put.{Put};
 ghost use Rattle.compare.specs.Differences.{field, fieldDiffers};
@@ -10,6 +9,7 @@ ghost use Rattle.compare.specs.Fields.{fields, placeOf, lengthOf};
 ghost use Rattle.compare.specs.Report.{linesOf, joined};
 ghost use Rattle.compare.specs.Lines.{fieldLines};
 use crate::bytes::differ;
+use crate::bytes::part;
 use page::fields::Fields;
 use text::put::put_line;
 
@@ -40,13 +40,6 @@ const PLACES: [usize; 18] = [
 
 const LENGTHS: [usize; 18] = [4, 4, 256, 4, 4, 4, 4, 4, 4, 4, 4, 160, 4, 8, 8, 8, 4, 4];
 
-// The lesser of two numbers.
-fn lesser(a: usize, b: usize) -> usize
-    ensures { λ r. ⌜ r ≡ min a b ⌝ }
-{
-    if a < b { a } else { b }
-}
-
 // Where field i begins.
 fn place(i: usize) -> usize
     requires { ⌜ i < fields ⌝ }
@@ -61,15 +54,6 @@ fn length(i: usize) -> usize
     ensures { λ r. ⌜ r ≡ lengthOf i ⌝ }
 {
     LENGTHS[i]
-}
-
-// So many bytes from a place on, as many of them as there are.
-fn part(bytes: &[u8], from: usize, n: usize) -> &[u8]
-    ensures { λ r. ⌜ now r ≡ take n (drop from (now (bytes .entry))) ⌝ }
-{
-    let a = lesser(from, bytes.len());
-    let e = a + lesser(n, bytes.len() - a);
-    &bytes[a..e]
 }
 
 // Puts the line of field i, if it differs.

@@ -3,13 +3,14 @@
 ghost use mathlib.Core.Path.{_≡_};
 ghost use mathlib.Core.List.{[], _∷_, map};
 ghost use Prim.Native.Nat.{min, max, _+_, _-_, _*_, _≤_, _<_, _^_};
-ghost use lib.ListN.{length, take, drop, getD};
+ghost use lib.ListN.{length, drop, getD};
 ghost use Rattle.text.specs.Put.{Put};
 ghost use Rattle.compare.specs.Differences.{stretch, stretchBytes, stretchesIn, stretchDiffers, stretchesTo};
 ghost use Rattle.compare.specs.Parts.{Shows, beginsIn, lineIf};
 ghost use Rattle.compare.specs.Report.{linesOf, joined};
 ghost use Rattle.compare.specs.Sides.{rowBegin, rowEnd, standing, byteBy, rowsShow};
 use crate::bytes::differ;
+use crate::bytes::part;
 use chunk::answer::Looked;
 use chunk::read::part_of;
 use chunk::record::base_of;
@@ -95,20 +96,6 @@ fn after(k: u64, a: u64, b: u64, end: u64) -> u64
     larger(k + 1, smaller(smaller(a, b), end))
 }
 
-// At most n bytes of a part from a place on.
-fn cut_out(bytes: &[u8], from: usize, n: usize) -> &[u8]
-    ensures { λ r. ⌜ now r ≡ take n (drop from (now (bytes .entry))) ⌝ }
-{
-    if bytes.len() <= from {
-        return &bytes[..0];
-    }
-    if bytes.len() - from <= n {
-        return &bytes[from..];
-    }
-    let end = from + n;
-    &bytes[from..end]
-}
-
 // The bytes that a row shows in stretch k, cut off at the size m; zeros are behind them.
 fn part_in(dump: &[u8], g: Geometry, row: u64, k: u64, m: u64) -> &[u8]
     requires { ⌜ stretchBytes * k ≤ m ⌝ }
@@ -122,7 +109,7 @@ fn part_in(dump: &[u8], g: Geometry, row: u64, k: u64, m: u64) -> &[u8]
     }
     let n = smaller(STRETCH, m - from);
     let bytes = part_of(dump, g, Looked::Copy(PageNumber(c.page), c.valid, 0, 0));
-    cut_out(bytes, (from - begin) as usize, n as usize)
+    part(bytes, (from - begin) as usize, n as usize)
 }
 
 // Puts the line of stretch k, cut off at the size m, if it differs by the row of each side.

@@ -17,13 +17,13 @@ returns-2 c =
     let b = s .before .before in
     let a = b .before .before .before .args in
     rw (← s .smaller .ensures)
-    (part-within (a .g) (a .dump .now) (a .row) (a .k) (s .smaller .result) (b .begin-of .result) (b .before .of .result) (c .before .part-of .result .now) (c .cut-out .result .now)
+    (part-within (a .g) (a .dump .now) (a .row) (a .k) (s .smaller .result) (b .begin-of .result) (b .before .of .result) (c .before .part-of .result .now) (c .part .result .now)
     (omega (arith, s .smaller .ensures))
     (b .before .of .ensures)
     (b .begin-of .ensures .0)
     (s .before .if1 .left)
     (c .before .part-of .ensures)
-    (c .cut-out .ensures))
+    (c .part .ensures))
 
 pub part-in-spec : {M : Type 1} → statement M
 part-in-spec =

@@ -5,8 +5,10 @@ use native.Mathlib.Nat.{le-antisymm}
 use native.Mathlib.Omega.{arith}
 use borrow.Author.Needs.{needs}
 use Rattle.text.proofs.Putting.{nothing, kept}
-use Rattle.compare.specs.Differences.{stretchBytes}
-use Rattle.compare.proofs.Stretching.{begins-below, stands-first, stands-at, stands-on, lines-none, turn, Sofar}
+use Rattle.compare.specs.Differences.{stretch, stretchBytes}
+use Rattle.compare.specs.Report.{linesOf}
+use Rattle.compare.proofs.Passing.{lines-none}
+use Rattle.compare.proofs.Stretching.{begins-below, stands-first, stands-at, stands-on, turn, Sofar}
 use Rattle.compare.proofs.stretches.put_stretches.Statement.{statement}
 use Rattle.compare.proofs.stretches.put_stretches.Tie as tie
 
@@ -23,7 +25,7 @@ loop-holds c =
       inside = omega arith;
       one = stands-first _ _ 0;
       other = stands-first _ _ 0;
-      put = rw (lines-none _) (nothing _ _ (omega (arith, s .good .1 .1 .1 .1 .1 .1 .1 .0)) (omega (arith, s .fits .at)));
+      put = rw (lines-none linesOf stretch _ _) (nothing _ _ (omega (arith, s .good .1 .1 .1 .1 .1 .1 .1 .0)) (omega (arith, s .fits .at)));
     }
 
 -- the stretch of a turn begins below the size

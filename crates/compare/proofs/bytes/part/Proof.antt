@@ -6,8 +6,8 @@ use native.Mathlib.Omega.{arith}
 use borrow.Author.Needs.{needs}
 use lib.ListN.{length, drop, length-drop, drop-of-length-le}
 use lib.Seq.{take-all, take-nil}
-use Rattle.compare.proofs.stretches.cut_out.Statement.{statement}
-use Rattle.compare.proofs.stretches.cut_out.Tie as tie
+use Rattle.compare.proofs.bytes.part.Statement.{statement}
+use Rattle.compare.proofs.bytes.part.Tie as tie
 
 returns : tie.Need-returns
 returns c = let a = c .before .before .args in rw (drop-of-length-le (a .bytes .now) (c .before .if1 .taken), take-nil (a .n))
@@ -22,8 +22,8 @@ returns-2 c =
 returns-3 : tie.Need-returns-3
 returns-3 c = rw add-sub-cancel-left
 
-pub cut-out-spec : {M : Type 1} → statement M
-cut-out-spec =
+pub part-spec : {M : Type 1} → statement M
+part-spec =
     tie.close
     (tie.spec
     (search needs)
