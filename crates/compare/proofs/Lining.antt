@@ -1,24 +1,31 @@
 -- The lines of what differs, piece by piece: what each piece comes to, and that the pieces are the lines of all differences.
-use Prim.Native.Nat.{ℕ, min}
+use Prim.Native.Nat.{ℕ, _≤_, _<_, min}
 use mathlib.Core.Bool.{Bool, true, false, not, _&&_}
 use mathlib.Core.List.{List, [], _∷_, _++_, map, append-nil, append-assoc}
 use mathlib.Core.Logic.{_≢_}
 use mathlib.Core.Option.{Option, none, some}
 use mathlib.Core.Path.{_≡_, refl, sym, ap, _∙_}
 use lib.Dec.{eqb}
-use lib.ListN.{length}
+use native.Mathlib.Omega.{arith}
+use lib.ListN.{length, length-append}
 use borrow.Author.Tests.{eq-eqb, ne-eqb}
 use Rattle.page.specs.Records.{recordAt}
 use Rattle.page.specs.declared.geometry.Geometry.{Geometry}
 use Rattle.page.proofs.Searching.{clash}
 use Rattle.chunk.specs.Live.{passed}
-use Rattle.text.specs.Lines.{lineOf}
+use Rattle.sort.specs.Packed.{valueOf}
+use Rattle.text.specs.Lines.{newline, fieldOf, lineOf}
+use Rattle.text.specs.Put.{most, counted, Put}
 use Rattle.text.specs.Quoted.{bytesOf}
+use Rattle.text.proofs.Putting.{nothing, also, measured}
 use Rattle.index.specs.Held.{fromList}
 use Rattle.index.specs.Walks.{sizeWalk}
 use Rattle.compare.specs.Differences.{Difference, Side, first, second, only, deleted, headless, field, sizes, stretch, onOne, lacks, fieldDiffers, fieldsOf, sizesOf, stretchesTo, stretchesOf, differencesOf}
 use Rattle.compare.specs.Fields.{fields, placeOf}
-use Rattle.compare.specs.Heads.{headBytes}
+use Rattle.compare.specs.Heads.{headBytes, headFrom, pageOf, sizeBy, sizeAs}
+use Rattle.compare.specs.declared.head.Head.{Head}
+use Rattle.compare.specs.declared.head.Size.{Size}
+use Rattle.compare.proofs.Heads.{head-page, head-size}
 use Rattle.compare.specs.Lines.{sideLines, headerLines, contentLines}
 use Rattle.compare.specs.Report.{linesOf, joined, sideNumber, objectLines}
 use Rattle.compare.specs.Sides.{firstHeader, pagesIn, rowsShow, sideOf}
@@ -162,3 +169,70 @@ module _ (g : Geometry) (dump L C : List ℕ) (g′ : Geometry) (dump′ L′ C�
   pub lines-first : length L ≢ 0 → length L′ ≡ 0 → between-sides ≡ sideLines (bytesOf "only=") true false
   unfolding differencesOf sideOf
   lines-first h e = rw (ne-eqb (length L) 0 h, eq-eqb (length L′) 0 e) (only-lines true false)
+
+  -- by the headers and the sizes that were found on both sides
+  pub found-both :
+      (one other : Head) (y z : Size) →
+      one ≡ headFrom (recordAt g dump) (g .layout .«data») 0 (map valueOf L) →
+      other ≡ headFrom (recordAt g′ dump′) (g′ .layout .«data») 0 (map valueOf L′) →
+      sizeAs y ≡ sizeBy (recordAt g dump) one →
+      sizeAs z ≡ sizeBy (recordAt g′ dump′) other →
+      length L ≢ 0 →
+      length L′ ≢ 0 →
+      between-sides ≡ headerLines g dump g′ dump′ (pageOf one) (pageOf other) ++ contentLines (rowsShow g dump C) (rowsShow g′ dump′ C′) (sizeAs y) (sizeAs z)
+  found-both one other y z e f a b h h′ =
+      let P = g .layout .«data» in
+      let P′ = g′ .layout .«data» in
+      let says = recordAt g dump in
+      let says′ = recordAt g′ dump′ in
+      let p : pageOf one ≡ headOn = ap pageOf e ∙ head-page says P (map valueOf L) 0 in
+      let q : pageOf other ≡ headOn′ = ap pageOf f ∙ head-page says′ P′ (map valueOf L′) 0 in
+      let s : sizeAs y ≡ sizeOn = a ∙ ap (sizeBy says) e ∙ sym (head-size says P (map valueOf L)) in
+      let t : sizeAs z ≡ sizeOn′ = b ∙ ap (sizeBy says′) f ∙ sym (head-size says′ P′ (map valueOf L′)) in
+      rw (p, q, s, t) (lines-both h h′)
+
+-- a line is not empty, so that lines without a byte are of no difference
+line-some : (key : List ℕ) (n : ℕ) → 0 < length (lineOf key n)
+unfolding lineOf
+line-some key n = rw (length-append (fieldOf key n) (newline ∷ [])) (omega arith)
+
+lines-some : (d : Difference) → 0 < length (linesOf d)
+unfolding linesOf
+lines-some (only s) = line-some (bytesOf "only=") (sideNumber s)
+lines-some (deleted s) = line-some (bytesOf "deleted=") (sideNumber s)
+lines-some (headless s) = line-some (bytesOf "noheader=") (sideNumber s)
+lines-some (field at) = line-some (bytesOf "field=") at
+lines-some (sizes a b) =
+    rw (length-append (lineOf (bytesOf "size=") a) (lineOf (bytesOf "size=") b)) (omega (arith, line-some (bytesOf "size=") a))
+lines-some (stretch k) = line-some (bytesOf "stretch=") k
+
+pub object-none : (o : ℕ) (ds : List Difference) → length (joined linesOf ds) ≡ 0 → objectLines o ds ≡ []
+unfolding objectLines joined
+object-none o [] e = refl
+object-none o (d ∷ ds) e = absurd (omega (arith, lines-some d, length-append (linesOf d) (joined linesOf ds)))
+
+pub object-some : (o : ℕ) (ds : List Difference) → length (joined linesOf ds) ≢ 0 → objectLines o ds ≡ lineOf (bytesOf "object=") o ++ joined linesOf ds
+unfolding objectLines joined
+object-some o [] h = absurd (h refl)
+object-some o (d ∷ ds) h = refl
+
+-- the lines of an object whose differences were measured: none, or the object's line and then theirs
+counted-none : (n : ℕ) → counted n ≡ 0 → n ≡ 0
+unfolding counted
+counted-none n e = omega arith
+
+counted-some : (n : ℕ) → counted n ≢ 0 → n ≢ 0
+unfolding counted
+counted-some n h e = h (omega arith)
+
+module _ (o : ℕ) (ds : List Difference) {after : List ℕ} {next : ℕ} (p : Put (joined linesOf ds) [] 0 after next) (bytes : List ℕ) (at : ℕ) where
+  pub nothing-put : next ≡ 0 → length bytes < most → at ≤ most → Put (objectLines o ds) bytes at (after ++ bytes) at
+  nothing-put e h k =
+      rw (measured p .0, object-none o ds (counted-none (length (joined linesOf ds)) (sym (measured p .1) ∙ e))) (nothing bytes at h k)
+
+  pub object-put :
+      {b₁ b₂ : List ℕ} {m r : ℕ} →
+      next ≢ 0 → Put (lineOf (bytesOf "object=") o) (after ++ bytes) at b₁ m → Put (joined linesOf ds) b₁ m b₂ r → Put (objectLines o ds) bytes at b₂ r
+  object-put h q s =
+      let q₁ = rw (measured p .0) at q in
+      rw (object-some o ds (counted-some (length (joined linesOf ds)) (λ e. h (measured p .1 ∙ e)))) (also q₁ s)

@@ -5,10 +5,18 @@ ghost use lib.ListN.{length, take, drop};
 ghost use Rattle.page.specs.Lengths.{openedOf};
 ghost use Rattle.text.specs.Put.{Put};
 ghost use Rattle.text.specs.Whole.{writtenBy, bytesBy};
-ghost use Rattle.compare.specs.Answers.{earlier, comparedBy, comparedOn, bytesLeft};
+ghost use Rattle.compare.specs.Answers.{earlierOf, bothOf, comparedBy, comparedOn, bytesLeft};
 ghost use Rattle.compare.specs.Lists.{runOf, nextOf, nextIn, sidesReport, listsReport};
+use crate::answer::Both;
+use crate::answer::Compared;
+use crate::object::put_object;
 use crate::runs::run_of;
+use page::geometry::Geometry;
+use page::geometry::Opened;
+use page::number::ObjectId;
+use page::refusal::Refusal;
 use sort::rows::key_of;
+use text::written::Written;
 
 // The object that comes next, and how many words at the front of each list are of it.
 pub struct Turn {
@@ -73,4 +81,223 @@ pub fn next(order: &[u64], order2: &[u64]) -> Turn
     ensures { λ r. ⌜ r ≡ nextIn (now (order .entry)) (now (order2 .entry)) ⌝ }
 {
     next_from(order, 0, order2, 0)
+}
+
+// Puts the reports of all objects, one after the other.
+fn put_reports(
+    dump: &[u8],
+    g: Geometry,
+    order: &[u64],
+    rows: &[u64],
+    dump2: &[u8],
+    g2: Geometry,
+    order2: &[u64],
+    rows2: &[u64],
+    buf: &mut [u8],
+    at: usize,
+) -> usize
+    ensures { λ r. ⌜ Put (listsReport g (now (dump .entry)) g2 (now (dump2 .entry)) (now (order .entry)) (now (rows .entry)) (now (order2 .entry)) (now (rows2 .entry))) (now (buf .entry)) at (now (buf .exit)) r ⌝ }
+{
+    let all = order.len() + order2.len();
+    let mut next = at;
+    let mut i: usize = 0;
+    let mut j: usize = 0;
+    while i + j < all {
+        let t = next_from(order, i, order2, j);
+        let e = i + t.first;
+        let f = j + t.second;
+        next = put_object(
+            ObjectId(t.object),
+            dump,
+            g,
+            &order[i..e],
+            part(rows, i, t.first),
+            dump2,
+            g2,
+            &order2[j..f],
+            part(rows2, j, t.second),
+            buf,
+            next,
+        );
+        i = e;
+        j = f;
+    }
+    next
+}
+
+// Writes the whole report, if it fits.
+fn write_reports(
+    dump: &[u8],
+    g: Geometry,
+    order: &[u64],
+    rows: &[u64],
+    dump2: &[u8],
+    g2: Geometry,
+    order2: &[u64],
+    rows2: &[u64],
+    buf: &mut [u8],
+) -> Written
+    ensures { λ r. ⌜ r ≡ writtenBy (length (now (buf .entry))) (listsReport g (now (dump .entry)) g2 (now (dump2 .entry)) (now (order .entry)) (now (rows .entry)) (now (order2 .entry)) (now (rows2 .entry))) ⌝ }
+    ensures { λ _. ⌜ now (buf .exit) ≡ bytesBy (listsReport g (now (dump .entry)) g2 (now (dump2 .entry)) (now (order .entry)) (now (rows .entry)) (now (order2 .entry)) (now (rows2 .entry))) (now (buf .entry)) ⌝ }
+{
+    let need = put_reports(
+        dump,
+        g,
+        order,
+        rows,
+        dump2,
+        g2,
+        order2,
+        rows2,
+        &mut buf[..0],
+        0,
+    );
+    if buf.len() < need {
+        return Written::Short(need);
+    }
+    put_reports(dump, g, order, rows, dump2, g2, order2, rows2, buf, 0);
+    Written::Bytes(need)
+}
+
+// Writes the report of object o, if it fits. An object that does not differ has no lines, and its bytes are gone over once.
+fn write_object(
+    o: ObjectId,
+    dump: &[u8],
+    g: Geometry,
+    order: &[u64],
+    rows: &[u64],
+    dump2: &[u8],
+    g2: Geometry,
+    order2: &[u64],
+    rows2: &[u64],
+    buf: &mut [u8],
+) -> Written
+    ensures { λ r. ⌜ r ≡ writtenBy (length (now (buf .entry))) (sidesReport g (now (dump .entry)) g2 (now (dump2 .entry)) (o .0) (now (order .entry)) (now (rows .entry)) (now (order2 .entry)) (now (rows2 .entry))) ⌝ }
+    ensures { λ _. ⌜ now (buf .exit) ≡ bytesBy (sidesReport g (now (dump .entry)) g2 (now (dump2 .entry)) (o .0) (now (order .entry)) (now (rows .entry)) (now (order2 .entry)) (now (rows2 .entry))) (now (buf .entry)) ⌝ }
+{
+    let need = put_object(
+        o,
+        dump,
+        g,
+        order,
+        rows,
+        dump2,
+        g2,
+        order2,
+        rows2,
+        &mut buf[..0],
+        0,
+    );
+    if buf.len() < need {
+        return Written::Short(need);
+    }
+    if need == 0 {
+        return Written::Bytes(0);
+    }
+    put_object(o, dump, g, order, rows, dump2, g2, order2, rows2, buf, 0);
+    Written::Bytes(need)
+}
+
+// The answer by what became of a text.
+fn compared_by(w: Written) -> Compared
+    ensures { λ r. ⌜ r ≡ comparedBy w ⌝ }
+{
+    match w {
+        Written::Bytes(n) => Compared::Written(n as u64),
+        Written::Short(n) => Compared::Refused(Refusal::ShortBuffer, n as u64),
+    }
+}
+
+// The refusal that comes first in the table's order.
+fn earlier(r: Refusal, s: Refusal) -> Refusal
+    ensures { λ t. ⌜ t ≡ earlierOf r s ⌝ }
+{
+    if s.number() < r.number() {
+        return s;
+    }
+    r
+}
+
+// That two dumps are accepted, or by what they are refused.
+fn both(g: Geometry, bytes: usize, g2: Geometry, bytes2: usize) -> Both
+    ensures { λ r. ⌜ r ≡ bothOf (openedOf g bytes) (openedOf g2 bytes2) ⌝ }
+{
+    let one = g.opened(bytes);
+    let other = g2.opened(bytes2);
+    match one {
+        Opened::Pages(_) => match other {
+            Opened::Pages(_) => Both::Accepted,
+            Opened::Refused(s) => Both::Refused(s),
+        },
+        Opened::Refused(r) => match other {
+            Opened::Pages(_) => Both::Refused(r),
+            Opened::Refused(s) => Both::Refused(earlier(r, s)),
+        },
+    }
+}
+
+// Writes the whole report of two dumps by the words that they were prepared to, if it fits.
+pub fn compare(
+    dump: &[u8],
+    g: Geometry,
+    order: &[u64],
+    rows: &[u64],
+    dump2: &[u8],
+    g2: Geometry,
+    order2: &[u64],
+    rows2: &[u64],
+    buf: &mut [u8],
+) -> Compared
+    ensures { λ r. ⌜ r ≡ comparedOn g (length (now (dump .entry))) g2 (length (now (dump2 .entry))) (listsReport g (now (dump .entry)) g2 (now (dump2 .entry)) (now (order .entry)) (now (rows .entry)) (now (order2 .entry)) (now (rows2 .entry))) (length (now (buf .entry))) ⌝ }
+    ensures { λ _. ⌜ now (buf .exit) ≡ bytesLeft g (length (now (dump .entry))) g2 (length (now (dump2 .entry))) (listsReport g (now (dump .entry)) g2 (now (dump2 .entry)) (now (order .entry)) (now (rows .entry)) (now (order2 .entry)) (now (rows2 .entry))) (now (buf .entry)) ⌝ }
+{
+    let b = both(g, dump.len(), g2, dump2.len());
+    match b {
+        Both::Refused(r) => Compared::Refused(r, 0),
+        Both::Accepted => compared_by(write_reports(
+            dump,
+            g,
+            order,
+            rows,
+            dump2,
+            g2,
+            order2,
+            rows2,
+            buf,
+        )),
+    }
+}
+
+// Writes the report of object o by its words on each side, if it fits.
+pub fn compare_object(
+    o: ObjectId,
+    dump: &[u8],
+    g: Geometry,
+    order: &[u64],
+    rows: &[u64],
+    dump2: &[u8],
+    g2: Geometry,
+    order2: &[u64],
+    rows2: &[u64],
+    buf: &mut [u8],
+) -> Compared
+    ensures { λ r. ⌜ r ≡ comparedOn g (length (now (dump .entry))) g2 (length (now (dump2 .entry))) (sidesReport g (now (dump .entry)) g2 (now (dump2 .entry)) (o .0) (now (order .entry)) (now (rows .entry)) (now (order2 .entry)) (now (rows2 .entry))) (length (now (buf .entry))) ⌝ }
+    ensures { λ _. ⌜ now (buf .exit) ≡ bytesLeft g (length (now (dump .entry))) g2 (length (now (dump2 .entry))) (sidesReport g (now (dump .entry)) g2 (now (dump2 .entry)) (o .0) (now (order .entry)) (now (rows .entry)) (now (order2 .entry)) (now (rows2 .entry))) (now (buf .entry)) ⌝ }
+{
+    let b = both(g, dump.len(), g2, dump2.len());
+    match b {
+        Both::Refused(r) => Compared::Refused(r, 0),
+        Both::Accepted => compared_by(write_object(
+            o,
+            dump,
+            g,
+            order,
+            rows,
+            dump2,
+            g2,
+            order2,
+            rows2,
+            buf,
+        )),
+    }
 }
