@@ -1,5 +1,5 @@
 -- The lines of what differs, piece by piece: what each piece comes to, and that the pieces are the lines of all differences.
-use Prim.Native.Nat.{ℕ, _≤_, _<_, min}
+use Prim.Native.Nat.{ℕ, _≤_, _<_, min, zero-le}
 use mathlib.Core.Bool.{Bool, true, false, not, _&&_}
 use mathlib.Core.List.{List, [], _∷_, _++_, map, append-nil, append-assoc}
 use mathlib.Core.Logic.{_≢_}
@@ -8,7 +8,7 @@ use mathlib.Core.Path.{_≡_, refl, sym, ap, _∙_}
 use lib.Dec.{eqb}
 use native.Mathlib.Omega.{arith}
 use lib.ListN.{length, length-append}
-use borrow.Author.Tests.{eq-eqb, ne-eqb}
+use borrow.Author.Tests.{eq-eqb, ne-eqb, le-ltb}
 use Rattle.page.specs.Records.{recordAt}
 use Rattle.page.specs.declared.geometry.Geometry.{Geometry}
 use Rattle.page.proofs.Searching.{clash}
@@ -17,6 +17,8 @@ use Rattle.sort.specs.Packed.{valueOf}
 use Rattle.text.specs.Lines.{newline, fieldOf, lineOf}
 use Rattle.text.specs.Put.{most, counted, Put}
 use Rattle.text.specs.Quoted.{bytesOf}
+use Rattle.text.specs.Whole.{writtenBy, bytesBy}
+use Rattle.text.specs.declared.written.Written.the-variants.{Bytes}
 use Rattle.text.proofs.Putting.{nothing, also, measured}
 use Rattle.index.specs.Held.{fromList}
 use Rattle.index.specs.Walks.{sizeWalk}
@@ -236,3 +238,15 @@ module _ (o : ℕ) (ds : List Difference) {after : List ℕ} {next : ℕ} (p : P
   object-put h q s =
       let q₁ = rw (measured p .0) at q in
       rw (object-some o ds (counted-some (length (joined linesOf ds)) (λ e. h (measured p .1 ∙ e)))) (also q₁ s)
+
+empty : (t : List ℕ) → length t ≡ 0 → t ≡ []
+empty [] e = refl
+empty (x ∷ t) e = absurd (omega arith)
+
+-- a text that was measured and has no byte is written, whatever the bytes
+pub written-none : {text after : List ℕ} {next : ℕ} (bytes : List ℕ) → Put text [] 0 after next → next ≡ 0
+    → (Bytes 0 ≡ writtenBy (length bytes) text) × (after ++ bytes ≡ bytesBy text bytes)
+unfolding writtenBy bytesBy
+written-none {text} {after} bytes p e =
+    let z : text ≡ [] = empty text (counted-none (length text) (sym (measured p .1) ∙ e)) in
+    (rw (z, le-ltb (length bytes) 0 zero-le), rw (measured p .0, z, le-ltb (length bytes) 0 zero-le))

@@ -4,6 +4,7 @@ use mathlib.Core.Bool.{Bool, true, false, _&&_}
 use mathlib.Core.List.{List, [], _∷_, _++_, append-nil, append-assoc}
 use mathlib.Core.Logic.{_⊎_, inl, inr, ⊎-elim}
 use mathlib.Core.Path.{_≡_, refl, sym, ap, _∙_}
+use native.Mathlib.Nat.{add-sub-cancel-left}
 use native.Mathlib.Omega.{arith}
 use native.Mathlib.Numerals.{add-one}
 use borrow.Author.Tests.{eq-eqb, ne-eqb, eqb-true}
@@ -14,10 +15,11 @@ use Rattle.page.specs.Choice.{pick}
 use Rattle.page.specs.declared.geometry.Geometry.{Geometry}
 use Rattle.page.proofs.Searching.{by-test}
 use Rattle.sort.specs.Packed.{keyOf}
-use Rattle.text.specs.Put.{Put}
+use Rattle.text.specs.Put.{most, Put}
 use Rattle.text.proofs.Order.{le-or-lt}
 use Rattle.text.proofs.Putting.{nothing, also}
-use Rattle.compare.specs.Lists.{runOf, nextOf, sidesReport, reportsTo, listsReport}
+use Rattle.compare.specs.Lists.{runOf, nextOf, nextIn, sidesReport, reportsTo, listsReport}
+use Rattle.compare.specs.declared.whole.Turn.{Turn}
 
 -- no more words are of an object than there are
 pub run-most : (o : ℕ) (L : List ℕ) → runOf o L ≤ length L
@@ -99,3 +101,91 @@ module _ (g : Geometry) (dump : List ℕ) (g′ : Geometry) (dump′ : List ℕ)
       pub steps : ℕ
       pub enough : (length L - i) + (length L′ - j) ≤ steps
       pub rest : listsReport g dump g′ dump′ L C L′ C′ ≡ done ++ reportsTo g dump g′ dump′ steps (drop i L) (drop i C) (drop j L′) (drop j C′)
+
+    -- at the begin
+    pub under-start : (before : List ℕ) (at : ℕ) → length before < most → at ≤ most → Underway before at before at 0 0
+    unfolding listsReport
+    under-start before at h k = record {
+      first = zero-le;
+      second = zero-le;
+      done = [];
+      puts = nothing before at h k;
+      steps = length L + length L′;
+      enough = omega arith;
+      rest = refl;
+    }
+
+    module _ {before after : List ℕ} {at next i j : ℕ} (u : Underway before at after next i j) where
+      abbrev o : ℕ
+      o = nextOf (drop i L) (drop j L′)
+
+      abbrev a : ℕ
+      a = runOf o (drop i L)
+
+      abbrev b : ℕ
+      b = runOf o (drop j L′)
+
+      pub few : i + a ≤ length L
+      few = omega (arith, run-most o (drop i L), length-drop i L, u .first)
+
+      pub few′ : j + b ≤ length L′
+      few′ = omega (arith, run-most o (drop j L′), length-drop j L′, u .second)
+
+      left : i + j < length L + length L′ → 0 < length (drop i L) + length (drop j L′)
+      left h = omega (arith, length-drop i L, length-drop j L′, u .first, u .second)
+
+      -- each turn takes some words
+      pub onward : i + j < length L + length L′ → i + j < (i + a) + (j + b)
+      onward h = omega (arith, next-some (drop i L) (drop j L′) (left h))
+
+      -- one object more
+      pub under-turn :
+          i + j < length L + length L′ → {after′ : List ℕ} {next′ : ℕ} →
+          Put (sidesReport g dump g′ dump′ o (take a (drop i L)) (take a (drop i C)) (take b (drop j L′)) (take b (drop j C′))) after next after′ next′ →
+          Underway before at after′ next′ (i + a) (j + b)
+      under-turn h {after′} {next′} p = go (u .steps) (u .enough) (u .rest)
+        where
+          report : List ℕ
+          report = sidesReport g dump g′ dump′ o (take a (drop i L)) (take a (drop i C)) (take b (drop j L′)) (take b (drop j C′))
+
+          go :
+              (k : ℕ) → (length L - i) + (length L′ - j) ≤ k →
+              listsReport g dump g′ dump′ L C L′ C′ ≡ u .done ++ reportsTo g dump g′ dump′ k (drop i L) (drop i C) (drop j L′) (drop j C′) →
+              Underway before at after′ next′ (i + a) (j + b)
+          go zero e r = absurd (omega (arith, u .first, u .second))
+          go (suc k) e r = record {
+            first = few;
+            second = few′;
+            done = u .done ++ report;
+            puts = also (u .puts) p;
+            steps = k;
+            enough = omega (arith, onward h, few, few′);
+            rest =
+                r
+                ∙ ap (λ (x : List ℕ). u .done ++ x) (reports-turn k (drop i L) (drop i C) (drop j L′) (drop j C′) (left h))
+                ∙ rw (drop-drop, drop-drop, drop-drop, drop-drop) (sym (append-assoc (u .done) report _));
+          }
+
+      -- at the end all is put
+      pub under-end : length L + length L′ ≤ i + j → Put (listsReport g dump g′ dump′ L C L′ C′) before at after next
+      under-end h =
+          let e = reports-none (u .steps) (drop i L) (drop i C) (drop j L′) (drop j C′) (omega (arith, length-drop i L, length-drop j L′)) in
+          rw (u .rest, e, append-nil) (u .puts)
+
+      -- by what the call that looked for it answered, and the parts that were lent
+      pub turn-by :
+          (t : Turn) → t ≡ nextIn (drop i L) (drop j L′) → i + j < length L + length L′ → {after′ : List ℕ} {next′ : ℕ} (N N′ : List ℕ) →
+          N ≡ take (t .first) (drop i C) →
+          N′ ≡ take (t .second) (drop j C′) →
+          Put (sidesReport g dump g′ dump′ (t .object) (take ((i + t .first) - i) (drop i L)) N (take ((j + t .second) - j) (drop j L′)) N′) after next after′ next′ →
+          Underway before at after′ next′ (i + t .first) (j + t .second)
+      turn-by t e h N N′ x y p =
+          let p₁ = rw (x, y, add-sub-cancel-left i (t .first), add-sub-cancel-left j (t .second)) at p in
+          let p₂ = rw e at p₁ in
+          rw e (under-turn h p₂)
+
+      pub turn-few : (t : Turn) → t ≡ nextIn (drop i L) (drop j L′) → (i + t .first ≤ length L) × (j + t .second ≤ length L′)
+      turn-few t e = rw e (few, few′)
+
+      pub turn-onward : (t : Turn) → t ≡ nextIn (drop i L) (drop j L′) → i + j < length L + length L′ → i + j < (i + t .first) + (j + t .second)
+      turn-onward t e h = rw e (onward h)
