@@ -1,3 +1,4 @@
 pub mod Joining
 pub mod Ordering
 pub mod OrderWords
+pub mod Ranking
