@@ -2,3 +2,4 @@ pub mod Joining
 pub mod Ordering
 pub mod OrderWords
 pub mod Ranking
+pub mod Preparing
