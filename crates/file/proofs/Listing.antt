@@ -1,14 +1,14 @@
 -- A walk along the pages of a list of words, in place of a chain: word after word, and at the last one it is at its end.
-use Prim.Native.Nat.{ℕ, _+_, _≤_, _<_, max, zero-le}
+use Prim.Native.Nat.{ℕ, suc, _+_, _≤_, _<_, max, zero-le}
 use mathlib.Core.Bool.{Bool, true, false}
-use mathlib.Core.List.{List, map}
+use mathlib.Core.List.{List, [], _∷_, map}
 use mathlib.Core.Path.{_≡_, refl, sym, ap, _∙_}
 use native.Mathlib.Numerals.{add-one}
 use native.Mathlib.Omega.{arith}
-use lib.Dec.{ltb}
+use lib.Dec.{eqb, ltb}
 use lib.ListN.{length, drop, getD, drop-of-length-le, length-map}
 use lib.Seq.{drop-cons}
-use borrow.Author.Tests.{ne-eqb, ltb-true, ltb-false}
+use borrow.Author.Tests.{ne-eqb, eqb-true, eqb-false, ltb-true, ltb-false}
 use Rattle.page.specs.Lengths.{openedOf}
 use Rattle.page.specs.Numbers.{pageValues}
 use Rattle.page.specs.Records.{isHeader, isData, recordAt}
@@ -24,19 +24,24 @@ use Rattle.page.proofs.Within.{data-within, page-beyond}
 use Rattle.sort.specs.Packed.{valueOf}
 use Rattle.sort.specs.Room.{inRoom}
 use Rattle.chunk.specs.Lookups.{fileAt}
+use Rattle.chunk.specs.Records.{chunkOf}
 use Rattle.chunk.specs.Sizes.{endOf}
 use Rattle.chunk.specs.declared.answer.Sized.the-variants as sized
+use Rattle.chunk.specs.declared.cut.Cut.{Cut}
 use Rattle.chunk.specs.declared.cut.Cut.the-variants.{Nowhere}
+use Rattle.index.specs.Ahead.{stillNewest}
 use Rattle.index.specs.Chains.{Trace, clean, rec}
 use Rattle.index.specs.Held.{fromList}
-use Rattle.index.specs.Walks.{recordsIn, sizeFile, sizeAt, sizeReached, metWith, reach, sizeWalk}
+use Rattle.index.specs.Walks.{recordsIn, cutBy, sizeFile, sizeAt, sizeReached, metWith, reach, sizeWalk}
 use Rattle.index.specs.declared.walks.Met.the-variants.{Nothing}
 use Rattle.index.proofs.Chain.Turns.{reach-nothing, reach-headless, reach-here, reach-on}
 use Rattle.index.proofs.Walk.Visits.{length-list}
 use Rattle.file.specs.Along.{copiesAlong, metAlong}
 use Rattle.file.specs.Copies.{packedCopy, roomFor, met}
+use Rattle.file.specs.Shows.{isMet}
 use Rattle.file.specs.Table.{chunksIn}
-use Rattle.file.proofs.Newest.{newestOf}
+use Rattle.file.specs.declared.copy.Copy.{Copy}
+use Rattle.file.proofs.Newest.{over, over-none, over-behind, over-same, over-before, newestOf}
 use Rattle.file.proofs.Shown.{met-shown}
 
 -- a page that is neither a header nor data is no record
@@ -120,3 +125,37 @@ unfolding copiesAlong metAlong
 along-gathered says P size pages chunks n r w v e a b d =
     let same = met-shown says P chunks size (fromList pages) true Nowhere in
     (b ∙ rw (same, e), d ∙ rw (a, same, e))
+
+-- a list of pages shows no more copies than it has pages: no more are met, and of those the newest are shown
+over-few : (x : Copy) (L : List Copy) → length (over x L) ≤ suc (length L)
+over-few x [] = rw (over-none x) (omega arith)
+over-few x (y ∷ L) =
+    by-test (ltb (y .chunk) (x .chunk)) _
+    (λ t. rw (over-behind x y L (ltb-true _ _ t)) (omega (arith, over-few x L)))
+    (λ t.
+    by-test (eqb (y .chunk) (x .chunk)) _
+    (λ u. rw (over-same x y L (eqb-true _ _ u)) (omega arith))
+    (λ u.
+    let z : y .chunk ≡ x .chunk → ⊥ = eqb-false _ _ u in
+    let k : x .chunk ≤ y .chunk = ltb-false _ _ t in
+    rw (over-before x y L (omega arith)) (omega arith)))
+
+newest-few : (L : List Copy) → length (newestOf L) ≤ length L
+unfolding newestOf
+newest-few [] = omega arith
+newest-few (x ∷ L) = omega (arith, over-few x (newestOf L), newest-few L)
+
+module _ (says : ℕ → Record) (P size : ℕ) where
+  met-few : (m : ℕ) (newest : Bool) (cut : Cut) (pages : List ℕ) → length (met says P m size newest cut (fromList pages)) ≤ length pages
+  unfolding met fromList
+  met-few m newest cut [] = omega arith
+  met-few m newest cut (q ∷ pages) =
+      let on = met-few m (stillNewest says newest q) (cutBy says newest q cut) pages in
+      by-test (isMet P m cut (chunkOf (says q))) _ (λ h. rw h (omega arith)) (λ h. rw h (omega arith))
+
+  pub along-few : (pages : List ℕ) → length (copiesAlong says P size pages) ≤ length pages
+  unfolding copiesAlong
+  along-few pages =
+      let m = chunksIn P size in
+      rw (← met-shown says P m size (fromList pages) true Nowhere)
+      (omega (arith, newest-few (met says P m size true Nowhere (fromList pages)), met-few m true Nowhere pages))

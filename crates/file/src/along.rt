@@ -15,7 +15,7 @@ ghost use Rattle.chunk.specs.declared.cut.Cut.the-variants.{Nowhere};
 ghost use Rattle.index.specs.Held.{fromList};
 ghost use Rattle.index.specs.Walks.{sizeWalk};
 ghost use Rattle.file.specs.Along.{copiesAlong, metAlong};
-ghost use Rattle.file.specs.Copies.{copiesTo, packedCopy, chunkValues, validValues, putFrom, roomFor, met};
+ghost use Rattle.file.specs.Copies.{packedCopy, chunkValues, putFrom, roomFor, met};
 use crate::copies::gather;
 use crate::copies::meet;
 use crate::table::chunks_in;

@@ -1,7 +1,6 @@
 -- The loop's invariant is `Sizing`: the size by the whole list is that by what is reached from the next word on.
 use Prim.Native.Nat.{_-_}
-use mathlib.Core.Path.{_≡_, sym, _∙_}
-use native.Mathlib.Omega.{arith}
+use mathlib.Core.Path.{sym, _∙_}
 use lib.ListN.{length}
 use borrow.Author.Needs.{needs}
 use Rattle.page.specs.Records.{recordAt}

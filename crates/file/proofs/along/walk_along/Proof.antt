@@ -1,7 +1,7 @@
 -- The loop's invariant: what is put so far, and what is met from the next word on, are all copies of the list; and the copies met and the words still
 -- ahead are no more than there are words.
 use Prim.Native.Nat.{_-_, _≤_}
-use mathlib.Core.Path.{_≡_, refl, sym, ap, _∙_}
+use mathlib.Core.Path.{sym, _∙_}
 use native.Mathlib.Omega.{arith}
 use lib.ListN.{length}
 use borrow.Author.Needs.{needs}
