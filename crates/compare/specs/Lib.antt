@@ -5,4 +5,5 @@ pub mod Report
 pub mod Sides
 pub mod Lists
 pub mod Prepared
+pub mod Rows
 pub mod Answers
