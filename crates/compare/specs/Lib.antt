@@ -6,4 +6,5 @@ pub mod Sides
 pub mod Lists
 pub mod Prepared
 pub mod Ranks
+pub mod Rows
 pub mod Answers

@@ -1,4 +1,6 @@
 // Two dumps compared: what differs, object by object.
 pub mod answer;
-pub mod order;
+mod order;
 pub mod prepare;
+mod rows;
+mod runs;
