@@ -7,5 +7,7 @@ pub mod Sides
 pub mod Heads
 pub mod Lists
 pub mod Prepared
+pub mod Ranks
+pub mod Rows
 pub mod Answers
 pub mod Parts

@@ -8,3 +8,7 @@ pub mod prepare;
 mod runs;
 mod stretches;
 pub mod whole;
+mod order;
+pub mod prepare;
+mod rows;
+mod runs;

@@ -1,0 +1,106 @@
+-- What each of a list gives, one behind the other: which numbers are there, and when they ascend.
+use Prim.Native.Nat.{ℕ, suc, _*_, _≤_, _<_}
+use mathlib.Core.List.{List, [], _∷_, _++_, map, map-append}
+use mathlib.Core.Logic.{_⊎_, inl, inr, ⊎-elim}
+use mathlib.Core.Path.{_≡_, refl, sym, ap, ap₂, _∙_}
+use native.Mathlib.Nat.{mul-le-mul-right, suc-mul}
+use native.Mathlib.Omega.{arith}
+use Rattle.sort.proofs.Ascending.{In, Ascends}
+use Rattle.compare.specs.Report.{joined}
+
+-- ---- two lists
+
+-- a member of one of two lists is one of both together, and nothing else is
+pub in-front : (x : ℕ) (L M : List ℕ) → In x L → In x (L ++ M)
+in-front x [] M i = absurd i
+in-front x (y ∷ L) M (inl e) = inl e
+in-front x (y ∷ L) M (inr i) = inr (in-front x L M i)
+
+pub in-behind : (x : ℕ) (L M : List ℕ) → In x M → In x (L ++ M)
+in-behind x [] M i = i
+in-behind x (y ∷ L) M i = inr (in-behind x L M i)
+
+pub in-either : (x : ℕ) (L M : List ℕ) → In x (L ++ M) → In x L ⊎ In x M
+in-either x [] M i = inr i
+in-either x (y ∷ L) M (inl e) = inl (inl e)
+in-either x (y ∷ L) M (inr i) = ⊎-elim (λ k. inl (inr k)) (λ k. inr k) (in-either x L M i)
+
+-- a list that ascends from a number ascends from a lower one
+pub ascends-lower : (a b : ℕ) (L : List ℕ) → a ≤ b → Ascends b L → Ascends a L
+ascends-lower a b [] h s = tt
+ascends-lower a b (x ∷ L) h s = (omega (arith, s .0), s .1)
+
+-- two lists that ascend, the second from where the first ends
+pub ascends-on : (a b : ℕ) (L M : List ℕ) → a ≤ b → Ascends a L → ((x : ℕ) → In x L → x < b) → Ascends b M → Ascends a (L ++ M)
+ascends-on a b [] M h s f t = ascends-lower a b M h t
+ascends-on a b (x ∷ L) M h s f t = (s .0, ascends-on (suc x) b L M (f x (inl refl)) (s .1) (λ y i. f y (inr i)) t)
+
+-- ---- the numbers that a function makes of a list
+
+-- a number that it makes of a member
+pub record Made (f : ℕ → ℕ) (L : List ℕ) (y : ℕ) : Type 0 where
+  pub from : ℕ
+  pub there : In from L
+  pub made : f from ≡ y
+
+module _ (f : ℕ → ℕ) where
+  pub in-map : (x : ℕ) (L : List ℕ) → In x L → In (f x) (map f L)
+  in-map x [] i = absurd i
+  in-map x (y ∷ L) (inl e) = inl (ap f e)
+  in-map x (y ∷ L) (inr i) = inr (in-map x L i)
+
+  pub map-in : (y : ℕ) (L : List ℕ) → In y (map f L) → Made f L y
+  map-in y [] i = absurd i
+  map-in y (x ∷ L) (inl e) = record { from = x; there = inl refl; made = sym e }
+  map-in y (x ∷ L) (inr i) = let m = map-in y L i in record { from = m .from; there = inr (m .there); made = m .made }
+
+  -- what another makes of those
+  pub map-made : (g h : ℕ → ℕ) (L : List ℕ) → ((x : ℕ) → In x L → g (f x) ≡ h x) → map g (map f L) ≡ map h L
+  map-made g h [] e = refl
+  map-made g h (x ∷ L) e =
+      ap₂ {C = List ℕ} (λ u v. u ∷ v) (e x (inl refl)) (map-made g h L (λ y i. e y (inr i)))
+
+-- ---- what each of a list gives
+
+-- a number that one of a list gives
+pub record Given (f : ℕ → List ℕ) (L : List ℕ) (y : ℕ) : Type 0 where
+  pub by : ℕ
+  pub there : In by L
+  pub gives : In y (f by)
+
+module _ (f : ℕ → List ℕ) where
+  pub in-joined : (x y : ℕ) (L : List ℕ) → In x L → In y (f x) → In y (joined f L)
+  unfolding joined
+  in-joined x y [] i j = absurd i
+  in-joined x y (z ∷ L) (inl e) j = in-front y (f z) (joined f L) (rw e at j)
+  in-joined x y (z ∷ L) (inr i) j = in-behind y (f z) (joined f L) (in-joined x y L i j)
+
+  pub joined-in : (y : ℕ) (L : List ℕ) → In y (joined f L) → Given f L y
+  unfolding joined
+  joined-in y [] i = absurd i
+  joined-in y (x ∷ L) i =
+      ⊎-elim
+      (λ k. record { by = x; there = inl refl; gives = k })
+      (λ k. let m = joined-in y L k in record { by = m .by; there = inr (m .there); gives = m .gives })
+      (in-either y (f x) (joined f L) i)
+
+  -- the numbers made of all of them
+  pub joined-map : (g : ℕ → ℕ) (h : ℕ → List ℕ) (L : List ℕ) → ((x : ℕ) → In x L → map g (f x) ≡ h x) → map g (joined f L) ≡ joined h L
+  unfolding joined
+  joined-map g h [] e = refl
+  joined-map g h (x ∷ L) e =
+      map-append g (f x) (joined f L)
+      ∙ ap₂ {C = List ℕ} (λ u v. u ++ v) (e x (inl refl)) (joined-map g h L (λ y i. e y (inr i)))
+
+  -- where each gives numbers of its own range of so many, ascending, all ascend
+  pub joined-ascends :
+      (width b : ℕ) (L : List ℕ) → Ascends b L → ((x : ℕ) → In x L → Ascends (x * width) (f x)) →
+      ((x y : ℕ) → In x L → In y (f x) → y < suc x * width) → Ascends (b * width) (joined f L)
+  unfolding joined
+  joined-ascends width b [] s g h = tt
+  joined-ascends width b (x ∷ L) s g h =
+      let up : b * width ≤ x * width = mul-le-mul-right width (s .0) in
+      ascends-on (b * width) (suc x * width) (f x) (joined f L) (omega (arith, up, suc-mul x width))
+      (ascends-lower (b * width) (x * width) (f x) up (g x (inl refl)))
+      (λ y i. h x y (inl refl) i)
+      (joined-ascends width (suc x) L (s .1) (λ y i. g y (inr i)) (λ y z i. h y z (inr i)))

@@ -1,0 +1,61 @@
+-- Runs of one object in a list of words. In the words of all objects each object's are one run: every word of an object has it as its key, and the
+-- objects behind it are others.
+use Prim.Native.Nat.{ℕ, suc, _+_, _≤_, _<_}
+use mathlib.Core.List.{List, [], _∷_, _++_, map}
+use mathlib.Core.Logic.{inl, inr}
+use mathlib.Core.Path.{_≡_, refl, sym, ap, _∙_}
+use native.Mathlib.Numerals.{add-one}
+use native.Mathlib.Omega.{arith}
+use lib.ListN.{length, drop, getD, drop-of-length-le}
+use lib.Seq.{drop-cons}
+use borrow.Author.Tests.{eq-eqb, ne-eqb}
+use Rattle.sort.specs.Packed.{wordValues, packed, keyOf}
+use Rattle.sort.proofs.Ascending.{In}
+use Rattle.sort.proofs.Packing.{packed-key}
+use Rattle.compare.specs.Lists.{runOf}
+use Rattle.compare.specs.Report.{joined}
+
+module _ (o : ℕ) where
+  -- a word of the object, another, and none
+  pub run-own : (x : ℕ) (rest : List ℕ) → keyOf x ≡ o → runOf o (x ∷ rest) ≡ suc (runOf o rest)
+  unfolding runOf
+  run-own x rest e = rw (eq-eqb (keyOf x) o e)
+
+  pub run-other : (x : ℕ) (rest : List ℕ) → (keyOf x ≡ o → ⊥) → runOf o (x ∷ rest) ≡ 0
+  unfolding runOf
+  run-other x rest h = rw (ne-eqb (keyOf x) o h)
+
+  pub run-none : runOf o [] ≡ 0
+  unfolding runOf
+  run-none = refl
+
+  -- from word i of a list on
+  module _ (list : List ℕ) (i : ℕ) where
+    pub run-on : i < length list → keyOf (getD list i 0) ≡ o → runOf o (drop i list) ≡ suc (runOf o (drop (i + 1) list))
+    run-on h e = rw (drop-cons list i 0 h, add-one i) (run-own (getD list i 0) (drop (suc i) list) e)
+
+    pub run-off : i < length list → (keyOf (getD list i 0) ≡ o → ⊥) → runOf o (drop i list) ≡ 0
+    run-off h e = rw (drop-cons list i 0 h) (run-other (getD list i 0) (drop (suc i) list) e)
+
+    pub run-end : length list ≤ i → runOf o (drop i list) ≡ 0
+    run-end h = rw (drop-of-length-le list {i = i} h) run-none
+
+  -- the words of its pages, and what comes behind them
+  pub run-words : (L M : List ℕ) → ((x : ℕ) → In x L → x < wordValues) → runOf o (map (packed o) L ++ M) ≡ length L + runOf o M
+  run-words [] M h = omega arith
+  run-words (p ∷ L) M h =
+      run-own (packed o p) (map (packed o) L ++ M) (packed-key o p (h p (inl refl)))
+      ∙ ap suc (run-words L M (λ x i. h x (inr i)))
+      ∙ omega arith
+
+  -- the words of another object
+  run-past : (x : ℕ) (L M : List ℕ) → ((p : ℕ) → In p L → p < wordValues) → (x ≡ o → ⊥) → runOf o M ≡ 0 → runOf o (map (packed x) L ++ M) ≡ 0
+  run-past x [] M h z e = e
+  run-past x (p ∷ L) M h z e = run-other (packed x p) (map (packed x) L ++ M) (λ k. z (sym (packed-key x p (h p (inl refl))) ∙ k))
+
+  pub run-others :
+      (pages : ℕ → List ℕ) → ((x p : ℕ) → In p (pages x) → p < wordValues) → (ids : List ℕ) → ((x : ℕ) → In x ids → x ≡ o → ⊥) →
+      runOf o (joined (λ x. map (packed x) (pages x)) ids) ≡ 0
+  unfolding joined
+  run-others pages h [] z = run-none
+  run-others pages h (x ∷ ids) z = run-past x (pages x) _ (h x) (z x (inl refl)) (run-others pages h ids (λ y i. z y (inr i)))
