@@ -1,5 +1,7 @@
 -- numbers and lists
 pub mod Passing
+pub mod Ids
 -- what a report means, over the definitions alone
 pub mod Meaning
 pub mod Same
+pub mod Exchanged
