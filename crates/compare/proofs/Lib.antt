@@ -5,3 +5,4 @@ pub mod Ids
 pub mod Meaning
 pub mod Same
 pub mod Exchanged
+pub mod Whole
