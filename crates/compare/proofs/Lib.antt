@@ -5,4 +5,6 @@ pub mod Ids
 pub mod Meaning
 pub mod Same
 pub mod Exchanged
-pub mod Whole
+pub mod Reporting
+-- that prepared words give the report
+pub mod Rows
