@@ -8,3 +8,4 @@ pub mod Exchanged
 pub mod Reporting
 -- that prepared words give the report
 pub mod Rows
+pub mod Prepared
