@@ -1,7 +1,7 @@
 -- The ids in either of two lists: exactly the members of one of them, and where both ascend, ascending, each once. So they are the same for the
 -- lists exchanged, and they can be had by merging: the lesser of both first members is the first of them.
-use Prim.Native.Nat.{ℕ, suc, _+_, _≤_, _<_, zero-le}
-use mathlib.Core.Bool.{true, false}
+use Prim.Native.Nat.{ℕ, suc, _≤_, zero-le}
+use mathlib.Core.Bool.{true}
 use mathlib.Core.List.{List, [], _∷_, _++_}
 use mathlib.Core.Logic.{_⊎_, inl, inr, ⊎-elim}
 use mathlib.Core.Path.{_≡_, refl, sym, ap, _∙_}
@@ -115,22 +115,22 @@ either-from b A B p q =
     (λ x i. ⊎-elim (λ k. ascends-in b x A p k) (λ k. ascends-in b x B q k) (either-of A x B i))
 
 module _ (x : ℕ) (A : List ℕ) (a : Ascends 0 (x ∷ A)) where
-  -- the first of the first list is less
-  pub either-less : (y : ℕ) (B : List ℕ) → Ascends 0 (y ∷ B) → x < y → inEither (x ∷ A) (y ∷ B) ≡ x ∷ inEither A (y ∷ B)
-  either-less y B b h =
-      same-members 0 (inEither (x ∷ A) (y ∷ B)) (x ∷ inEither A (y ∷ B)) (either-ascends (x ∷ A) (y ∷ B) a b)
-      (zero-le, either-from (suc x) A (y ∷ B) (a .1) (h, b .1))
-      (λ z i. there z (either-of (x ∷ A) z (y ∷ B) i))
+  -- the first of the first list is below all of the second
+  pub either-less : (B : List ℕ) → Ascends (suc x) B → inEither (x ∷ A) B ≡ x ∷ inEither A B
+  either-less B b =
+      same-members 0 (inEither (x ∷ A) B) (x ∷ inEither A B) (either-ascends (x ∷ A) B a (ascends-from 0 (suc x) B b (λ z i. zero-le)))
+      (zero-le, either-from (suc x) A B (a .1) b)
+      (λ z i. there z (either-of (x ∷ A) z B i))
       (λ z i. back z i)
     where
-      there : (z : ℕ) → In z (x ∷ A) ⊎ In z (y ∷ B) → In z (x ∷ inEither A (y ∷ B))
+      there : (z : ℕ) → In z (x ∷ A) ⊎ In z B → In z (x ∷ inEither A B)
       there z (inl (inl e)) = inl e
-      there z (inl (inr k)) = inr (either-in A z (y ∷ B) (inl k))
-      there z (inr k) = inr (either-in A z (y ∷ B) (inr k))
+      there z (inl (inr k)) = inr (either-in A z B (inl k))
+      there z (inr k) = inr (either-in A z B (inr k))
 
-      back : (z : ℕ) → In z (x ∷ inEither A (y ∷ B)) → In z (inEither (x ∷ A) (y ∷ B))
-      back z (inl e) = either-in (x ∷ A) z (y ∷ B) (inl (inl e))
-      back z (inr k) = either-in (x ∷ A) z (y ∷ B) (⊎-elim (λ m. inl (inr m)) (λ m. inr m) (either-of A z (y ∷ B) k))
+      back : (z : ℕ) → In z (x ∷ inEither A B) → In z (inEither (x ∷ A) B)
+      back z (inl e) = either-in (x ∷ A) z B (inl (inl e))
+      back z (inr k) = either-in (x ∷ A) z B (⊎-elim (λ m. inl (inr m)) (λ m. inr m) (either-of A z B k))
 
   -- both are the same
   pub either-both : (B : List ℕ) → Ascends 0 (x ∷ B) → inEither (x ∷ A) (x ∷ B) ≡ x ∷ inEither A B
@@ -150,10 +150,10 @@ module _ (x : ℕ) (A : List ℕ) (a : Ascends 0 (x ∷ A)) where
       back z (inl e) = either-in (x ∷ A) z (x ∷ B) (inl (inl e))
       back z (inr k) = either-in (x ∷ A) z (x ∷ B) (⊎-elim (λ m. inl (inr m)) (λ m. inr (inr m)) (either-of A z B k))
 
--- the first of the second list is less
-pub either-more :
-    (x : ℕ) (A : List ℕ) (y : ℕ) (B : List ℕ) → Ascends 0 (x ∷ A) → Ascends 0 (y ∷ B) → y < x → inEither (x ∷ A) (y ∷ B) ≡ y ∷ inEither (x ∷ A) B
-either-more x A y B a b h =
-    either-swap (x ∷ A) (y ∷ B) a b
-    ∙ either-less y B b x A a h
-    ∙ ap (λ (l : List ℕ). y ∷ l) (either-swap B (x ∷ A) (ascends-from 0 (suc y) B (b .1) (λ z i. zero-le)) a)
+-- the first of the second list is below all of the first
+pub either-more : (A : List ℕ) (y : ℕ) (B : List ℕ) → Ascends (suc y) A → Ascends 0 (y ∷ B) → inEither A (y ∷ B) ≡ y ∷ inEither A B
+either-more A y B a b =
+    let a₀ = ascends-from 0 (suc y) A a (λ z i. zero-le) in
+    either-swap A (y ∷ B) a₀ b
+    ∙ either-less y B b A a
+    ∙ ap (λ (l : List ℕ). y ∷ l) (either-swap B A (ascends-from 0 (suc y) B (b .1) (λ z i. zero-le)) a₀)

@@ -9,3 +9,4 @@ pub mod Reporting
 -- that prepared words give the report
 pub mod Rows
 pub mod Prepared
+pub mod Walking

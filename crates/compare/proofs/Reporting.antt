@@ -8,14 +8,15 @@ use mathlib.Core.Path.{_≡_, refl, sym, ap, _∙_}
 use native.Mathlib.Nat.{le-refl}
 use native.Mathlib.Numerals.{add-one}
 use native.Mathlib.Omega.{arith}
-use borrow.Author.Tests.{eqb-true, eqb-false, eq-eqb, ne-eqb, not-true}
+use borrow.Author.Tests.{eqb-true, eqb-false, ne-eqb, not-true}
 use lib.Dec.{eqb}
+use Rattle.page.specs.Numbers.{badObject}
 use Rattle.page.specs.Records.{recordAt}
 use Rattle.page.specs.declared.geometry.Geometry.{Geometry}
 use Rattle.page.specs.declared.record.Record.{Record}
 use Rattle.page.specs.declared.record.Record.the-variants.{Other, Header, Data}
 use Rattle.page.proofs.Searching.{clash, by-test}
-use Rattle.page.proofs.Within.{header-within, data-within}
+use Rattle.page.proofs.Within.{object-within, object-good, header-within, data-within}
 use Rattle.sort.specs.Arranged.{timesIn}
 use Rattle.sort.proofs.Ascending.{In, Ascends}
 use Rattle.sort.proofs.Times.{in-times, times-in}
@@ -47,14 +48,22 @@ module _ (g : Geometry) (dump : List ℕ) (n o : ℕ) where
   abbrev ids : List ℕ
   ids = objectIds says n
 
-  -- a record has an object: its id is not 0
-  record-named : (p : ℕ) → isOf o (says p) ≡ true → o ≡ 0 → ⊥
-  record-named p t z = go (says p) refl t
+  -- the object of a record has an id
+  record-good : (p : ℕ) → isOf o (says p) ≡ true → badObject o ≡ false
+  record-good p t = go (says p) refl t
     where
-      go : (r : Record) → says p ≡ r → isOf o r ≡ true → ⊥
+      go : (r : Record) → says p ≡ r → isOf o r ≡ true → badObject o ≡ false
       go Other e t = clash (cc)
-      go (Header h) e t = let k = eqb-true (h .object .0) o t in omega (arith, header-within g dump p h e .object .least)
-      go (Data d) e t = let k = eqb-true (d .object .0) o t in omega (arith, data-within g dump p d e .object .least)
+      go (Header h) e t = rw (eqb-true (h .object .0) o t) at (object-good (h .object .0) (header-within g dump p h e .object))
+      go (Data d) e t = rw (eqb-true (d .object .0) o t) at (object-good (d .object .0) (data-within g dump p d e .object))
+
+  -- which is not 0
+  record-named : (p : ℕ) → isOf o (says p) ≡ true → o ≡ 0 → ⊥
+  record-named p t z = omega (arith, object-within o (record-good p t) .least)
+
+  -- so every id that is listed is one
+  pub listed-good : In o ids → badObject o ≡ false
+  listed-good i = let w = objects-of says n o i .1 in record-good (w .page) (w .passes)
 
   -- an object whose id is not listed has no record
   pub unlisted-none : (In o ids → ⊥) → records says o n ≡ 0
