@@ -7,6 +7,6 @@ pub mod Same
 pub mod Exchanged
 pub mod Reporting
 -- that prepared words give the report
-pub mod Rows
+pub mod Showing
 pub mod Prepared
 pub mod Walking

@@ -63,7 +63,7 @@ use Rattle.compare.specs.Differences.{stretchBytes}
 use Rattle.compare.specs.Sides.{stretchBegin, firstHeader, pagesIn, rowsShow, sideOf}
 use Rattle.compare.specs.Prepared.{recordsOf, orderOf, rowsBy, rowsOf, copiesOf}
 use Rattle.compare.proofs.Passing.{uncounted}
-use Rattle.compare.proofs.Rows.{byte-behind, aside-none, zeros-aside, shows-past, shows-own}
+use Rattle.compare.proofs.Showing.{byte-behind, aside-none, zeros-aside, shows-past, shows-own}
 
 -- ---- words
 
