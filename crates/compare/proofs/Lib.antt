@@ -10,3 +10,4 @@ pub mod Reporting
 pub mod Showing
 pub mod Prepared
 pub mod Walking
+pub mod Listing

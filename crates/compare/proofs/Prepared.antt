@@ -193,7 +193,7 @@ module _ (g : Geometry) (dump : List ℕ) (n : ℕ) (e : openedOf g (length dump
   pos : 0 < o
   pos = object-within o good .least
 
-  record-words : (x : ℕ) → In x L → x < wordValues
+  pub record-words : (x : ℕ) → In x L → x < wordValues
   record-words x i = let b = recs-of (objects says) (ageOf says) o n x i .0 in omega (arith, pages-most g dump n e)
 
   own : Listed says says o n top L
@@ -204,7 +204,7 @@ module _ (g : Geometry) (dump : List ℕ) (n : ℕ) (e : openedOf g (length dump
   pages-in = words-told o L record-words
 
   -- how many they are
-  many : length (orderOf says n o) ≡ records says o n
+  pub many : length (orderOf says n o) ≡ records says o n
   many = length-map L (packed o) ∙ sym (all-counted says says o n top L own)
 
   -- its newest header
