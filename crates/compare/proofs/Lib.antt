@@ -7,6 +7,7 @@ pub mod Same
 pub mod Exchanged
 pub mod Reporting
 -- that prepared words give the report
+pub mod Copying
 pub mod Showing
 pub mod Prepared
 pub mod Walking

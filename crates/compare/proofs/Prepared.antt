@@ -47,7 +47,7 @@ use Rattle.chunk.proofs.Meaning.{newest-found}
 use Rattle.index.specs.Chains.{objects, top}
 use Rattle.index.specs.Held.{recs, fromList}
 use Rattle.index.specs.Walks.{sizeWalk}
-use Rattle.index.proofs.Answer.Walked.{added-listed, size-seen}
+use Rattle.index.proofs.Answer.Walked.{added-listed}
 use Rattle.index.proofs.Sorted.Order.{pages-most, ages-below}
 use Rattle.index.proofs.Sorted.Parting.{Fails, Parted, all, at, parted}
 use Rattle.index.proofs.Sorted.Records.{recs-of}
@@ -63,6 +63,7 @@ use Rattle.compare.specs.Differences.{stretchBytes}
 use Rattle.compare.specs.Sides.{stretchBegin, firstHeader, pagesIn, rowsShow, sideOf}
 use Rattle.compare.specs.Prepared.{recordsOf, orderOf, rowsBy, rowsOf, copiesOf}
 use Rattle.compare.proofs.Passing.{uncounted}
+use Rattle.compare.proofs.Copying.{size-recorded}
 use Rattle.compare.proofs.Showing.{byte-behind, aside-none, zeros-aside, shows-past, shows-own}
 
 -- ---- words
@@ -213,10 +214,7 @@ module _ (g : Geometry) (dump : List ℕ) (n : ℕ) (e : openedOf g (length dump
 
   -- its size
   size-walked : sizeWalk says P (fromList (pagesIn g dump (orderOf says n o))) ≡ sizedOf says o n P
-  size-walked =
-      ap (λ (l : List ℕ). sizeWalk says P (fromList l)) pages-in
-      ∙ size-seen says n (omega (arith, pages-most g dump n e)) (ages-below g dump n e) (λ p. true) o pos P
-      ∙ sym (size-by-file says o n P good)
+  size-walked = ap (λ (l : List ℕ). sizeWalk says P (fromList l)) pages-in ∙ size-recorded g dump n e o good P
 
   -- what its rows show
   rows-show : (x : ℕ) → rowsShow g dump (copiesOf says n P o) x ≡ shownAt g dump n o x

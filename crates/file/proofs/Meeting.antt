@@ -119,6 +119,13 @@ module _ (says : ℕ → Record) (P m size : ℕ) where
             let newer : stillNewest says newest q ≡ newest = rw k (by-test newest _ (λ b. rw b refl) (λ b. rw b refl)) in
             rw (a, b) (rw (newer, k) at on)
 
+        -- a page that is no record is neither
+        pub under-other : says q ≡ said.Other → Underway w newest cut copies rest
+        under-other k =
+            let newer : stillNewest says newest q ≡ newest = rw k (by-test newest _ (λ b. rw b refl) (λ b. rw b refl)) in
+            let same : copies + 0 ≡ copies = omega arith in
+            rw (newer, k, same, put-none n w copies) at on
+
       -- at the end
       done : met says P m size newest cut t ≡ [] → (copies ≡ length whole) × (w ≡ putFrom n w₀ 0 whole)
       done e = (omega (arith, u .count, ap length e), sym (put-none n w copies) ∙ rw e at (u .puts))

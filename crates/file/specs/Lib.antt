@@ -1,3 +1,4 @@
 pub mod Copies
+pub mod Along
 pub mod Shows
 pub mod Table

@@ -85,7 +85,7 @@ fn put(rows: &mut [u64], n: usize, i: u32, x: Copy)
 }
 
 // Puts page q, of this data, as copy i of n, if it is met as one. Answers how many copies are met with it.
-fn meet(
+pub(crate) fn meet(
     rows: &mut [u64],
     n: usize,
     i: u32,
@@ -190,7 +190,7 @@ fn take_first(rows: &mut [u64], n: usize, m: usize, last: u32, key: u64) -> usiz
 }
 
 // Of n keys in ascending order and n rows behind them, keeps the row of each chunk's first key, and clears the rest of their room.
-fn gather(rows: &mut [u64], n: usize) -> usize
+pub(crate) fn gather(rows: &mut [u64], n: usize) -> usize
     requires { ⌜ roomFor n ≤ length (now rows) ⌝ }
     requires { ⌜ Every (λ k. valueOf k < n) (take n (now rows)) ⌝ }
     ensures { λ r. ⌜ r ≡ length (firsts (λ j. getD (now (rows .entry)) (n + j) 0) 0 (take n (now (rows .entry)))) ⌝ }

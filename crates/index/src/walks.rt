@@ -63,7 +63,7 @@ impl Met {
 }
 
 // The largest end of data, with a page of this data too.
-pub(crate) fn end_with(end: u64, data: u32, d: Data) -> u64
+pub fn end_with(end: u64, data: u32, d: Data) -> u64
     ensures { λ r. ⌜ r ≡ max (endOf «data» (Record.Data d)) end ⌝ }
 {
     larger(base_of(data, d.chunk) + (d.count as u64), end)
@@ -113,7 +113,7 @@ pub(crate) fn reach_header(
 }
 
 // The lowest cut, with this record too, which is the newest header or not.
-fn lower_cut(newest: bool, r: Record, cut: Cut) -> Cut
+pub fn lower_cut(newest: bool, r: Record, cut: Cut) -> Cut
     ensures { λ n. ⌜ n ≡ pick (isHeader r) (lower (cutOf newest r) cut) cut ⌝ }
 {
     let Record::Header(h) = r else {
