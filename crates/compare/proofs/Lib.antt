@@ -1,5 +1,5 @@
 -- numbers and lists
-pub mod Passing
+pub mod Passes
 pub mod Ids
 -- what a report means, over the definitions alone
 pub mod Meaning
@@ -11,4 +11,4 @@ pub mod Copying
 pub mod Showing
 pub mod Prepared
 pub mod Walking
-pub mod Listing
+pub mod Told

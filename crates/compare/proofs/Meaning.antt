@@ -17,7 +17,7 @@ use Rattle.sort.proofs.Ascending.{In, Ascends}
 use Rattle.compare.specs.Views.{byteOf}
 use Rattle.compare.specs.Fields.{fields, fieldPlaces, fieldLengths, placeOf, lengthOf}
 use Rattle.compare.specs.Differences.{differIn, fieldDiffers, fieldsOf, stretchBytes, stretchesIn, stretchDiffers, stretchesTo}
-use Rattle.compare.proofs.Passing.{counted-passes, passes-counted, uncounted, passed-in, passed-of, passed-nothing, nothing-passed, passed-ascends}
+use Rattle.compare.proofs.Passes.{counted-passes, passes-counted, uncounted, passed-in, passed-of, passed-nothing, nothing-passed, passed-ascends}
 
 -- ---- bytes
 

@@ -62,7 +62,7 @@ use Rattle.compare.specs.Views.{View, byteOf, headerBytes, isDeleted, si
 use Rattle.compare.specs.Differences.{stretchBytes}
 use Rattle.compare.specs.Sides.{stretchBegin, firstHeader, pagesIn, rowsShow, sideOf}
 use Rattle.compare.specs.Prepared.{recordsOf, orderOf, rowsBy, rowsOf, copiesOf}
-use Rattle.compare.proofs.Passing.{uncounted}
+use Rattle.compare.proofs.Passes.{uncounted}
 use Rattle.compare.proofs.Copying.{size-recorded}
 use Rattle.compare.proofs.Showing.{byte-behind, aside-none, zeros-aside, shows-past, shows-own}
 

@@ -15,7 +15,7 @@ use Rattle.text.specs.Quoted.{bytesOf}
 use Rattle.compare.specs.Views.{View, byteOf}
 use Rattle.compare.specs.Differences.{Side, Difference, deleted, headless, field, stretch, onOne, lacks, fieldsOf, sizesOf, stretchBytes, stretchesIn, stretchDiffers, stretchesOf, differencesOf}
 use Rattle.compare.specs.Report.{linesOf, joined, objectLines}
-use Rattle.compare.proofs.Passing.{passed-nothing, nothing-passed}
+use Rattle.compare.proofs.Passes.{passed-nothing, nothing-passed}
 use Rattle.compare.proofs.Meaning.{differ-none, none-differ, headerLength, leftOut, fields-same, same-fields}
 
 -- what is the same of an object that both dumps have

@@ -23,6 +23,7 @@ use Rattle.compare.specs.Report.{reportOf, joined, inEither, idsIn, obje
 use Rattle.compare.specs.Lists.{sidesReport, listsReport}
 use Rattle.compare.specs.Sides.{sideOf}
 use Rattle.compare.specs.Prepared.{recordsOf, orderOf, order, rowsOf, copiesOf, copies}
+use Rattle.compare.proofs.Copying.{rows-few}
 use Rattle.compare.proofs.Ids.{either-of}
 use Rattle.compare.proofs.Reporting.{unlisted-none, listed-some, listed-good, joined-same}
 use Rattle.compare.proofs.Prepared.{record-words, many, side-view}
@@ -47,16 +48,14 @@ module _ (g : Geometry) (dump : List ℕ) (n : ℕ) (e : openedOf g (length dump
   P = g .layout .«data»
 
   -- an object's rows have as many words as its records
-  copies-long : length (rowsOf says n P o) ≤ length (recordsOf says n o) → length (copiesOf says n P o) ≡ length (orderOf says n o)
-  copies-long few =
-      length-append (rowsOf says n P o) _
-      ∙ rw (length-replicate, length-map) (omega arith)
+  copies-long : length (copiesOf says n P o) ≡ length (orderOf says n o)
+  copies-long = length-append (rowsOf says n P o) _ ∙ rw (length-replicate, length-map) (omega (arith, rows-few g dump n e o good P))
 
   -- so the words of each are as the walk takes them
-  object-words : length (rowsOf says n P o) ≤ length (recordsOf says n o) → Words (objectIds says n) (orderOf says n) (copiesOf says n P) o
-  object-words few = record {
+  object-words : Words (objectIds says n) (orderOf says n) (copiesOf says n P) o
+  object-words = record {
     keys = keys-packed o (recordsOf says n o) (record-words g dump n e o good);
-    long = copies-long few;
+    long = copies-long;
     some = λ i z. listed-some g dump n o i (sym (many g dump n e o good) ∙ z);
     none = λ f. length-none (orderOf says n o) (many g dump n e o good ∙ unlisted-none g dump n o f);
   }
@@ -90,19 +89,15 @@ module _
     either-good : (o : ℕ) → In o (objectIds one n) ⊎ In o (objectIds other n′) → badObject o ≡ false
     either-good o i = ⊎-elim (λ k. listed-good g dump n o k) (λ k. listed-good g′ dump′ n′ o k) i
 
-    module _
-        (few : (o : ℕ) → badObject o ≡ false → length (rowsOf one n P₁ o) ≤ length (recordsOf one n o))
-        (few′ : (o : ℕ) → badObject o ≡ false → length (rowsOf other n′ P₂ o) ≤ length (recordsOf other n′ o))
-      where
-        -- the whole report
-        pub lists-whole : listsReport g dump g′ dump′ (order one n) (copies one n P₁) (order other n′) (copies other n′ P₂) ≡ wholeReport g dump n g′ dump′ n′
-        unfolding listsReport order copies wholeReport objectReport idsIn
-        lists-whole =
-            walked g dump g′ dump′ (objectIds one n) (objectIds other n′) (orderOf one n) (copiesOf one n P₁) (orderOf other n′) (copiesOf other n′ P₂)
-            (λ o i. let good = either-good o i in object-words g dump n e o good (few o good))
-            (λ o i. let good = either-good o i in object-words g′ dump′ n′ e′ o good (few′ o good))
-            (objects-ascend one n) (objects-ascend other n′)
-            ∙ joined-same
-            (λ o. sidesReport g dump g′ dump′ o (orderOf one n o) (copiesOf one n P₁ o) (orderOf other n′ o) (copiesOf other n′ P₂ o))
-            (objectReport g dump n g′ dump′ n′) (inEither (objectIds one n) (objectIds other n′))
-            (λ o i. sides-report o (either-good o (either-of (objectIds one n) o (objectIds other n′) i)))
+    -- the whole report
+    pub lists-whole : listsReport g dump g′ dump′ (order one n) (copies one n P₁) (order other n′) (copies other n′ P₂) ≡ wholeReport g dump n g′ dump′ n′
+    unfolding listsReport order copies wholeReport objectReport idsIn
+    lists-whole =
+        walked g dump g′ dump′ (objectIds one n) (objectIds other n′) (orderOf one n) (copiesOf one n P₁) (orderOf other n′) (copiesOf other n′ P₂)
+        (λ o i. object-words g dump n e o (either-good o i))
+        (λ o i. object-words g′ dump′ n′ e′ o (either-good o i))
+        (objects-ascend one n) (objects-ascend other n′)
+        ∙ joined-same
+        (λ o. sidesReport g dump g′ dump′ o (orderOf one n o) (copiesOf one n P₁ o) (orderOf other n′ o) (copiesOf other n′ P₂ o))
+        (objectReport g dump n g′ dump′ n′) (inEither (objectIds one n) (objectIds other n′))
+        (λ o i. sides-report o (either-good o (either-of (objectIds one n) o (objectIds other n′) i)))
