@@ -16,7 +16,7 @@ use Rattle.chunk.specs.Records.{baseOf}
 use Rattle.index.specs.Held.{fromList}
 use Rattle.index.specs.Walks.{sizeWalk}
 use Rattle.file.specs.Copies.{copyOf}
-use Rattle.compare.specs.Views.{View, byteOf, headerBytes, isDeleted, sizeIn}
+use Rattle.compare.specs.Views.{View, byteOf, bytesOn, isDeleted, sizeIn}
 use Rattle.compare.specs.Differences.{stretchBytes}
 
 -- where the copy of a row begins in its file, and where its valid bytes end
@@ -64,7 +64,7 @@ module _ (g : Geometry) (dump : List ℕ) where
       let header = firstHeader says (pagesIn order) in
       record {
         has = not (eqb (length order) 0);
-        header = headerBytes g dump header;
+        header = bytesOn g dump header;
         gone = isDeleted says header;
         size = sizeIn (sizeWalk says (g .layout .«data») (fromList (pagesIn order)));
         shows = rowsShow copies;

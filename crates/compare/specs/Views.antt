@@ -5,11 +5,11 @@ use mathlib.Core.List.{List}
 use mathlib.Core.Option.{Option, none, some}
 use lib.Dec.{eqb}
 use lib.ListN.{getD}
-use Rattle.page.specs.Pages.{pageAt}
+use Rattle.page.specs.Layouts.{headerBytes}
 use Rattle.page.specs.Records.{recordAt}
 use Rattle.page.specs.declared.geometry.Geometry.{Geometry}
 use Rattle.page.specs.declared.record.Record.{Record}
-use Rattle.chunk.specs.Answers.{partBy}
+use Rattle.chunk.specs.Answers.{validPart, partBy}
 use Rattle.chunk.specs.Lookups.{sizedOf, lookedOf}
 use Rattle.chunk.specs.Newest.{newestHeader, records}
 use Rattle.chunk.specs.Records.{isGone}
@@ -29,10 +29,10 @@ pub record View : Type 0 where
 abbrev pub byteOf : List ℕ → (position : ℕ) → ℕ
 byteOf bytes x = getD bytes x 0
 
--- the bytes of a header page, if there is one, and whether it is deleted
-abbrev pub headerBytes : Geometry → (dump : List ℕ) → Option ℕ → Option (List ℕ)
-headerBytes g dump none = none
-headerBytes g dump (some h) = some (pageAt g dump h)
+-- the bytes of the header on a page, if there is one, and whether it is deleted
+abbrev pub bytesOn : Geometry → (dump : List ℕ) → Option ℕ → Option (List ℕ)
+bytesOn g dump none = none
+bytesOn g dump (some h) = some (validPart g dump h headerBytes)
 
 abbrev pub isDeleted : (says : ℕ → Record) → Option ℕ → Bool
 isDeleted says none = false
@@ -56,7 +56,7 @@ module _ (g : Geometry) (dump : List ℕ) (n o : ℕ) where
       let says = recordAt g dump in
       record {
         has = not (eqb (records says o n) 0);
-        header = headerBytes g dump (newestHeader says o n);
+        header = bytesOn g dump (newestHeader says o n);
         gone = isDeleted says (newestHeader says o n);
         size = sizeIn (sizedOf says o n (g .layout .«data»));
         shows = shownAt;
