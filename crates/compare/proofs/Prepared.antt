@@ -58,7 +58,7 @@ use Rattle.file.proofs.Copying.{opened-data}
 use Rattle.file.proofs.Meeting.{valid-most}
 use Rattle.file.specs.Copies.{packedCopy, copiesTo}
 use Rattle.file.specs.Table.{chunksIn}
-use Rattle.compare.specs.Views.{View, byteOf, headerBytes, isDeleted, sizeIn, shownAt, viewOf}
+use Rattle.compare.specs.Views.{View, byteOf, bytesOn, isDeleted, sizeIn, shownAt, viewOf}
 use Rattle.compare.specs.Differences.{stretchBytes}
 use Rattle.compare.specs.Sides.{stretchBegin, firstHeader, pagesIn, rowsShow, sideOf}
 use Rattle.compare.specs.Prepared.{recordsOf, orderOf, rowsBy, rowsOf, copiesOf}
@@ -256,7 +256,7 @@ module _ (g : Geometry) (dump : List ℕ) (n : ℕ) (e : openedOf g (length dump
   unfolding sideOf viewOf
   side-view = λ j. record {
     has = not (eqb (many j) 0);
-    header = headerBytes g dump (header-first j);
+    header = bytesOn g dump (header-first j);
     gone = isDeleted says (header-first j);
     size = sizeIn (size-walked j);
     shows = λ x. rows-show x j;
