@@ -1,29 +1,26 @@
 -- An object by the words that a dump is prepared to is the object by the rules. Its words are its records, the newest first, so that the first header
 -- among them is the newest header, and a walk along them gives the size; and the rows of its copies show what the lookups of its chunks lend.
-use Prim.Native.Nat.{ℕ, zero, suc, _+_, _-_, _*_, _/_, _%_, _≤_, _<_, zero-le}
-use mathlib.Core.Bool.{Bool, true, false, not, _&&_}
+use Prim.Native.Nat.{ℕ, suc, _+_, _-_, _*_, _/_, _%_, _≤_, _<_, zero-le}
+use mathlib.Core.Bool.{true, false, not}
 use mathlib.Core.List.{List, [], _∷_, _++_, map}
-use mathlib.Core.Logic.{inl, inr, ⊎-elim}
+use mathlib.Core.Logic.{inl, inr}
 use mathlib.Core.Option.{Option, none, some}
 use mathlib.Core.Path.{_≡_, refl, sym, ap, ap₂, _∙_}
 use native.Mathlib.Numerals.{add-one}
 use native.Mathlib.Omega.{arith}
-use borrow.Author.Tests.{not-false, eqb-true, leb-true, leb-false}
-use lib.Dec.{eqb, ltb, leb}
+use borrow.Author.Tests.{leb-true, leb-false}
+use lib.Dec.{eqb, leb}
 use lib.ListN.{length, length-map, replicate}
 use Rattle.page.specs.Lengths.{openedOf}
-use Rattle.page.specs.Layouts.{layoutAt, dataSizes, numberOf}
-use Rattle.page.specs.Numbers.{badObject, badChunk, mostChunk}
+use Rattle.page.specs.Numbers.{badObject, badChunk}
 use Rattle.page.specs.Records.{isHeader, recordAt}
-use Rattle.page.specs.Search.{count}
 use Rattle.page.specs.declared.geometry.Geometry.{Geometry}
 use Rattle.page.specs.declared.geometry.Opened.the-variants as opened
-use Rattle.page.specs.declared.layout.Layout.{Layout}
 use Rattle.page.specs.declared.number.PageNumber.{PageNumber}
 use Rattle.page.specs.declared.record.Record.{Record}
 use Rattle.page.specs.declared.refusal.Refusal.{Refusal}
 use Rattle.page.specs.declared.refusal.Refusal.the-variants.{BadChunk, PastEnd}
-use Rattle.page.proofs.Layouts.{listed-row}
+use Rattle.page.proofs.Layouts.{listed-whole}
 use Rattle.page.proofs.Lengths.{opened-facts, opened-pages}
 use Rattle.page.proofs.Searching.{by-test, clash}
 use Rattle.page.proofs.Within.{object-within, chunk-within}
@@ -38,14 +35,12 @@ use Rattle.chunk.specs.Records.{ageOf, baseOf}
 use Rattle.chunk.specs.Sizes.{sizeOf}
 use Rattle.chunk.specs.declared.answer.File.{File}
 use Rattle.chunk.specs.declared.answer.File.the-variants as file
-use Rattle.chunk.specs.declared.answer.Sized.{Sized}
 use Rattle.chunk.specs.declared.answer.Sized.the-variants as sized
-use Rattle.chunk.specs.declared.answer.Looked.{Looked}
 use Rattle.chunk.specs.declared.answer.Looked.the-variants as looked
 use Rattle.chunk.proofs.Cases.{size-by-file, sized-refused, sized-file, chunk-by-file, chunk-bad-number, looked-refused, looked-past, looked-inside, copy-missing, copy-hidden, copy-shown, part-refused}
 use Rattle.chunk.proofs.Meaning.{newest-found}
 use Rattle.index.specs.Chains.{objects, top}
-use Rattle.index.specs.Held.{recs, fromList}
+use Rattle.index.specs.Held.{fromList}
 use Rattle.index.specs.Walks.{sizeWalk}
 use Rattle.index.proofs.Answer.Walked.{added-listed}
 use Rattle.index.proofs.Sorted.Order.{pages-most, ages-below}
@@ -58,11 +53,10 @@ use Rattle.file.proofs.Copying.{opened-data}
 use Rattle.file.proofs.Meeting.{valid-most}
 use Rattle.file.specs.Copies.{packedCopy, copiesTo}
 use Rattle.file.specs.Table.{chunksIn}
-use Rattle.compare.specs.Views.{View, byteOf, bytesOn, isDeleted, sizeIn, shownAt, viewOf}
+use Rattle.compare.specs.Views.{byteOf, bytesOn, isDeleted, sizeIn, shownAt, viewOf}
 use Rattle.compare.specs.Differences.{stretchBytes}
 use Rattle.compare.specs.Sides.{stretchBegin, firstHeader, pagesIn, rowsShow, sideOf}
-use Rattle.compare.specs.Prepared.{recordsOf, orderOf, rowsBy, rowsOf, copiesOf}
-use Rattle.compare.proofs.Passes.{uncounted}
+use Rattle.compare.specs.Prepared.{recordsOf, orderOf, copiesOf}
 use Rattle.compare.proofs.Copying.{size-recorded}
 use Rattle.compare.proofs.Showing.{byte-behind, aside-none, zeros-aside, shows-past, shows-own}
 
@@ -162,21 +156,9 @@ module _ (says : ℕ → Record) (o n P : ℕ) where
 
 -- ---- pages of whole stretches
 
--- of no layout of the table does a stretch lie in two pages
-partsOf : (row : ℕ) → Bool
-partsOf k = not (eqb (layoutAt k .«data» % stretchBytes) 0)
-
-none-parts : ltb 0 (count partsOf 13) ≡ false
-unfolding partsOf count layoutAt dataSizes
-none-parts = refl
-
+-- the data of a page are a whole number of stretches
 pub opened-stretches : (g : Geometry) (l n : ℕ) → openedOf g l ≡ opened.Pages n → g .layout .«data» ≡ stretchBytes * (g .layout .«data» / stretchBytes)
-unfolding partsOf
-opened-stretches g l n e =
-    let i = opened-facts g l n e .listed in
-    let whole : layoutAt (numberOf (g .layout)) .«data» % stretchBytes ≡ 0 = eqb-true _ _ (not-false _ (uncounted partsOf 13 none-parts (numberOf (g .layout)) i)) in
-    let same : layoutAt (numberOf (g .layout)) .«data» ≡ g .layout .«data» = ap (λ (k : Layout). k .«data») (listed-row (g .layout) i) in
-    omega arith
+opened-stretches g l n e = omega (arith, listed-whole (g .layout) (opened-facts g l n e .listed))
 
 -- ---- one object of an accepted dump
 

@@ -1,7 +1,7 @@
 -- The whole report, over the definitions alone: it has the objects that one of both dumps has a record of, ascending, each once; it is empty exactly if
 -- no object differs; a dump does not differ from itself; and both dumps exchanged are the same report with the sides exchanged.
 use Prim.Native.Nat.{ℕ, zero, suc, _<_}
-use mathlib.Core.Bool.{Bool, true, false}
+use mathlib.Core.Bool.{true, false}
 use mathlib.Core.List.{List, [], _∷_, _++_, map}
 use mathlib.Core.Logic.{_⊎_, inl, inr, ⊎-elim}
 use mathlib.Core.Path.{_≡_, refl, sym, ap, _∙_}
@@ -126,13 +126,13 @@ module _ (g : Geometry) (dump : List ℕ) (n : ℕ) (g′ : Geometry) (dump′ :
   other o = viewOf g′ dump′ n′ o
 
   -- the ids are those of the objects that one of both has
-  pub ids-of : (o : ℕ) → In o (idsIn g dump n g′ dump′ n′) → (one o .has ≡ true) ⊎ (other o .has ≡ true)
+  pub ids-either : (o : ℕ) → In o (idsIn g dump n g′ dump′ n′) → (one o .has ≡ true) ⊎ (other o .has ≡ true)
   unfolding idsIn
-  ids-of o i = ⊎-elim (λ k. inl (listed-has g dump n o k)) (λ k. inr (listed-has g′ dump′ n′ o k)) (either-of _ o _ i)
+  ids-either o i = ⊎-elim (λ k. inl (listed-has g dump n o k)) (λ k. inr (listed-has g′ dump′ n′ o k)) (either-of _ o _ i)
 
-  pub ids-in : (o : ℕ) → (one o .has ≡ true) ⊎ (other o .has ≡ true) → In o (idsIn g dump n g′ dump′ n′)
+  pub either-ids : (o : ℕ) → (one o .has ≡ true) ⊎ (other o .has ≡ true) → In o (idsIn g dump n g′ dump′ n′)
   unfolding idsIn
-  ids-in o h = either-in _ o _ (⊎-elim (λ k. inl (has-listed g dump n o k)) (λ k. inr (has-listed g′ dump′ n′ o k)) h)
+  either-ids o h = either-in _ o _ (⊎-elim (λ k. inl (has-listed g dump n o k)) (λ k. inr (has-listed g′ dump′ n′ o k)) h)
 
   -- ascending, each once
   pub ids-ascend : Ascends 0 (idsIn g dump n g′ dump′ n′)
@@ -149,7 +149,7 @@ module _ (g : Geometry) (dump : List ℕ) (n : ℕ) (g′ : Geometry) (dump′ :
   unfolding wholeReport objectReport
   report-empty e o =
       let there : (one o .has ≡ true) ⊎ (other o .has ≡ true) → differencesOf (one o) (other o) ≡ [] =
-      λ h. empty-report o (differencesOf (one o) (other o)) (joined-empty (objectReport g dump n g′ dump′ n′) (idsIn g dump n g′ dump′ n′) e o (ids-in o h)) in
+      λ h. empty-report o (differencesOf (one o) (other o)) (joined-empty (objectReport g dump n g′ dump′ n′) (idsIn g dump n g′ dump′ n′) e o (either-ids o h)) in
       by-test (one o .has) _
       (λ t. there (inl t))
       (λ t. by-test (other o .has) _ (λ u. there (inr u)) (λ u. unseen (one o) (other o) t u))

@@ -10,7 +10,7 @@ use native.Mathlib.Nat.{le-refl, suc-mul, mul-left-comm, mul-le-mul-right, div-m
 use native.Mathlib.Omega.{arith}
 use borrow.Author.Tests.{leb-true, leb-false, le-leb, lt-leb}
 use lib.Dec.{leb}
-use lib.ListN.{length, getD, take, length-take, replicate}
+use lib.ListN.{length, length-take, replicate}
 use Rattle.page.specs.Lengths.{pageIn}
 use Rattle.page.specs.Numbers.{mostChunk, pageValues}
 use Rattle.page.specs.declared.geometry.Geometry.{Geometry}

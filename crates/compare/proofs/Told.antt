@@ -1,12 +1,12 @@
 -- The report by the words that two accepted dumps are prepared to is document 02's report: of each object by its words what the rules say of it, and
 -- object after object over the ids of both.
-use Prim.Native.Nat.{ℕ, _+_, _-_, _≤_, _<_}
-use mathlib.Core.Bool.{Bool, true, false}
-use mathlib.Core.List.{List, [], _∷_, _++_, map}
+use Prim.Native.Nat.{ℕ, _<_}
+use mathlib.Core.Bool.{false}
+use mathlib.Core.List.{List, [], _∷_, map}
 use mathlib.Core.Logic.{_⊎_, inl, inr, ⊎-elim}
 use mathlib.Core.Path.{_≡_, refl, sym, ap, ap₂, _∙_}
 use native.Mathlib.Omega.{arith}
-use lib.ListN.{length, length-append, length-map, length-replicate, replicate}
+use lib.ListN.{length, length-append, length-map, length-replicate}
 use Rattle.page.specs.Lengths.{openedOf}
 use Rattle.page.specs.Numbers.{badObject}
 use Rattle.page.specs.Records.{recordAt}
@@ -19,7 +19,7 @@ use Rattle.sort.proofs.Ascending.{In}
 use Rattle.sort.proofs.Packing.{packed-key}
 use Rattle.chunk.proofs.Living.{objectIds, objects-ascend}
 use Rattle.compare.specs.Views.{viewOf}
-use Rattle.compare.specs.Report.{reportOf, joined, inEither, idsIn, objectReport, wholeReport}
+use Rattle.compare.specs.Report.{reportOf, inEither, idsIn, objectReport, wholeReport}
 use Rattle.compare.specs.Lists.{sidesReport, listsReport}
 use Rattle.compare.specs.Sides.{sideOf}
 use Rattle.compare.specs.Prepared.{recordsOf, orderOf, order, rowsOf, copiesOf, copies}
@@ -59,6 +59,13 @@ module _ (g : Geometry) (dump : List ℕ) (n : ℕ) (e : openedOf g (length dump
     some = λ i z. listed-some g dump n o i (sym (many g dump n e o good) ∙ z);
     none = λ f. length-none (orderOf says n o) (many g dump n e o good ∙ unlisted-none g dump n o f);
   }
+
+  -- one that the dump has no record of has none
+  pub side-none : (In o (objectIds says n) → ⊥) → sideOf g dump [] [] ≡ viewOf g dump n o
+  side-none f =
+      let none : orderOf says n o ≡ [] = object-words .none f in
+      let none′ : copiesOf says n P o ≡ [] = length-none (copiesOf says n P o) (copies-long ∙ ap length none) in
+      rw (none, none′) at (side-view g dump n e o good)
 
 -- ---- two accepted dumps
 

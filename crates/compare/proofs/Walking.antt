@@ -1,20 +1,18 @@
 -- The report by the words of two prepared dumps goes over the ids of both. The words of an object stand side by side and have its id as their keys, and
 -- keys ascend: so the lesser of both first keys is the next id, and as many words at the front have it as the object has there. What is left then
 -- are the words of the other ids.
-use Prim.Native.Nat.{ℕ, zero, suc, _+_, _≤_, _<_, min, zero-le}
+use Prim.Native.Nat.{ℕ, zero, suc, _+_, _≤_, _<_, zero-le}
 use mathlib.Core.Bool.{Bool, true, false, _&&_}
 use mathlib.Core.List.{List, [], _∷_, _++_}
 use mathlib.Core.Logic.{_⊎_, inl, inr, ⊎-elim}
-use mathlib.Core.Path.{_≡_, refl, sym, ap, ap₂, _∙_}
+use mathlib.Core.Path.{_≡_, refl, sym, ap, _∙_}
 use native.Mathlib.Nat.{le-refl}
 use native.Mathlib.Omega.{arith}
 use borrow.Author.Tests.{eq-eqb, ne-eqb}
 use lib.Dec.{eqb}
 use lib.ListN.{length, take, drop, length-append}
 use lib.Seq.{take-at, drop-at}
-use Rattle.page.specs.Choice.{pick}
 use Rattle.page.specs.declared.geometry.Geometry.{Geometry}
-use Rattle.page.proofs.Searching.{by-test}
 use Rattle.sort.specs.Arranged.{Every}
 use Rattle.sort.specs.Packed.{keyOf}
 use Rattle.sort.proofs.Ascending.{In, Ascends, ascends-in}
