@@ -5,6 +5,7 @@ pub mod Ids
 pub mod Meaning
 pub mod Same
 pub mod Exchanged
+pub mod Reported
 pub mod Reporting
 -- that prepared words give the report
 pub mod Copying
