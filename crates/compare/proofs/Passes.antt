@@ -1,5 +1,5 @@
 -- Which numbers pass a test: some does exactly where the count is above 0; the ids of those that pass are exactly their ids, ascending where the ids
--- rise; and tests that agree let the same pass.
+-- rise.
 use Prim.Native.Nat.{ℕ, zero, suc, _+_, _≤_, _<_, zero-le}
 use mathlib.Core.Bool.{Bool, true, false}
 use mathlib.Core.List.{List, [], _∷_, _++_}
@@ -90,17 +90,3 @@ passed-ascends test id m rise (suc n) h =
     let e = w .bears in
     omega (arith, rise (w .page) n (w .inside) h))))
     (λ t. rw (passed-skip test id n t) a))
-
--- another test that agrees
-pub passed-same :
-    (test test′ : ℕ → Bool) (id : ℕ → ℕ) (n : ℕ) → ((i : ℕ) → i < n → test′ i ≡ test i) → passed test′ id n ≡ passed test id n
-passed-same test test′ id zero h = passed-none test′ id ∙ sym (passed-none test id)
-passed-same test test′ id (suc n) h =
-    let e = passed-same test test′ id n (λ i k. h i (omega arith)) in
-    rw (← add-one n)
-    (by-test (test n) _
-    (λ t.
-    passed-take test′ id n (h n (le-refl _) ∙ t)
-    ∙ ap (λ (l : List ℕ). l ++ (id n ∷ [])) e
-    ∙ sym (passed-take test id n t))
-    (λ t. passed-skip test′ id n (h n (le-refl _) ∙ t) ∙ e ∙ sym (passed-skip test id n t)))
