@@ -1,5 +1,5 @@
 -- What every layout of the table has, and every layout with room. Sizes are argued for any P and S; the table is one computed test.
-use Prim.Native.Nat.{ℕ, zero, suc, _+_, _*_, _<_, _≤_}
+use Prim.Native.Nat.{ℕ, zero, suc, _+_, _*_, _%_, _<_, _≤_}
 use mathlib.Core.Bool.{Bool, true, false, _&&_}
 use mathlib.Core.List.{List}
 use mathlib.Core.Path.{_≡_, refl, ap}
@@ -95,6 +95,14 @@ unfolding allBelow layoutAt dataSizes
 listed-data l h =
     let e : getD dataSizes (numberOf l) 0 ≡ l .«data» = ap (λ (k : Layout). k .«data») (listed-row l h) in
     omega (arith, e, column-below 16385 dataSizes refl (numberOf l) h)
+
+-- and a whole number of 512 of them
+pub listed-whole : (l : Layout) → numberOf l < 13 → l .«data» % 512 ≡ 0
+unfolding allBelow layoutAt dataSizes
+listed-whole l h =
+    let e : getD dataSizes (numberOf l) 0 ≡ l .«data» = ap (λ (k : Layout). k .«data») (listed-row l h) in
+    let w : getD dataSizes (numberOf l) 0 % 512 ≡ 0 = eqb-true _ _ (all-at (λ k. eqb (getD dataSizes k 0 % 512) 0) 13 refl (numberOf l) h) in
+    rw e at w
 
 -- a product is at most the product of what bounds its factors
 pub product-le : {a b m n : ℕ} → a ≤ m → b ≤ n → a * b ≤ m * n

@@ -3,3 +3,4 @@ pub mod Ascending
 pub mod Splitting
 pub mod Packing
 pub mod Clearing
+pub mod Times

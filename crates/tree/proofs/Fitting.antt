@@ -25,7 +25,7 @@ use Rattle.tree.specs.Tree.{isIn, others}
 use Rattle.tree.proofs.Both.{others-of, others-live, others-ascend, one-list}
 use Rattle.tree.proofs.Lists.{keep-in, keep-of, keep-ascends, keep-few}
 use Rattle.tree.proofs.Paths.{listed-below, listed-once, objectsOf, listed-object, object-listed}
-use Rattle.tree.proofs.Times.{Once, times-joined, times-out, joined-in, in-joined, ascends-once, once-length}
+use Rattle.sort.proofs.Times.{Once, times-joined, times-out, joined-in, in-joined, ascends-once, once-length}
 
 -- ---- how long what is kept and counted is
 

@@ -1,7 +1,6 @@
 -- lists of numbers, by their members and by their places
 pub mod Places
 pub mod Lists
-pub mod Times
 pub mod Positions
 pub mod Fronts
 pub mod Searching

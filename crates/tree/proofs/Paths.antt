@@ -27,7 +27,7 @@ use Rattle.tree.specs.Ways.{goesOn, up}
 use Rattle.tree.specs.Tree.{isIn}
 use Rattle.tree.proofs.Lists.{Has, keep-in, keep-of, keep-ascends, each-in, each-of, map-join}
 use Rattle.tree.proofs.Standing.{standing-live, goes-on, on-goes}
-use Rattle.tree.proofs.Times.{times-joined, times-out}
+use Rattle.sort.proofs.Times.{times-joined, times-out}
 use Rattle.tree.proofs.Ways.{up-first}
 
 -- ---- an object in a list of entries
