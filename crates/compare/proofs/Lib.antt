@@ -1,30 +1,30 @@
-pub mod Differing
-pub mod Heads
-pub mod Passing
-pub mod Parting
-pub mod Lining
-pub mod Listing
-pub mod Stretching
-pub mod Running
-pub mod Joining
-pub mod Ordering
-pub mod OrderWords
-pub mod Ranking
-pub mod Preparing
-pub mod Copying
-pub mod Running
-pub mod Filling
--- numbers and lists
+-- numbers, lists and bytes
 pub mod Passes
+pub mod Passing
+pub mod Joining
 pub mod Ids
+pub mod Parting
+pub mod Differing
 -- what a report means, over the definitions alone
 pub mod Meaning
 pub mod Same
 pub mod Exchanged
 pub mod Reported
 pub mod Reporting
--- that prepared words give the report
+-- how a dump is prepared
+pub mod Ordering
+pub mod OrderWords
+pub mod Ranking
 pub mod Copying
+pub mod Running
+pub mod Filling
+pub mod Preparing
+-- how a report is put
+pub mod Heads
+pub mod Stretching
+pub mod Lining
+pub mod Listing
+-- that prepared words give the report
 pub mod Showing
 pub mod Prepared
 pub mod Walking
