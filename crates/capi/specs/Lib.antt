@@ -6,3 +6,4 @@ pub mod Lookups
 pub mod Moments
 pub mod Reasons
 pub mod Trees
+pub mod Comparing

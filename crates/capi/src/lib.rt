@@ -2,6 +2,7 @@
 // A layout is given by its number in the table, 0 to 12; any other number is BadLayout. No call has a premise.
 pub mod alone;
 pub mod answer;
+pub mod comparing;
 pub mod count;
 pub mod header;
 pub mod indexed;
