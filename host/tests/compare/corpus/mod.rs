@@ -56,6 +56,22 @@ pub fn cases() -> Vec<Case> {
     texts.iter().map(|text| case(text)).collect()
 }
 
+/// The cases of each controller, an evening's and the morning's behind it.
+pub fn nights() -> Vec<[Case; 2]> {
+    let mut nights = Vec::new();
+    let mut evening: Option<Case> = None;
+    for case in cases() {
+        match (case.name.strip_suffix("-morning"), evening.take()) {
+            (Some(name), Some(evening)) if evening.name == format!("{name}-evening") => {
+                nights.push([evening, case]);
+            }
+            _ => evening = Some(case),
+        }
+    }
+    assert!(!nights.is_empty(), "no evening with its morning");
+    nights
+}
+
 fn case(path: &Path) -> Case {
     let text = fs::read_to_string(path).unwrap();
     let (first, shown) = text.split_once('\n').unwrap();
