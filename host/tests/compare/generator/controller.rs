@@ -1,7 +1,7 @@
 //! A controller in small: it keeps files by their bytes and writes pages of them one
 //! behind the other, under any layout. So two dumps can be of the same files.
 
-use std::collections::BTreeMap;
+use std::collections::{BTreeMap, BTreeSet};
 
 use super::build::Builder;
 use super::rng::Rng;
@@ -85,8 +85,32 @@ impl File {
     }
 }
 
+/// The pages that are left of these steps where all older ones were collected and erased:
+/// of each file its header, and what it holds.
+pub fn collected(steps: &[Step], data: usize) -> Vec<Page> {
+    let (_, files) = run(steps, data);
+    let mut log = Vec::new();
+    for (&id, file) in &files {
+        if file.is_made() {
+            log.push(headed(id, file));
+        }
+        let data = data as u64;
+        let numbers = file.pieces.keys().map(|piece| piece * PIECE / data);
+        let numbers: BTreeSet<u64> = numbers.collect();
+        for number in numbers {
+            log.extend(chunks(id, file, number * data, 1, data));
+        }
+    }
+    log
+}
+
 /// The pages that these steps write in chunks of so many bytes, oldest first.
 pub fn played(steps: &[Step], data: usize) -> Vec<Page> {
+    run(steps, data).0
+}
+
+/// The pages of these steps, and the files as they are then.
+fn run(steps: &[Step], data: usize) -> (Vec<Page>, BTreeMap<u32, File>) {
     let mut files: BTreeMap<u32, File> = BTreeMap::new();
     let mut log = Vec::new();
     for step in steps {
@@ -122,7 +146,7 @@ pub fn played(steps: &[Step], data: usize) -> Vec<Page> {
             }
         }
     }
-    log
+    (log, files)
 }
 
 fn headed(object: u32, file: &File) -> Page {

@@ -118,25 +118,68 @@ fn changed_field(rng: &mut Rng, id: u32) -> Step {
     }
 }
 
-/// One thing that happens to an object.
-fn happens(rng: &mut Rng, id: u32, sizes: [u64; 2]) -> Step {
-    match rng.below(20) {
-        0..=5 => write(rng, id, sizes),
-        6..=9 => resize(rng, id, sizes),
-        10..=16 => changed_field(rng, id),
-        17 | 18 => {
-            let parent: u32 = rng.pick(&[3, 4]);
-            let bytes = parent.to_le_bytes().to_vec();
-            Step::Change {
-                id,
-                at: PARENT,
-                bytes,
+/// A file is written, cut inside its first stretches, and grows again: by its header
+/// alone, or by bytes that are written in the same chunk or in a later one.
+fn shrunk_and_grown(rng: &mut Rng, id: u32, sizes: [u64; 2]) -> Vec<Step> {
+    let size = rng.between(1, 1600);
+    let longest = sizes[0].max(sizes[1]);
+    let next = (size / longest + 1) * longest;
+    let mut steps = Vec::new();
+    if rng.chance(70) {
+        let bytes = bytes(rng, 2048);
+        steps.push(Step::Write { id, at: 0, bytes });
+    }
+    let shrink = rng.pick(&[0, 1, 1, 1]);
+    let resized = |size: u64, shrink| Step::Resize {
+        id,
+        size: size as u32,
+        shrink,
+    };
+    steps.push(resized(size, shrink));
+    match rng.below(3) {
+        0 => steps.push(resized(size + rng.between(1, 2000), 0)),
+        which => {
+            let near = size + rng.pick(&[0, 1, 300, 512]);
+            let at = if which == 1 { next } else { near };
+            let length = rng.between(1, 600);
+            let bytes = bytes(rng, length);
+            steps.push(Step::Write { id, at, bytes });
+            if rng.chance(30) {
+                steps.push(resized(at + length, 0));
             }
         }
+    }
+    steps
+}
+
+/// An object is unlinked or deleted, and now and then made anew.
+fn gone(rng: &mut Rng, id: u32) -> Vec<Step> {
+    let parent: u32 = rng.pick(&[3, 4]);
+    let bytes = parent.to_le_bytes().to_vec();
+    let at = PARENT;
+    let mut steps = vec![Step::Change { id, at, bytes }];
+    if rng.chance(25) {
+        let bytes = 1u32.to_le_bytes().to_vec();
+        steps.push(Step::Change { id, at, bytes });
+        let size = rng.between(500, 2000) as u32;
+        let shrink = 0;
+        steps.push(Step::Resize { id, size, shrink });
+    }
+    steps
+}
+
+/// Something that happens to an object.
+fn happens(rng: &mut Rng, id: u32, sizes: [u64; 2]) -> Vec<Step> {
+    match rng.below(24) {
+        0..=5 => vec![write(rng, id, sizes)],
+        6..=9 => vec![resize(rng, id, sizes)],
+        10..=16 => vec![changed_field(rng, id)],
+        17..=19 => gone(rng, id),
+        20..=22 => shrunk_and_grown(rng, id, sizes),
         _ => {
             let file_type = rng.pick(&[1, 1, 1, 3]);
             let header = header(rng, file_type);
-            Step::Make { id, header }
+            vec![Step::Make { id, header }]
         }
     }
 }
@@ -170,7 +213,7 @@ pub fn evening(rng: &mut Rng, sizes: [u64; 2]) -> (Vec<u32>, Vec<Step>) {
     }
     for _ in 0..rng.below(4) {
         let id = rng.pick(&ids);
-        steps.push(happens(rng, id, sizes));
+        steps.extend(happens(rng, id, sizes));
     }
     (ids, steps)
 }
@@ -182,14 +225,14 @@ pub fn night(rng: &mut Rng, ids: &[u32], sizes: [u64; 2]) -> Vec<Step> {
     for _ in 0..rng.pick(&[0, 1, 1, 1, 1, 2, 2, 3, 5]) {
         let other = rng.pick(ids);
         let id = if rng.chance(80) { one } else { other };
-        steps.push(happens(rng, id, sizes));
+        steps.extend(happens(rng, id, sizes));
     }
     if rng.chance(12) {
         let id = rng.pick(&[2, 256, 259, 999]);
         let file_type = rng.pick(&[1, 1, 3]);
         let header = header(rng, file_type);
         steps.push(Step::Make { id, header });
-        steps.push(happens(rng, id, sizes));
+        steps.extend(happens(rng, id, sizes));
     }
     steps
 }

@@ -2,7 +2,7 @@
 //! morning's, often under two layouts; some are of any dump and the same with a few
 //! pages changed. A few are refused.
 
-use super::controller::{laid, played};
+use super::controller::{collected, laid, played};
 use super::dump::{self, Dump};
 use super::night::{evening, night, spoil};
 use super::rng::Rng;
@@ -95,7 +95,10 @@ fn nightly(rng: &mut Rng) -> Pair {
     let (ids, mut steps) = evening(rng, sizes);
     let mut logs = [played(&steps, one.data), Vec::new()];
     steps.extend(night(rng, &ids, sizes));
-    logs[1] = played(&steps, other.data);
+    logs[1] = match rng.chance(30) {
+        true => collected(&steps, other.data),
+        false => played(&steps, other.data),
+    };
     for log in &mut logs {
         for _ in 0..rng.pick(&[0, 0, 0, 1, 1, 2]) {
             spoil(rng, log, &ids);

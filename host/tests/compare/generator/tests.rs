@@ -38,8 +38,9 @@ fn every_wrong_rule_is_noticed() {
 
 /// Rules about one dump that two dumps compared must show as well: of page kinds, newest,
 /// size, cuts and fields.
-const SHOWN_BY_PAIRS: [Wrong; 17] = [
+const SHOWN_BY_PAIRS: [Wrong; 18] = [
     Wrong::BlockIgnored,
+    Wrong::BadLengthBeforeBadLayout,
     Wrong::LowestSequenceForeign,
     Wrong::CountAbovePageTaken,
     Wrong::AliasCutShort,

@@ -6,7 +6,7 @@ use std::fmt::{self, Write as _};
 
 use super::find::find;
 use super::layout::{opened, Layout, Named};
-use super::page::{data, fields, Body, Field, Record, FIELDS};
+use super::page::{data, fields, Body, Field, Record, FIELDS, LAST_CHUNK};
 use super::records::{age, ids, records};
 use super::refusal::{refuse, Refusal};
 use super::rules::Object;
@@ -139,6 +139,9 @@ impl Version<'_> {
 
     /// The size, of an object that has a header.
     fn size(&self) -> u64 {
+        if self.read.wrong == Wrong::CompareOthersEmpty && !self.is_live_file() {
+            return 0;
+        }
         let header = self.object.newest_header();
         match (
             self.read.wrong,
@@ -151,8 +154,13 @@ impl Version<'_> {
 
     /// The page that holds chunk n, and how many of its bytes are shown.
     fn held(&self, n: u64) -> Option<(usize, u64)> {
+        let n = match self.read.wrong {
+            Wrong::CompareLowBitsOfChunk => n & LAST_CHUNK,
+            _ => n,
+        };
         let place = match self.read.wrong {
             Wrong::CompareHiddenShown => self.object.newest_data(n),
+            _ if n == 0 => None,
             _ => self.object.copy(n),
         }?;
         let record = self.object.records[place];
@@ -214,6 +222,10 @@ impl Version<'_> {
             let start = self.object.start(chunk.into());
             if let Some((_, held)) = self.held(chunk.into()) {
                 stretches.extend(start / length..(start + held).div_ceil(length));
+                if self.read.wrong == Wrong::CompareLowBitsOfChunk {
+                    let again = self.object.start(LAST_CHUNK + 2);
+                    stretches.extend([(start + again) / length]);
+                }
             }
         }
         stretches
@@ -421,6 +433,7 @@ fn between(versions: [&Version<'_>; 2], wrong: Wrong) -> Differences {
         Wrong::CompareFieldsOfLive => have_headers && is_live(first) && is_live(second),
         Wrong::CompareFieldsUnlessDeleted => have_headers && deleted[0] == deleted[1],
         Wrong::CompareFieldsOfFiles => first.is_live_file() && second.is_live_file(),
+        Wrong::CompareFieldsOfNoHeader => headerless != [true; 2],
         _ => have_headers,
     };
     if compares_fields {
@@ -430,6 +443,7 @@ fn between(versions: [&Version<'_>; 2], wrong: Wrong) -> Differences {
     let compares_bytes = match wrong {
         Wrong::CompareFilesByFirst => have_headers && files[0],
         Wrong::CompareFilesBySecond => have_headers && files[1],
+        Wrong::CompareOthersEmpty => files != [false; 2],
         _ => files == [true; 2],
     };
     if compares_bytes {
@@ -467,8 +481,15 @@ fn sides(are: [bool; 2], told: impl Fn(bool) -> bool) -> Vec<u8> {
 /// The offsets of the fields of the newest headers that differ, ascending.
 fn fields_between(versions: [&Version<'_>; 2], wrong: Wrong) -> Vec<usize> {
     let of = |version: &Version<'_>| -> Vec<Vec<u8>> {
-        let (read, page) = (version.read, version.header().unwrap_or(0));
-        let fields = fields(read.dump, read.layout, page, wrong).into_iter();
+        let Some(page) = version.header() else {
+            let zeros = |is_number, width| vec![0; if is_number { 8 } else { width }];
+            let fields = FIELDS.iter();
+            return fields
+                .map(|&(_, _, width, is_number)| zeros(is_number, width))
+                .collect();
+        };
+        let fields = fields(version.read.dump, version.read.layout, page, wrong);
+        let fields = fields.into_iter();
         fields
             .map(|(name, field)| value(name, field, wrong))
             .collect()

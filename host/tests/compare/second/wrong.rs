@@ -626,6 +626,8 @@ wrong_rules! {
     CompareFieldsUnlessDeleted,
     /// Fields are compared of live files alone.
     CompareFieldsOfFiles,
+    /// Fields of a header differ from none as from zeros.
+    CompareFieldsOfNoHeader,
     /// The oldest headers are compared.
     CompareOldestHeaders,
     /// Of the headers those with the latest time are compared.
@@ -682,6 +684,8 @@ wrong_rules! {
     CompareFilesByFirst,
     /// Size and bytes are compared where the second dump has a live file.
     CompareFilesBySecond,
+    /// What is no live file has a size of 0.
+    CompareOthersEmpty,
 
     // Two dumps compared: stretches.
     /// A stretch has 256 bytes.
@@ -730,6 +734,8 @@ wrong_rules! {
     CompareCutsNoBytes,
     /// A copy is shown beyond its byte count and later cuts.
     CompareCountsIgnored,
+    /// A chunk above 0xFFFFF is looked for by its low bits.
+    CompareLowBitsOfChunk,
     /// Chunks of both are counted by the first dump's page size.
     CompareDataSizeOfFirst,
 
