@@ -2,10 +2,12 @@
 //!
 //! - `command`: what the command reads of them.
 //! - `tree`: their paths.
+//! - `compare`: an evening's beside the morning's.
 //!
 //! What the second reader makes of them is among its own tests.
 
 mod command;
+mod compare;
 mod tree;
 
 use std::fs;

@@ -337,6 +337,19 @@ pub fn compare(sides: [Side<'_>; 2], wrong: Wrong) -> Result<Vec<Differing>, Ref
     Ok(differing(&reads, wrong))
 }
 
+/// The records of a dump, ascending by object and the newest first in each, as numbers
+/// of object and page; or its refusal.
+pub fn order(side: Side<'_>, wrong: Wrong) -> Result<Vec<u64>, Refusal> {
+    let layout = side.layout(wrong)?;
+    let mut records = side.read(layout, layout.data, wrong).records;
+    records.reverse();
+    records.sort_by_key(|record| record.object);
+    let words = records.iter();
+    Ok(words
+        .map(|record| u64::from(record.object) << 32 | record.page as u64)
+        .collect())
+}
+
 /// The lines of all of them.
 pub fn text(differing: &[Differing]) -> String {
     differing.iter().map(Differing::to_string).collect()
