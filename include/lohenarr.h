@@ -236,6 +236,22 @@ typedef struct {
     uint64_t length;
 } lohenarr_text_answer;
 
+/* How many records a dump has that was prepared to be compared. Beside ShortBuffer need
+ * is how many words order and copies need each, and half of what work needs. */
+typedef struct {
+    uint32_t refusal;
+    uint32_t need;
+    uint32_t records;
+} lohenarr_prepared_answer;
+
+/* The next object of two prepared dumps, 0 where none is left, and how many words at the
+ * front of each order are of it. */
+typedef struct {
+    uint32_t object;
+    uint64_t first;
+    uint64_t second;
+} lohenarr_next_answer;
+
 /* The most bytes that a dump has. */
 size_t lohenarr_most_bytes(void);
 
@@ -389,6 +405,28 @@ lohenarr_text_answer lohenarr_tree_text(const uint8_t *dump, size_t len, lohenar
 /* The path of one of the first listed rows: for each step down a / and the name up to
  * its first zero byte, as it is. 32 * 257 bytes are enough for every path. */
 lohenarr_text_answer lohenarr_tree_path(const uint8_t *dump, size_t len, lohenarr_geometry geometry, const uint64_t *rows, size_t rows_len, uint32_t row, uint8_t *buf, size_t buf_len);
+
+/* Prepares a dump to be compared. The first records words of order are its records,
+ * ascending by object and the newest first in each: object * 2^32 + page. Those of
+ * copies are, at the same places, the copies that each object's file shows. order and
+ * copies take a word for each record, work two, which are cleared; words past these
+ * stay. */
+lohenarr_prepared_answer lohenarr_compare_prepare(const uint8_t *dump, size_t len, lohenarr_geometry geometry, uint64_t *order, size_t order_len, uint64_t *copies, size_t copies_len, uint64_t *work, size_t work_len);
+
+/* The lesser of the objects of both orders' first words, and how many words at the front
+ * of each are of it. */
+lohenarr_next_answer lohenarr_compare_next(const uint64_t *order1, size_t order1_len, const uint64_t *order2, size_t order2_len);
+
+/* What differs of one object between two dumps, by its words in the order and the copies
+ * of each, none where a dump has none: the lines object=, only=, deleted= and noheader=
+ * (1 or 2), field= (an offset), both size=, and stretch= (of 512 bytes, from 0 on), as
+ * far as they apply; no line where nothing differs. Bytes past the text stay as they
+ * were. */
+lohenarr_text_answer lohenarr_compare_object(const uint8_t *dump1, size_t dump1_len, lohenarr_geometry geometry1, const uint64_t *order1, size_t order1_len, const uint64_t *copies1, size_t copies1_len, const uint8_t *dump2, size_t dump2_len, lohenarr_geometry geometry2, const uint64_t *order2, size_t order2_len, const uint64_t *copies2, size_t copies2_len, uint32_t object, uint8_t *buf, size_t buf_len);
+
+/* The same of all objects of two prepared dumps, ascending. Of both dumps' refusals the
+ * one that is first in the table's order is given. */
+lohenarr_text_answer lohenarr_compare(const uint8_t *dump1, size_t dump1_len, lohenarr_geometry geometry1, const uint64_t *order1, size_t order1_len, const uint64_t *copies1, size_t copies1_len, const uint8_t *dump2, size_t dump2_len, lohenarr_geometry geometry2, const uint64_t *order2, size_t order2_len, const uint64_t *copies2, size_t copies2_len, uint8_t *buf, size_t buf_len);
 
 #ifdef __cplusplus
 }

@@ -20,9 +20,9 @@ pub struct Arguments {
 
 const NOTES: &str = "\
 A command is followed by DUMP, a file that is opened read-only, or - for standard
-input. Numbers are decimal, or hexadecimal with 0x. An object is named by its id, or
-by its path, as tree prints it. A refusal prints refusal=N and ends with status 1;
-bad usage and files that fail end with status 2.
+input, and compare by two. Numbers are decimal, or hexadecimal with 0x. An object is
+named by its id, or by its path, as tree prints it. A refusal prints refusal=N and
+ends with status 1; bad usage and files that fail end with status 2.
 `lohenarr help COMMAND` has the options of a command.
 ";
 
@@ -114,6 +114,11 @@ pub enum Command {
         #[arg(value_parser = typed::position, allow_negative_numbers = true)]
         position: Option<u64>,
     },
+    /// What differs between two dumps, object by object
+    Compare {
+        #[command(flatten)]
+        on: Both,
+    },
     /// An answer for each request of a script
     #[command(after_help = FORMS)]
     Script {
@@ -149,6 +154,32 @@ pub struct Past {
     /// As the dump stood before the record on this page was written
     #[arg(long, value_name = "PAGE", value_parser = Typed::number, allow_negative_numbers = true)]
     pub before: Option<Typed>,
+}
+
+/// Two dumps, how each is cut, and how the answer is printed.
+#[derive(Debug, Args)]
+pub struct Both {
+    /// The first dump: a file, opened read-only, or - for standard input
+    pub evening: OsString,
+    /// The second dump, in the same way
+    pub morning: OsString,
+    /// Read the dumps into memory instead of mapping them
+    #[arg(long)]
+    pub copy: bool,
+    /// The layout of both, by its sizes or its number in the table; found if left out
+    #[arg(long, value_name = "P/S/T", value_parser = Typed::layout)]
+    pub layout: Option<Typed>,
+    /// The pages of a block of both, 1 to 256; found if left out
+    #[arg(short, long, value_name = "K", value_parser = Typed::number, allow_negative_numbers = true)]
+    pub block: Option<Typed>,
+    /// The layout of the second dump, where it is another
+    #[arg(long, value_name = "P/S/T", value_parser = Typed::layout)]
+    pub layout2: Option<Typed>,
+    /// The pages of a block of the second dump, where they are others
+    #[arg(long, value_name = "K", value_parser = Typed::number, allow_negative_numbers = true)]
+    pub block2: Option<Typed>,
+    #[command(flatten)]
+    pub form: Form,
 }
 
 #[derive(Debug, Args)]
@@ -216,6 +247,7 @@ impl Arguments {
             | Command::Read { on, .. }
             | Command::Extract { on, .. }
             | Command::Why { on, .. } => on.on.form.json,
+            Command::Compare { on } => on.form.json,
             Command::Script { .. } | Command::Completions { .. } => false,
         }
     }

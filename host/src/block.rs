@@ -35,22 +35,27 @@ impl Fitting {
     }
 }
 
-/// Which K is taken, which others would fit as well, and how to name one.
-impl fmt::Display for Fitting {
-    fn fmt(&self, f: &mut fmt::Formatter<'_>) -> fmt::Result {
+impl Fitting {
+    /// Which K is taken, which others would fit as well, and that an option names it.
+    pub fn sentence(&self, option: &str) -> String {
         let taken = self.taken();
         let others = self.0.iter().skip(1).map(u32::to_string);
         let others: Vec<String> = others.collect();
-        write!(f, "K is {taken}, ")?;
-        match &others[..] {
-            [] if self.0.is_empty() => write!(f, "as too few tags make sense under the layout")?,
-            [] => write!(f, "as no larger power of two fits")?,
-            [other] => write!(f, "and {other} would fit as well")?,
+        let why = match &others[..] {
+            [] if self.0.is_empty() => "as too few tags make sense under the layout".to_string(),
+            [] => "as no larger power of two fits".to_string(),
+            [other] => format!("and {other} would fit as well"),
             [others @ .., last] => {
-                write!(f, "and {} and {last} would fit as well", others.join(", "))?
+                format!("and {} and {last} would fit as well", others.join(", "))
             }
-        }
-        write!(f, "; --block names it")
+        };
+        format!("K is {taken}, {why}; {option} names it")
+    }
+}
+
+impl fmt::Display for Fitting {
+    fn fmt(&self, f: &mut fmt::Formatter<'_>) -> fmt::Result {
+        f.write_str(&self.sentence("--block"))
     }
 }
 

@@ -35,7 +35,7 @@ macro_rules! answers {
 answers! {
     LayoutAnswer PagesAnswer CountsAnswer KindAnswer HeaderAnswer PartAnswer SizeAnswer ChunkAnswer
     ListAnswer TallyAnswer TableAnswer CopiesAnswer RunAnswer WhyAnswer SpansAnswer TreeAnswer
-    TextAnswer
+    TextAnswer PreparedAnswer
 }
 
 /// How a dump is cut into pages and blocks: a layout by its number in the table,
@@ -341,6 +341,36 @@ pub struct TextAnswer {
     pub length: u64,
 }
 
+/// How many records a dump has that was prepared to be compared. Beside ShortBuffer
+/// `need` is how many words of order and of copies it needs, and half of those of work.
+#[repr(C)]
+#[derive(Clone, Copy, Debug, PartialEq, Eq)]
+pub struct PreparedAnswer {
+    pub refusal: u32,
+    pub need: u32,
+    pub records: u32,
+}
+
+/// The next object of two prepared dumps, or 0 where none is left, and how many words
+/// at the front of each order are of it.
+#[repr(C)]
+#[derive(Clone, Copy, Debug, PartialEq, Eq)]
+pub struct NextAnswer {
+    pub object: u32,
+    pub first: u64,
+    pub second: u64,
+}
+
+/// A dump that was prepared, or as much of it as is of one object: the dump itself, how
+/// it is read, and the words of its order and copies.
+#[derive(Clone, Copy)]
+pub struct Side<'a> {
+    pub dump: &'a [u8],
+    pub on: Geometry,
+    pub order: &'a [u64],
+    pub copies: &'a [u64],
+}
+
 /// Stands for the page before which a dump is read, where it is read as it stands.
 pub const AS_IT_STANDS: u32 = u32::MAX;
 
@@ -388,6 +418,10 @@ extern "C" {
     fn lohenarr_tree_row(row: u64) -> RowAnswer;
     fn lohenarr_tree_text(dump: *const u8, len: usize, geometry: Geometry, rows: *const u64, rows_len: usize, listed: u32, buf: *mut u8, buf_len: usize) -> TextAnswer;
     fn lohenarr_tree_path(dump: *const u8, len: usize, geometry: Geometry, rows: *const u64, rows_len: usize, row: u32, buf: *mut u8, buf_len: usize) -> TextAnswer;
+    fn lohenarr_compare_prepare(dump: *const u8, len: usize, geometry: Geometry, order: *mut u64, order_len: usize, copies: *mut u64, copies_len: usize, work: *mut u64, work_len: usize) -> PreparedAnswer;
+    fn lohenarr_compare_next(order1: *const u64, order1_len: usize, order2: *const u64, order2_len: usize) -> NextAnswer;
+    fn lohenarr_compare_object(dump1: *const u8, dump1_len: usize, geometry1: Geometry, order1: *const u64, order1_len: usize, copies1: *const u64, copies1_len: usize, dump2: *const u8, dump2_len: usize, geometry2: Geometry, order2: *const u64, order2_len: usize, copies2: *const u64, copies2_len: usize, object: u32, buf: *mut u8, buf_len: usize) -> TextAnswer;
+    fn lohenarr_compare(dump1: *const u8, dump1_len: usize, geometry1: Geometry, order1: *const u64, order1_len: usize, copies1: *const u64, copies1_len: usize, dump2: *const u8, dump2_len: usize, geometry2: Geometry, order2: *const u64, order2_len: usize, copies2: *const u64, copies2_len: usize, buf: *mut u8, buf_len: usize) -> TextAnswer;
 }
 
 /// The most bytes that a dump has.
@@ -667,4 +701,53 @@ pub fn tree_path(dump: &[u8], on: Geometry, rows: &[u64], row: u32, buf: &mut [u
     let (at, count) = (rows.as_ptr(), rows.len());
     let (to, room) = (buf.as_mut_ptr(), buf.len());
     unsafe { lohenarr_tree_path(dump.as_ptr(), dump.len(), on, at, count, row, to, room) }
+}
+
+/// Prepares a dump to be compared: in `order` its records, ascending by object and the
+/// newest first in each, and in `copies` at the same places those that each object's
+/// file shows. `work` is working memory, which is cleared.
+#[rustfmt::skip]
+pub fn compare_prepare(dump: &[u8], on: Geometry, order: &mut [u64], copies: &mut [u64], work: &mut [u64]) -> PreparedAnswer {
+    let (to, room) = (order.as_mut_ptr(), order.len());
+    let (copy, count) = (copies.as_mut_ptr(), copies.len());
+    let (at, words) = (work.as_mut_ptr(), work.len());
+    unsafe { lohenarr_compare_prepare(dump.as_ptr(), dump.len(), on, to, room, copy, count, at, words) }
+}
+
+/// The lesser of the objects with which two orders begin.
+pub fn compare_next(order1: &[u64], order2: &[u64]) -> NextAnswer {
+    let (one, other) = (order1.as_ptr(), order2.as_ptr());
+    unsafe { lohenarr_compare_next(one, order1.len(), other, order2.len()) }
+}
+
+/// The report of one object by its words on each side, written to the front of a buffer.
+#[rustfmt::skip]
+pub fn compare_object(first: Side<'_>, second: Side<'_>, object: u32, buf: &mut [u8]) -> TextAnswer {
+    let (to, room) = (buf.as_mut_ptr(), buf.len());
+    let (one, other) = (first, second);
+    unsafe {
+        lohenarr_compare_object(
+            one.dump.as_ptr(), one.dump.len(), one.on,
+            one.order.as_ptr(), one.order.len(), one.copies.as_ptr(), one.copies.len(),
+            other.dump.as_ptr(), other.dump.len(), other.on,
+            other.order.as_ptr(), other.order.len(), other.copies.as_ptr(), other.copies.len(),
+            object, to, room,
+        )
+    }
+}
+
+/// The report of all objects of two prepared dumps, written to the front of a buffer.
+#[rustfmt::skip]
+pub fn compare(first: Side<'_>, second: Side<'_>, buf: &mut [u8]) -> TextAnswer {
+    let (to, room) = (buf.as_mut_ptr(), buf.len());
+    let (one, other) = (first, second);
+    unsafe {
+        lohenarr_compare(
+            one.dump.as_ptr(), one.dump.len(), one.on,
+            one.order.as_ptr(), one.order.len(), one.copies.as_ptr(), one.copies.len(),
+            other.dump.as_ptr(), other.dump.len(), other.on,
+            other.order.as_ptr(), other.order.len(), other.copies.as_ptr(), other.copies.len(),
+            to, room,
+        )
+    }
 }

@@ -12,6 +12,8 @@ pub enum Value<'a> {
     Text(&'a [u8]),
     /// Bytes that are no text.
     Bytes(&'a [u8]),
+    /// Several of one name.
+    Numbers(Vec<u64>),
     Nothing,
 }
 
@@ -75,7 +77,7 @@ impl<'w> Printer<'w> {
             return self.object(fields);
         }
         let mut fields = fields.iter();
-        fields.try_for_each(|field| writeln!(self.out, "{}", word(field)))
+        fields.try_for_each(|field| writeln!(self.out, "{}", word(field, "\n")))
     }
 
     fn object(&mut self, fields: &[Field<'_>]) -> io::Result<()> {
@@ -86,16 +88,21 @@ impl<'w> Printer<'w> {
 
 /// Fields on one line.
 pub fn line(fields: &[Field<'_>]) -> String {
-    let words: Vec<String> = fields.iter().map(word).collect();
+    let words: Vec<String> = fields.iter().map(|field| word(field, " ")).collect();
     words.join(" ")
 }
 
-fn word((name, value): &Field<'_>) -> String {
+/// A field; where it is several numbers, these stand apart in this way.
+fn word((name, value): &Field<'_>, apart: &str) -> String {
     match value {
         Value::Number(number) => format!("{name}={number}"),
         Value::Word(word) => format!("{name}={word}"),
         Value::Text(bytes) => format!("{name}={}", text(bytes)),
         Value::Bytes(bytes) => format!("{name}={}", hex(bytes)),
+        Value::Numbers(numbers) => {
+            let words = numbers.iter().map(|number| format!("{name}={number}"));
+            words.collect::<Vec<_>>().join(apart)
+        }
         Value::Nothing => name.to_string(),
     }
 }
@@ -115,6 +122,7 @@ impl Serialize for Object<'_> {
                     map.serialize_entry(&format!("{name}_hex"), &hex(before_zero(bytes)))?;
                 }
                 Value::Bytes(bytes) => map.serialize_entry(name, &hex(bytes))?,
+                Value::Numbers(numbers) => map.serialize_entry(name, numbers)?,
                 Value::Nothing => map.serialize_entry(name, &true)?,
             }
         }
@@ -182,6 +190,7 @@ mod tests {
             ("layout", "512/16/0".into()),
             ("reserved", Value::Bytes(&[0, 255])),
             ("win_created", u64::MAX.into()),
+            ("size", Value::Numbers(vec![7, 9])),
         ];
         let printed = |json, each: bool| {
             let mut out = Vec::new();
@@ -194,10 +203,10 @@ mod tests {
             String::from_utf8(out).unwrap()
         };
         let words = "page=7 name=a\\\\\"\\x0A hole layout=512/16/0 reserved=00ff \
-                     win_created=18446744073709551615\n";
+                     win_created=18446744073709551615 size=7 size=9\n";
         assert_eq!(printed(false, false), words);
         assert_eq!(printed(false, true), words.replace(' ', "\n"));
-        let object = r#"{"page":7,"name":"a\\\\\"\\x0A","name_hex":"615c220a","hole":true,"layout":"512/16/0","reserved":"00ff","win_created":18446744073709551615}"#;
+        let object = r#"{"page":7,"name":"a\\\\\"\\x0A","name_hex":"615c220a","hole":true,"layout":"512/16/0","reserved":"00ff","win_created":18446744073709551615,"size":[7,9]}"#;
         assert_eq!(printed(true, false), format!("{object}\n"));
         assert_eq!(printed(true, true), format!("{object}\n"));
     }

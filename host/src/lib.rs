@@ -14,6 +14,7 @@
 //! - `objects`: the objects of a dump and their chunks, as the commands ask for them.
 //! - `table`: the chunks of a file and its bytes.
 //! - `tree`: the live objects with their paths.
+//! - `compare`: two dumps, object by object.
 //! - `reasons`, `because`: why bytes of a file are what they are.
 //! - `fields`: answers as lines or as JSON.
 //! - `commands`: a file for each command.
@@ -28,6 +29,7 @@ pub mod arguments;
 mod because;
 pub mod block;
 pub mod commands;
+pub mod compare;
 pub mod dump;
 pub mod failure;
 pub mod ffi;

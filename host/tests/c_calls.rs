@@ -65,6 +65,12 @@ fn places() -> String {
         ("row_answer.page", offset_of!(RowAnswer, page)),
         ("text_answer.need", offset_of!(TextAnswer, need)),
         ("text_answer.length", offset_of!(TextAnswer, length)),
+        (
+            "prepared_answer.records",
+            offset_of!(PreparedAnswer, records),
+        ),
+        ("next_answer.first", offset_of!(NextAnswer, first)),
+        ("next_answer.second", offset_of!(NextAnswer, second)),
     ];
     let lines = fields.map(|(field, offset)| format!("lohenarr_{field} {offset}\n"));
     let sizes = [
@@ -89,6 +95,8 @@ fn places() -> String {
         size_of::<TreeAnswer>(),
         size_of::<RowAnswer>(),
         size_of::<TextAnswer>(),
+        size_of::<PreparedAnswer>(),
+        size_of::<NextAnswer>(),
     ];
     let sizes = sizes.map(|size| format!(" {size}"));
     format!("{}sizes{}\n", lines.concat(), sizes.concat())
@@ -138,6 +146,13 @@ text 11: need 274
 text 0: 274, object=257
 path=
 path 0: 257, / 255
+prepared 11: need 7, 7
+prepared 0: 7, 257/6 to 0, 7 7
+next 257: 7 and 0
+object 11: need 18
+object 0: object=257
+only=1
+compared 0: 0
 ";
     let shelf = File::open(Path::new(HOST).join("tests/data/W")).unwrap();
     let output = Command::new(compiled()).stdin(shelf).output().unwrap();

@@ -51,7 +51,9 @@ fn what_is_installed_works() {
     ];
     for name in completions {
         let completions = fs::read_to_string(usr.join(name)).unwrap();
-        for word in ["extract", "why", "tree", "block", "json", "long"] {
+        for word in [
+            "extract", "why", "tree", "compare", "block2", "json", "long",
+        ] {
             assert!(completions.contains(word), "{name}: {word}");
         }
     }

@@ -1,6 +1,7 @@
 //! The commands, a file for each.
 
 mod chunk;
+mod compare;
 mod completions;
 mod extract;
 mod find;
@@ -42,6 +43,7 @@ pub fn run(arguments: &Arguments, out: &mut dyn Write) -> Result<(), Failure> {
         Command::Why { on, of, position } => {
             why::why(&Opened::past(on)?, &of.object, *position, out)
         }
+        Command::Compare { on } => compare::compare(on, out),
         Command::Script { source, script } => script::script(source, script, out),
         Command::Completions { shell } => completions::completions(*shell, out),
     }

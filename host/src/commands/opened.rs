@@ -45,12 +45,25 @@ impl Opened {
         Ok(opened)
     }
 
-    /// Where K is not named, the layout is found with K = 1, and then K; what was
-    /// taken is said once nothing is refused.
+    /// What was taken as K is said once nothing is refused.
     pub fn open(source: &Source, named: Option<&Typed>, block: &Block) -> Result<Opened, Failure> {
+        let (opened, fitting) = Opened::tried(source, named, block.block.as_ref())?;
+        if let Some(fitting) = fitting {
+            say(&format!("lohenarr: {fitting}"));
+        }
+        Ok(opened)
+    }
+
+    /// Where K is not named, the layout is found with K = 1, and then K: which fit is
+    /// given too.
+    pub fn tried(
+        source: &Source,
+        named: Option<&Typed>,
+        block: Option<&Typed>,
+    ) -> Result<(Opened, Option<Fitting>), Failure> {
         let dump = Dump::open(&source.dump, source.copy).map_err(Failure::File)?;
-        let first = block.block.clone().unwrap_or_else(|| Typed::from(1));
-        let k = block.block.as_ref().map(|typed| typed.number);
+        let first = block.cloned().unwrap_or_else(|| Typed::from(1));
+        let k = block.map(|typed| typed.number);
         let (answer, guess) = match named {
             Some(named) => (ffi::layout(named.number), None),
             None => found(&dump, k),
@@ -71,10 +84,7 @@ impl Opened {
         };
         let pages = ffi::pages(&opened.dump, opened.geometry());
         opened.pages = opened.given(pages, opened.asked())?.pages;
-        if let Some(fitting) = fitting {
-            say(&format!("lohenarr: {fitting}"));
-        }
-        Ok(opened)
+        Ok((opened, fitting))
     }
 
     /// The layout with K.

@@ -14,6 +14,9 @@ static uint64_t lent[256];
 static uint64_t branches[4] = {7, 7, 7, 7};
 static uint64_t heads[4] = {7, 7, 7, 7};
 static uint64_t work[4] = {7, 7, 7, 7};
+static uint64_t order[8] = {7, 7, 7, 7, 7, 7, 7, 7};
+static uint64_t pieces[8] = {7, 7, 7, 7, 7, 7, 7, 7};
+static uint64_t words[16] = {[14] = 7};
 
 /* Why a byte of W's file is what it is. */
 static void why(size_t len, lohenarr_geometry geometry, uint32_t before, uint64_t position) {
@@ -113,6 +116,20 @@ int main(void) {
     printf("text %u: %llu, %.16s\n", text.refusal, (unsigned long long)text.length, buffer);
     text = lohenarr_tree_path(dump, len, geometry, branches, 1, 0, buffer, sizeof buffer);
     printf("path %u: %llu, %c %u\n", text.refusal, (unsigned long long)text.length, buffer[0], buffer[256]);
+    lohenarr_prepared_answer prepared = lohenarr_compare_prepare(dump, len, geometry, order, 6, pieces, 8, words, 16);
+    printf("prepared %u: need %u, %llu\n", prepared.refusal, prepared.need, (unsigned long long)order[0]);
+    prepared = lohenarr_compare_prepare(dump, len, geometry, order, 8, pieces, 8, words, 16);
+    printf("prepared %u: %u, %llu/%llu to %llu, %llu %llu\n", prepared.refusal, prepared.records, (unsigned long long)(order[0] >> 32),
+           (unsigned long long)(order[0] & 0xFFFFFFFF), (unsigned long long)(order[6] & 0xFFFFFFFF), (unsigned long long)order[7],
+           (unsigned long long)words[14]);
+    lohenarr_next_answer next = lohenarr_compare_next(order, 7, order, 0);
+    printf("next %u: %llu and %llu\n", next.object, (unsigned long long)next.first, (unsigned long long)next.second);
+    text = lohenarr_compare_object(dump, len, geometry, order, 7, pieces, 7, dump, len, geometry, order, 0, pieces, 0, 257, buffer, 9);
+    printf("object %u: need %llu\n", text.refusal, (unsigned long long)text.need);
+    text = lohenarr_compare_object(dump, len, geometry, order, 7, pieces, 7, dump, len, geometry, order, 0, pieces, 0, 257, buffer, sizeof buffer);
+    printf("object %u: %.*s", text.refusal, (int)text.length, buffer);
+    text = lohenarr_compare(dump, len, geometry, order, 7, pieces, 7, dump, len, geometry, order, 7, pieces, 7, buffer, 0);
+    printf("compared %u: %llu\n", text.refusal, (unsigned long long)text.length);
     FIELD(lohenarr_geometry, block);
     FIELD(lohenarr_layout_answer, tag);
     FIELD(lohenarr_kind_answer, count);
@@ -141,13 +158,16 @@ int main(void) {
     FIELD(lohenarr_row_answer, page);
     FIELD(lohenarr_text_answer, need);
     FIELD(lohenarr_text_answer, length);
-    printf("sizes %zu %zu %zu %zu %zu %zu %zu %zu %zu %zu %zu %zu %zu %zu %zu %zu %zu %zu %zu %zu %zu\n", sizeof(lohenarr_layout_answer), sizeof(lohenarr_pages_answer),
+    FIELD(lohenarr_prepared_answer, records);
+    FIELD(lohenarr_next_answer, first);
+    FIELD(lohenarr_next_answer, second);
+    printf("sizes %zu %zu %zu %zu %zu %zu %zu %zu %zu %zu %zu %zu %zu %zu %zu %zu %zu %zu %zu %zu %zu %zu %zu\n", sizeof(lohenarr_layout_answer), sizeof(lohenarr_pages_answer),
            sizeof(lohenarr_counts_answer), sizeof(lohenarr_kind_answer), sizeof(lohenarr_header_answer),
            sizeof(lohenarr_part_answer), sizeof(lohenarr_size_answer), sizeof(lohenarr_chunk_answer),
            sizeof(lohenarr_place_answer), sizeof(lohenarr_list_answer), sizeof(lohenarr_tally_answer),
            sizeof(lohenarr_table_answer), sizeof(lohenarr_copies_answer), sizeof(lohenarr_copy_answer),
            sizeof(lohenarr_run_answer), sizeof(lohenarr_why_answer), sizeof(lohenarr_spans_answer),
            sizeof(lohenarr_span_answer), sizeof(lohenarr_tree_answer), sizeof(lohenarr_row_answer),
-           sizeof(lohenarr_text_answer));
+           sizeof(lohenarr_text_answer), sizeof(lohenarr_prepared_answer), sizeof(lohenarr_next_answer));
     return 0;
 }

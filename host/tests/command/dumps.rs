@@ -43,6 +43,8 @@ pub fn folder() -> TempDir {
     put("half-gib", &with(page(0), SIZE, 1 << 29));
     put("4-gib", &with(page(0), SIZE, u32::MAX));
     put("forest", &forest());
+    put("morning", &morning());
+    put("relaid", &relaid());
     folder
 }
 
@@ -63,6 +65,28 @@ fn named(name: &[u8]) -> Vec<u8> {
     page[NAME..SIZE].fill(0);
     page[NAME..NAME + name.len()].copy_from_slice(name);
     with(&page, ALIAS, 0)
+}
+
+/// W without its page 4, so that nothing cuts its file.
+fn morning() -> Vec<u8> {
+    let blank = with(page(4), DATA, u32::MAX);
+    [&W[..4 * PAGE], &blank, &W[5 * PAGE..]].concat()
+}
+
+/// The file of W in two pages of 2048/64/2, with the newest header that it has there.
+fn relaid() -> Vec<u8> {
+    let bytes = [&page(5)[..300], &[0; 724], &page(6)[..10]].concat();
+    let long = |data: &[u8], tags: [u32; 4]| {
+        let mut long = vec![0xFF; 2048 + 64];
+        long[..data.len()].copy_from_slice(data);
+        for (at, word) in (2050..).step_by(4).zip(tags) {
+            long = with(&long, at, word);
+        }
+        long
+    };
+    let header = long(&page(4)[..DATA], [4097, 1 << 28 | 257, 0x8000_0001, 0]);
+    let data = long(&bytes, [4097, 257, 1, bytes.len() as u32]);
+    [header, data].concat()
 }
 
 /// A symbolic link whose target is as long as can be. The words of the header

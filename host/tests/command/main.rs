@@ -3,6 +3,7 @@
 //! - `dumps`: W, and dumps made of it.
 //! - `transcript`: every command on W, every refusal and every habit, with stored output.
 //! - `before`: dumps as they once stood.
+//! - `compare`: two dumps.
 //! - `crowded`: trees of very many objects.
 //! - `found`: K where it is not named.
 //! - `inputs`: dumps and scripts that are no plain files.
@@ -12,9 +13,10 @@
 //! - `out`: files that `read --out` writes.
 //! - `progress`: what is shown of long work.
 //! - `tree`: names and paths.
-//! - `terminal`: a terminal for the two before.
+//! - `terminal`: a terminal for some of these.
 
 mod before;
+mod compare;
 mod crowded;
 mod dumps;
 mod found;

@@ -34,6 +34,7 @@ fn an_output_that_is_full() {
         (&["pages", "empty", "-b4"], true),
         (&["tree", "forest", "-b8"], false),
         (&["tree", "forest", "-b8", "--json"], false),
+        (&["compare", "W", "morning", "-b4"], false),
         (&["completions", "bash"], false),
         (&["help", "size"], false),
     ];

@@ -75,7 +75,7 @@ impl Asked<'_> {
 }
 
 /// A text is written whole and no further, and not at all where one byte is missing.
-fn holds(place: &str, text: &[u8], write: impl Fn(&mut [u8]) -> ffi::TextAnswer) {
+pub fn holds(place: &str, text: &[u8], write: impl Fn(&mut [u8]) -> ffi::TextAnswer) {
     if let Some(short) = text.len().checked_sub(1) {
         let mut buffer = vec![BYTE; short];
         let answer = write(&mut buffer);

@@ -7,6 +7,7 @@
 //! - `lent`, `lent_tree`: what reasons and trees leave in the memory that they are
 //!   lent.
 //! - `corpus`: dumps that the YAFFS2 driver wrote.
+//! - `pairs`: two dumps compared.
 //! - `paths`: objects by their paths.
 //! - `replay`: the vectors that the program of that name is held to.
 //! - `scores`: the scores of layouts, by which K is found.
@@ -22,6 +23,8 @@ mod lent;
 #[cfg(test)]
 mod lent_tree;
 mod library;
+#[cfg(test)]
+mod pairs;
 #[cfg(test)]
 mod paths;
 #[cfg(test)]

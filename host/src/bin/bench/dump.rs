@@ -2,7 +2,7 @@
 //! blocks that were written in another order than they stand.
 
 use std::fs::File;
-use std::io;
+use std::io::{self, BufWriter, Write as _};
 use std::os::unix::fs::FileExt;
 use std::path::Path;
 
@@ -40,6 +40,24 @@ pub fn write(path: &Path, mib: usize, tag: usize) -> io::Result<()> {
         file.write_all_at(&bytes, (place * BLOCK) as u64)?;
     }
     Ok(())
+}
+
+/// Of so many pages one is changed where a dump is written again.
+const CHANGED: u64 = 30;
+
+/// Writes such a dump again, with some pages changed: a header has another time, and
+/// data another byte.
+pub fn rewrite(dump: &[u8], path: &Path) -> io::Result<()> {
+    let mut file = BufWriter::new(File::create(path)?);
+    let mut log = Log::new(0);
+    for page in dump.chunks_exact(PAGE) {
+        let mut page = page.to_vec();
+        if log.random().is_multiple_of(CHANGED) {
+            page[0x11C] ^= 1;
+        }
+        file.write_all(&page)?;
+    }
+    file.flush()
 }
 
 /// A step that visits every one of n places once.

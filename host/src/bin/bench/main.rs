@@ -22,10 +22,14 @@
 //! is, and `spans short` of a short one, from the dump alone: plain Rust goes over
 //! it once, and keeps the object's records. `tree` is the text of the tree, and
 //! `tree full` the same on a dump in which every page is the header of an object of
-//! its own: plain Rust sorts what the library does.
+//! its own: plain Rust sorts what the library does. `compare` is what differs between
+//! the dump and the same with a few pages in a hundred changed, object by object: plain
+//! Rust sorts the records of both, and compares bytes as slices.
 //!
-//! `bench hostile` measures the commands on dumps that are made to be slow.
+//! `bench compare EVENING MORNING` times the whole command on two files beside `cmp -l`,
+//! and `bench hostile` measures the commands on dumps that are made to be slow.
 
+mod compare;
 mod dump;
 mod find;
 mod find_rows;
@@ -37,6 +41,7 @@ mod sleuthkit;
 mod spans;
 mod timing;
 mod tree;
+mod whole;
 
 use std::cell::RefCell;
 use std::convert::Infallible;
@@ -47,6 +52,7 @@ use std::hint::black_box;
 use std::path::{Path, PathBuf};
 use std::process::{self, ExitCode};
 
+use lohenarr::compare::{Comparison, Prepared};
 use lohenarr::dump::Dump;
 use lohenarr::ffi::{self, Geometry};
 use lohenarr::objects::Objects;
@@ -62,14 +68,19 @@ const BLOCK: u32 = 64;
 const TIMES: usize = 10;
 
 fn main() -> ExitCode {
-    if env::args_os().nth(1).is_some_and(|word| word == "hostile") {
-        return ended(hostile::measure(env::args_os().skip(2)));
+    match env::args_os().nth(1) {
+        Some(word) if word == "hostile" => return ended(hostile::measure(env::args_os().skip(2))),
+        Some(word) if word == "compare" => return ended(whole::measure(env::args_os().skip(2))),
+        _ => {}
     }
     let mut numbers = env::args().skip(1).map(|word| word.parse::<usize>());
     let mib = numbers.next().unwrap_or(Ok(256));
     let rounds = numbers.next().unwrap_or(Ok(15));
     let (Ok(mib @ 1..=1024), Ok(rounds @ 1..)) = (mib, rounds) else {
-        eprintln!("usage: bench [MIB, at most 1024] [ROUNDS], or bench hostile [FOLDER] [PROGRAM]");
+        eprintln!(
+            "usage: bench [MIB, at most 1024] [ROUNDS], bench compare EVENING MORNING [OPTIONS], \
+             or bench hostile [FOLDER] [PROGRAM]"
+        );
         return ExitCode::from(2);
     };
     ended(measure(mib, rounds))
@@ -99,6 +110,7 @@ fn measure(mib: usize, rounds: usize) -> Result<(), String> {
     let dump = generated(&file, mib, 0)?;
     find_rows::measure(&dump, 0, rounds);
     pages(&dump, rounds);
+    compared(&dump, rounds)?;
     sleuthkit::compare(&file.0, &out.0, &[LONG + 1, LONG]);
     Ok(())
 }
@@ -136,6 +148,43 @@ fn tree(name: &str, dump: &[u8], on: Geometry, rounds: usize) {
         || Tree::of(dump, on, None).map(|tree| Bytes(tree.text(u64::MAX).unwrap_or_default())),
         || Ok(Bytes(tree::text(dump, on.layout))),
     );
+}
+
+/// The row of a dump beside the same with a few pages changed.
+fn compared(dump: &[u8], rounds: usize) -> Result<(), String> {
+    let file = Temporary::new("other");
+    let path = &file.0;
+    dump::rewrite(dump, path)
+        .map_err(|error| format!("cannot write {}: {error}", path.display()))?;
+    let other = Dump::open(path.as_os_str(), false)?;
+    let layout = ffi::find(dump, BLOCK);
+    assert_eq!(layout.refusal, 0, "the generated dump has a layout");
+    let on = Geometry {
+        layout: layout.number,
+        block: BLOCK,
+    };
+    let cut = |dump| compare::Cut {
+        dump,
+        layout: on.layout,
+    };
+    timing::compare(
+        "compare",
+        rounds,
+        || differences(dump, &other, on).map(Bytes),
+        || Ok(Bytes(compare::text(cut(dump), cut(&other)))),
+    );
+    Ok(())
+}
+
+/// What differs between two dumps, by the library.
+fn differences(first: &[u8], second: &[u8], on: Geometry) -> Result<Vec<u8>, u32> {
+    let (first, second) = (Prepared::of(first, on)?, Prepared::of(second, on)?);
+    let mut left = Comparison::of(&first, &second);
+    let mut text = Vec::new();
+    while let Some(report) = left.next_object()? {
+        text.extend_from_slice(report.text);
+    }
+    Ok(text)
 }
 
 /// Bytes that are not shown where they differ.

@@ -2,10 +2,12 @@
 //!
 //! - `command`: what the command reads of them.
 //! - `tree`: their paths.
+//! - `compare`: an evening's beside the morning's.
 //!
 //! What the second reader makes of them is among its own tests.
 
 mod command;
+mod compare;
 mod tree;
 
 use std::fs;
@@ -54,6 +56,22 @@ pub fn cases() -> Vec<Case> {
     texts.sort();
     assert!(!texts.is_empty(), "no case in {}", folder.display());
     texts.iter().map(|text| case(text)).collect()
+}
+
+/// The cases of each controller, an evening's and the morning's behind it.
+pub fn nights() -> Vec<[Case; 2]> {
+    let mut nights = Vec::new();
+    let mut evening: Option<Case> = None;
+    for case in cases() {
+        match (case.name.strip_suffix("-morning"), evening.take()) {
+            (Some(name), Some(evening)) if evening.name == format!("{name}-evening") => {
+                nights.push([evening, case]);
+            }
+            _ => evening = Some(case),
+        }
+    }
+    assert!(!nights.is_empty(), "no evening with its morning");
+    nights
 }
 
 fn case(path: &Path) -> Case {

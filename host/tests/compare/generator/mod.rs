@@ -7,6 +7,8 @@
 //! - `dump`: dumps that crowd the edges of the rules.
 //! - `rewritten`: dumps of files that are cut and grow again.
 //! - `trees`: dumps of directories, loops and what has no path.
+//! - `pairs`: two dumps to be compared.
+//! - `controller`, `night`: a controller that writes pages, and what it does.
 //! - `decoy`: tags of other layouts, and lengths that fit none.
 //! - `pages`: its pages, of each kind.
 //! - `arguments`: what a request asks for.
@@ -15,10 +17,13 @@
 
 mod arguments;
 pub mod build;
+mod controller;
 mod decoy;
 pub mod dump;
 mod foreign;
+mod night;
 mod pages;
+pub mod pairs;
 pub mod requests;
 mod rewritten;
 pub mod rng;

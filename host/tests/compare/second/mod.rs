@@ -17,12 +17,14 @@
 //! - `table`: the chunks of a file, by the lookup of each.
 //! - `whole`: the calls that read the dump whatever was added.
 //! - `tree`: paths from the root, and what has none.
+//! - `compare`: two dumps, and what differs between them.
 //! - `why`: why a byte of a file is what it is.
 //! - `script`: requests and their answer lines.
 //! - `report`: the ten lines of the report.
 //! - `wrong`: rules made wrong on purpose, one at a time.
 
 pub mod cells;
+pub mod compare;
 pub mod copies;
 pub mod find;
 pub mod index;

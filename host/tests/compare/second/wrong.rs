@@ -2,17 +2,21 @@
 //! generator's answers change under each shows that it looks where they bite.
 
 macro_rules! wrong_rules {
-    ($($(#[$doc:meta])* $name:ident,)*) => {
+    ($($(#[$doc:meta])* $name:ident,)* ; $($(#[$of_two:meta])* $two:ident,)*) => {
         /// Which rule is wrong.
         #[derive(Clone, Copy, Debug, PartialEq, Eq)]
         pub enum Wrong {
             /// Every rule is as the documents say.
             None,
             $($(#[$doc])* $name,)*
+            $($(#[$of_two])* $two,)*
         }
 
-        /// Every wrong rule.
+        /// Every wrong rule about one dump.
         pub const WRONG_RULES: &[Wrong] = &[$(Wrong::$name,)*];
+
+        /// Every wrong rule about two dumps that are compared.
+        pub const WRONG_COMPARING: &[Wrong] = &[$(Wrong::$two,)*];
     };
 }
 
@@ -504,4 +508,244 @@ wrong_rules! {
     ListWithHeaderless,
     /// Only files are listed.
     ListOfFiles,
+
+    ;
+
+    // Two dumps compared: which objects.
+    /// Only objects of the first dump are compared.
+    CompareIdsOfFirst,
+    /// Only objects of the second dump are compared.
+    CompareIdsOfSecond,
+    /// Only objects of both dumps are compared.
+    CompareIdsOfBoth,
+    /// Only objects that are live in some dump are compared.
+    CompareIdsOfLive,
+    /// Only objects that have a header in some dump are compared.
+    CompareIdsWithHeaders,
+    /// Only objects that are files in some dump are compared.
+    CompareIdsOfFiles,
+    /// Objects of the second dump alone come behind all others.
+    CompareIdsAsMet,
+    /// Objects come from the highest id down.
+    CompareIdsDescending,
+    /// Objects that do not differ are named too.
+    CompareAlikeNamed,
+    /// A deleted object is not in the dump.
+    CompareDeletedAbsent,
+    /// An object of data alone is not in the dump.
+    CompareHeaderlessAbsent,
+    /// `only=` names the dump that lacks the object.
+    CompareOnlyOfOther,
+    /// An object of one dump alone is no difference.
+    CompareOnlyNotTold,
+    /// `only=` is followed by whether the object is deleted.
+    CompareOnlyWithDeleted,
+    /// `only=` is followed by whether the object has no header.
+    CompareOnlyWithNoHeader,
+    /// `only=` is followed by the file's size.
+    CompareOnlyWithSize,
+
+    // Two dumps compared: deleted, and without a header.
+    /// Deleted on one side is no difference.
+    CompareDeletedNotTold,
+    /// Deleted is told of each side, though both are.
+    CompareDeletedOnBoth,
+    /// `deleted=` names the side that is not.
+    CompareDeletedOfOther,
+    /// Deleted is told of the second dump alone.
+    CompareDeletedOfSecond,
+    /// Deleted is told only where both have headers.
+    CompareDeletedNeedsHeaders,
+    /// Without a header on one side is no difference.
+    CompareNoHeaderNotTold,
+    /// Without a header is told of each side, though both are.
+    CompareNoHeaderOnBoth,
+    /// `noheader=` names the side that has one.
+    CompareNoHeaderOfOther,
+    /// Without a header is told of the second dump alone.
+    CompareNoHeaderOfSecond,
+    /// Without a header is told only where the other is live.
+    CompareNoHeaderUnlessDeleted,
+    /// `noheader=` comes before `deleted=`.
+    CompareNoHeaderFirst,
+    /// An object of data alone is deleted.
+    CompareHeaderlessDeleted,
+
+    // Two dumps compared: fields.
+    /// The type is not compared.
+    CompareWithoutType,
+    /// The parent is not compared.
+    CompareWithoutParent,
+    /// The name is not compared.
+    CompareWithoutName,
+    /// The mode is not compared.
+    CompareWithoutMode,
+    /// The owner is not compared.
+    CompareWithoutUid,
+    /// The group is not compared.
+    CompareWithoutGid,
+    /// The time of access is not compared.
+    CompareWithoutAccessed,
+    /// The time of modification is not compared.
+    CompareWithoutModified,
+    /// The time of creation is not compared.
+    CompareWithoutCreated,
+    /// The file size that the header says is not compared.
+    CompareWithoutFileSize,
+    /// The equivalent id is not compared.
+    CompareWithoutEquivalent,
+    /// The alias is not compared.
+    CompareWithoutAlias,
+    /// The device number is not compared.
+    CompareWithoutRdev,
+    /// The first Windows time is not compared.
+    CompareWithoutWinCreated,
+    /// The second Windows time is not compared.
+    CompareWithoutWinAccessed,
+    /// The third Windows time is not compared.
+    CompareWithoutWinModified,
+    /// The shadowed id is not compared.
+    CompareWithoutShadowed,
+    /// The shrink word is not compared.
+    CompareWithoutShrink,
+    /// The first unused bytes are compared.
+    CompareUnused1,
+    /// The second unused bytes are compared.
+    CompareUnused2,
+    /// The in-band shadow word is compared.
+    CompareInBandShadow,
+    /// The in-band shrink word is compared.
+    CompareInBandShrink,
+    /// The size's high word is compared.
+    CompareSizeHigh,
+    /// The reserved bytes are compared.
+    CompareReserved,
+    /// Fields are compared of live objects alone.
+    CompareFieldsOfLive,
+    /// Fields are not compared where one side alone is deleted.
+    CompareFieldsUnlessDeleted,
+    /// Fields are compared of live files alone.
+    CompareFieldsOfFiles,
+    /// Fields of a header differ from none as from zeros.
+    CompareFieldsOfNoHeader,
+    /// The oldest headers are compared.
+    CompareOldestHeaders,
+    /// Of the headers those with the latest time are compared.
+    CompareHeadersByTime,
+    /// Names are compared up to their first zero byte.
+    CompareNamesToZero,
+    /// Aliases are compared up to their first zero byte.
+    CompareAliasesToZero,
+    /// Of a name 255 bytes are compared.
+    CompareNamesShort,
+    /// Of an alias 159 bytes are compared.
+    CompareAliasesShort,
+    /// Names are compared without regard to case.
+    CompareNamesAnyCase,
+    /// Of the shrink word it is compared whether it is 0.
+    CompareShrinkAsMark,
+    /// Of a number the low 32 bits are compared.
+    CompareNumbersLow,
+    /// Of the mode the bits of permission are compared.
+    CompareModeBits,
+    /// A field is named by its place in the table.
+    CompareFieldsByPlace,
+    /// Offsets are hexadecimal.
+    CompareOffsetsHex,
+    /// Fields come from the highest offset down.
+    CompareFieldsDescending,
+    /// The first field that differs is told alone.
+    CompareFirstFieldAlone,
+
+    // Two dumps compared: sizes.
+    /// Sizes are not compared.
+    CompareSizesNotTold,
+    /// Sizes are told where anything differs, though equal.
+    CompareSizesThoughEqual,
+    /// Sizes are told only where no stretch differs.
+    CompareSizesOrStretches,
+    /// The second dump's size comes first.
+    CompareSizesExchanged,
+    /// Of two sizes the first dump's is told alone.
+    CompareSizeOfFirst,
+    /// Of two sizes the second dump's is told alone.
+    CompareSizeOfSecond,
+    /// Sizes come before fields.
+    CompareSizesBeforeFields,
+    /// The size is what the newest header says.
+    CompareSizeOfHeader,
+    /// Size and bytes of deleted files are compared.
+    CompareDeletedFilesToo,
+    /// Size and bytes of every live object are compared.
+    CompareEveryTypeToo,
+    /// Size and bytes of live hard links are compared.
+    CompareLinksToo,
+    /// Size and bytes are compared where the first dump has a live file.
+    CompareFilesByFirst,
+    /// Size and bytes are compared where the second dump has a live file.
+    CompareFilesBySecond,
+    /// What is no live file has a size of 0.
+    CompareOthersEmpty,
+
+    // Two dumps compared: stretches.
+    /// A stretch has 256 bytes.
+    CompareStretchOf256,
+    /// A stretch has 1024 bytes.
+    CompareStretchOf1024,
+    /// A stretch has the bytes of a page of the first dump.
+    CompareStretchOfPage,
+    /// Stretches count from 1.
+    CompareStretchesFromOne,
+    /// A stretch is named by its first byte.
+    CompareStretchesByByte,
+    /// Stretches come from the last one down.
+    CompareStretchesDescending,
+    /// The first stretch that differs is told alone.
+    CompareFirstStretchAlone,
+    /// The last stretch that differs is told alone.
+    CompareLastStretchAlone,
+    /// Bytes are compared up to the larger size.
+    CompareToLarger,
+    /// Bytes are compared up to the first dump's size.
+    CompareToSizeOfFirst,
+    /// Bytes are compared up to the second dump's size.
+    CompareToSizeOfSecond,
+    /// The last stretch is not cut off at the smaller size.
+    CompareLastWhole,
+    /// A last stretch that is cut off is not compared.
+    CompareLastLeftOut,
+    /// Bytes are compared only where the sizes are equal.
+    CompareBytesOfEqualSizes,
+    /// Bytes are compared only where the sizes differ.
+    CompareBytesOfOtherSizes,
+    /// Where one side has a hole nothing is compared.
+    CompareHeldInBoth,
+    /// Only what the first dump has copies of is compared.
+    CompareHeldInFirst,
+    /// Only what the second dump has copies of is compared.
+    CompareHeldInSecond,
+    /// A hole differs from a copy, whatever that has.
+    CompareHolesDiffer,
+    /// A hole shows 0xFF.
+    CompareHolesErased,
+    /// A copy that a cut hides is shown.
+    CompareHiddenShown,
+    /// A cut inside a copy leaves its bytes.
+    CompareCutsNoBytes,
+    /// A copy is shown beyond its byte count and later cuts.
+    CompareCountsIgnored,
+    /// A chunk above 0xFFFFF is looked for by its low bits.
+    CompareLowBitsOfChunk,
+    /// Chunks of both are counted by the first dump's page size.
+    CompareDataSizeOfFirst,
+
+    // Two dumps compared: two dumps.
+    /// Both dumps have the first one's K.
+    CompareBlockOfFirst,
+    /// Both dumps have the first one's layout.
+    CompareLayoutOfFirst,
+    /// The first dump's refusal comes before any of the second's.
+    CompareFirstRefusedFirst,
+    /// The second dump's refusal comes before any of the first's.
+    CompareSecondRefusedFirst,
 }

@@ -11,6 +11,9 @@ use super::super::BLOCK;
 const DATA: usize = 512;
 pub const PAGE: usize = DATA + 16;
 
+/// Where a header says whose the object is, which decides nothing.
+const OWNER: usize = 0x110;
+
 /// The lowest sequence, and the highest id.
 const LOWEST: u32 = 0x1000;
 const LAST_OBJECT: u32 = 0x0FFF_FFFF;
@@ -39,7 +42,7 @@ pub struct Kind {
     records: fn(u32) -> Box<dyn Iterator<Item = Record>>,
 }
 
-pub const KINDS: [Kind; 16] = [
+pub const KINDS: [Kind; 18] = [
     Kind {
         name: "claims",
         records: claims,
@@ -104,14 +107,25 @@ pub const KINDS: [Kind; 16] = [
         name: "renamed",
         records: renamed,
     },
+    Kind {
+        name: "backwards",
+        records: backwards,
+    },
+    Kind {
+        name: "woven",
+        records: woven,
+    },
 ];
 
 impl Kind {
-    /// Writes the dump of so many pages.
-    pub fn write(&self, path: &Path, pages: u32) -> io::Result<()> {
+    /// Writes the dump of so many pages; if it is to be changed, with another byte in
+    /// each, which is of a field in a header.
+    pub fn write(&self, path: &Path, pages: u32, is_changed: bool) -> io::Result<()> {
         let mut file = BufWriter::new(File::create(path)?);
         for record in (self.records)(pages) {
-            file.write_all(&bytes(record))?;
+            let mut page = bytes(record);
+            page[OWNER] ^= u8::from(is_changed);
+            file.write_all(&page)?;
         }
         file.flush()
     }
@@ -334,4 +348,29 @@ fn renamed(pages: u32) -> Box<dyn Iterator<Item = Record>> {
         parent: if p.is_multiple_of(2) { 1 } else { FIRST },
     };
     Box::new((0..pages).map(move |p| (rising(p), ONE, says(p))))
+}
+
+/// One file of as many chunks as pages, whose last block was written first.
+fn backwards(pages: u32) -> Box<dyn Iterator<Item = Record>> {
+    let sequence = move |p| LOWEST + (pages - 1 - p) / BLOCK;
+    let says = move |p| match p {
+        0 => Says::Header {
+            size: pages * DATA as u32,
+        },
+        _ => Says::Data { chunk: 1 + p },
+    };
+    Box::new((0..pages).map(move |p| (sequence(p), ONE, says(p))))
+}
+
+/// Files of 4 GiB, each of a header and seven chunks that are far from each other in the
+/// dump and in the file, last one first.
+fn woven(pages: u32) -> Box<dyn Iterator<Item = Record>> {
+    let files = (pages / 8).max(1);
+    let says = move |p| match p / files {
+        0 => Says::Header { size: u32::MAX },
+        n => Says::Data {
+            chunk: 0xF_FFFF / n,
+        },
+    };
+    Box::new((0..pages).map(move |p| (rising(p), FIRST + p % files, says(p))))
 }

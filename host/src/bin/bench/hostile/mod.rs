@@ -12,7 +12,7 @@
 //! one of them larger.
 
 pub mod kinds;
-mod runs;
+pub mod runs;
 
 use std::env;
 use std::ffi::{OsStr, OsString};
@@ -36,8 +36,9 @@ const SHORT: Duration = Duration::from_millis(20);
 const NOISE: f64 = 1.5;
 
 /// The commands, with what stands behind the dump: `OBJECT` is that of its last
-/// page, which is `LAST`.
-const COMMANDS: [&[&str]; 13] = [
+/// page, which is `LAST`; `ITSELF` is the dump again, and `OTHER` the same with a byte
+/// of every page changed.
+const COMMANDS: [&[&str]; 15] = [
     &["report"],
     &["find"],
     &["pages"],
@@ -51,11 +52,14 @@ const COMMANDS: [&[&str]; 13] = [
     &["extract"],
     &["why", "OBJECT"],
     &["why", "OBJECT", "1"],
+    &["compare", "ITSELF"],
+    &["compare", "OTHER"],
 ];
 
 /// A dump that was written.
 struct Made {
     file: Temporary,
+    other: Temporary,
     pages: u32,
     object: String,
     last: String,
@@ -95,18 +99,22 @@ pub fn measure(mut words: impl Iterator<Item = OsString>) -> Result<(), String> 
 }
 
 /// The program that was built beside this one.
-fn beside() -> std::io::Result<PathBuf> {
+pub fn beside() -> std::io::Result<PathBuf> {
     Ok(env::current_exe()?.with_file_name("lohenarr"))
 }
 
-/// Writes the dump of a kind and a length.
+/// Writes the dump of a kind and a length, and the same changed.
 fn make(kind: &Kind, mib: usize, folder: &Path) -> Result<Made, String> {
-    let file = Temporary::within(folder, &format!("{}-{mib}", kind.name));
     let pages = kinds::pages(mib);
-    let unwritten = |error| format!("cannot write {}: {error}", file.0.display());
-    kind.write(&file.0, pages).map_err(unwritten)?;
+    let written = |name: &str, is_changed: bool| {
+        let file = Temporary::within(folder, &format!("{}-{mib}{name}", kind.name));
+        let unwritten = |error| format!("cannot write {}: {error}", file.0.display());
+        kind.write(&file.0, pages, is_changed).map_err(unwritten)?;
+        Ok::<_, String>(file)
+    };
     Ok(Made {
-        file,
+        file: written("", false)?,
+        other: written("-other", true)?,
         pages,
         object: kind.object(pages).to_string(),
         last: (pages - 1).to_string(),
@@ -141,6 +149,8 @@ fn again(
             let behind = command[1..].iter().map(|&word| match word {
                 "OBJECT" => OsStr::new(&made.object),
                 "LAST" => OsStr::new(&made.last),
+                "ITSELF" => made.file.0.as_os_str(),
+                "OTHER" => made.other.0.as_os_str(),
                 word => OsStr::new(word),
             });
             let mut words = vec![OsStr::new(command[0]), made.file.0.as_os_str()];

@@ -7,7 +7,12 @@ use crate::second::wrong::Wrong;
 use crate::sha256;
 
 /// The bytes of a whole file, read chunk by chunk.
-fn whole(reader: &Reader<'_>, over: Over, data: usize, object: u64) -> Result<Vec<u8>, Refused> {
+pub fn whole(
+    reader: &Reader<'_>,
+    over: Over,
+    data: usize,
+    object: u64,
+) -> Result<Vec<u8>, Refused> {
     let (size, _) = reader.size(over, object)?;
     let mut bytes = Vec::new();
     let mut n = 1;
