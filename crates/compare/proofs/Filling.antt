@@ -143,7 +143,7 @@ module _ (g : Geometry) (dump : List ℕ) (n P : ℕ) (e : openedOf g (length du
   copies-own : (o : ℕ) → In o ids → copiesIn says P (orderOf says n o) ≡ copiesOf says n P o
   copies-own o i = rw (rows-own o (ids-good g dump n e o i) _ refl, length-map (recordsOf says n o) (packed o))
 
-  copies-length : (o : ℕ) → In o ids → length (copiesOf says n P o) ≡ length (recordsOf says n o)
+  pub copies-length : (o : ℕ) → In o ids → length (copiesOf says n P o) ≡ length (recordsOf says n o)
   copies-length o i =
       let rows = rowsOf says n P o in
       length-append rows (replicate (length (recordsOf says n o) - length rows) 0)

@@ -29,3 +29,4 @@ pub mod Showing
 pub mod Prepared
 pub mod Walking
 pub mod Told
+pub mod Answered
