@@ -15,11 +15,13 @@ use Rattle.page.proofs.Searching.{clash}
 use Rattle.chunk.specs.Live.{passed}
 use Rattle.sort.specs.Packed.{valueOf}
 use Rattle.text.specs.Lines.{newline, fieldOf, lineOf}
-use Rattle.text.specs.Put.{most, counted, Put}
+use Rattle.text.specs.Put.{most, counted, over, Put}
 use Rattle.text.specs.Quoted.{bytesOf}
 use Rattle.text.specs.Whole.{writtenBy, bytesBy}
-use Rattle.text.specs.declared.written.Written.the-variants.{Bytes}
-use Rattle.text.proofs.Putting.{nothing, also, measured}
+use Rattle.text.specs.declared.written.Written.the-variants.{Bytes, Short}
+use Rattle.text.proofs.Writing.{refused, accepted}
+use Rattle.text.proofs.Lines.{line-length}
+use Rattle.text.proofs.Putting.{exact, nothing, also, kept, measured}
 use Rattle.index.specs.Held.{fromList}
 use Rattle.index.specs.Walks.{sizeWalk}
 use Rattle.compare.specs.Differences.{Difference, Side, first, second, only, deleted, headless, field, sizes, stretch, onOne, lacks, fieldDiffers, fieldsOf, sizesOf, stretchesTo, stretchesOf, differencesOf}
@@ -250,3 +252,56 @@ unfolding writtenBy bytesBy
 written-none {text} {after} bytes p e =
     let z : text ≡ [] = empty text (counted-none (length text) (sym (measured p .1) ∙ e)) in
     (rw (z, le-ltb (length bytes) 0 zero-le), rw (measured p .0, z, le-ltb (length bytes) 0 zero-le))
+
+-- an object's line and what differs, measured one behind the other; the line of an object is short, so that its length is counted as it is
+name-short : (o : ℕ) → o < 4294967296 → length (lineOf (bytesOf "object=") o) ≤ 18
+name-short o h = omega (arith, line-length (bytesOf "object=") 9 o (omega arith))
+
+module _ (o : ℕ) (small : o < 4294967296) (ds : List Difference) {a b : List ℕ} {line need : ℕ}
+    (p : Put (lineOf (bytesOf "object=") o) [] 0 a line) (q : Put (joined linesOf ds) [] line b need) where
+  line-is : line ≡ length (lineOf (bytesOf "object=") o)
+  line-is = measured p .1 ∙ exact (length (lineOf (bytesOf "object=") o)) (omega (arith, name-short o small))
+
+  both-empty : (a ≡ []) × (b ≡ [])
+  unfolding over
+  both-empty = (measured p .0, length-zero (kept q))
+    where
+      length-zero : {l : List ℕ} → length l ≡ length {A = ℕ} [] → l ≡ []
+      length-zero {l} e = empty l e
+
+  -- nothing differs
+  pub written-nothing :
+      (bytes : List ℕ) → need ≡ line → (Bytes 0 ≡ writtenBy (length bytes) (objectLines o ds)) × (b ++ (a ++ bytes) ≡ bytesBy (objectLines o ds) bytes)
+  unfolding writtenBy bytesBy counted
+  written-nothing bytes e =
+      let none : length (joined linesOf ds) ≡ 0 = omega (arith, q .behind, line-is, name-short o small) in
+      let z = object-none o ds none in
+      (rw (z, le-ltb (length bytes) 0 zero-le), rw (both-empty .0, both-empty .1, z, le-ltb (length bytes) 0 zero-le))
+
+  -- something does: the whole text is measured
+  pub measured-both : need ≢ line → Put (objectLines o ds) [] 0 b need
+  unfolding counted over
+  measured-both h =
+      let some : length (joined linesOf ds) ≢ 0 = λ e. h (omega (arith, q .behind, line-is, name-short o small)) in
+      rw (object-some o ds some) (also p (rw (← both-empty .0) at q))
+
+  -- it does not fit, or it does
+  pub written-short :
+      (bytes : List ℕ) → need ≢ line → length (b ++ (a ++ bytes)) < need →
+      (Short need ≡ writtenBy (length bytes) (objectLines o ds)) × (b ++ (a ++ bytes) ≡ bytesBy (objectLines o ds) bytes)
+  written-short bytes h k =
+      let k₁ : length bytes < need = rw (both-empty .0, both-empty .1) at k in
+      rw (both-empty .0) (refused bytes (measured-both h) k₁)
+
+  pub written-both :
+      (bytes : List ℕ) → need ≢ line → need ≤ length (b ++ (a ++ bytes)) → {c₁ c₂ : List ℕ} {m r : ℕ} →
+      Put (lineOf (bytesOf "object=") o) (b ++ (a ++ bytes)) 0 c₁ m → Put (joined linesOf ds) c₁ line c₂ r →
+      (Bytes need ≡ writtenBy (length bytes) (objectLines o ds)) × (c₂ ≡ bytesBy (objectLines o ds) bytes)
+  unfolding counted
+  written-both bytes h k {c₁} {c₂} {m} {r} x y =
+      let k₁ : need ≤ length bytes = rw (both-empty .0, both-empty .1) at k in
+      let some : length (joined linesOf ds) ≢ 0 = λ e. h (omega (arith, q .behind, line-is, name-short o small)) in
+      let same : m ≡ line = x .behind ∙ omega (arith, line-is, name-short o small) in
+      let x₁ = rw (both-empty .0, same) at x in
+      let z : Put (objectLines o ds) (b ++ bytes) 0 c₂ r = rw (object-some o ds some) (also x₁ y) in
+      accepted bytes (measured-both h) k₁ z

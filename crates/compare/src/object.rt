@@ -4,7 +4,9 @@ ghost use mathlib.Core.List.{map};
 ghost use mathlib.Core.Option.{some};
 ghost use mathlib.Core.Path.{_≡_};
 ghost use lib.ListN.{length};
+ghost use Rattle.text.specs.Lines.{lineOf};
 ghost use Rattle.text.specs.Put.{Put};
+ghost use Rattle.text.specs.Quoted.{bytesOf};
 ghost use Rattle.compare.specs.Differences.{field, fieldsOf, sizesOf, differencesOf};
 ghost use Rattle.compare.specs.Heads.{pageOf, sizeAs};
 ghost use Rattle.compare.specs.Lines.{sideLines, headerLines, contentLines};
@@ -167,7 +169,7 @@ fn put_both(
 }
 
 // Puts the lines of all that differs.
-fn put_differences(
+pub(crate) fn put_differences(
     dump: &[u8],
     g: Geometry,
     order: &[u64],
@@ -188,6 +190,13 @@ fn put_differences(
         return put_side(buf, at, b"only=", true, false);
     }
     put_both(dump, g, order, rows, dump2, g2, order2, rows2, buf, at)
+}
+
+// Puts the line that names object o.
+pub(crate) fn put_name(buf: &mut [u8], at: usize, o: ObjectId) -> usize
+    ensures { λ r. ⌜ Put (lineOf (bytesOf "object=") (o .0)) (now (buf .entry)) at (now (buf .exit)) r ⌝ }
+{
+    put_line(buf, at, b"object=", o.0 as u64)
 }
 
 // Puts the lines of object o: none where nothing differs.
@@ -221,6 +230,6 @@ pub(crate) fn put_object(
     if n == 0 {
         return at;
     }
-    let next = put_line(buf, at, b"object=", o.0 as u64);
+    let next = put_name(buf, at, o);
     put_differences(dump, g, order, rows, dump2, g2, order2, rows2, buf, next)
 }

@@ -9,6 +9,8 @@ ghost use Rattle.compare.specs.Answers.{earlierOf, bothOf, comparedBy, c
 ghost use Rattle.compare.specs.Lists.{runOf, nextOf, nextIn, sidesReport, listsReport};
 use crate::answer::Both;
 use crate::answer::Compared;
+use crate::object::put_differences;
+use crate::object::put_name;
 use crate::object::put_object;
 use crate::runs::run_of;
 use page::geometry::Geometry;
@@ -159,7 +161,7 @@ fn write_reports(
     Written::Bytes(need)
 }
 
-// Writes the report of object o, if it fits. An object that does not differ has no lines, and its bytes are gone over once.
+// Writes the report of object o, if it fits. What does not differ is gone over once, and what differs twice.
 fn write_object(
     o: ObjectId,
     dump: &[u8],
@@ -175,8 +177,8 @@ fn write_object(
     ensures { λ r. ⌜ r ≡ writtenBy (length (now (buf .entry))) (sidesReport g (now (dump .entry)) g2 (now (dump2 .entry)) (o .0) (now (order .entry)) (now (rows .entry)) (now (order2 .entry)) (now (rows2 .entry))) ⌝ }
     ensures { λ _. ⌜ now (buf .exit) ≡ bytesBy (sidesReport g (now (dump .entry)) g2 (now (dump2 .entry)) (o .0) (now (order .entry)) (now (rows .entry)) (now (order2 .entry)) (now (rows2 .entry))) (now (buf .entry)) ⌝ }
 {
-    let need = put_object(
-        o,
+    let line = put_name(&mut buf[..0], 0, o);
+    let need = put_differences(
         dump,
         g,
         order,
@@ -186,15 +188,16 @@ fn write_object(
         order2,
         rows2,
         &mut buf[..0],
-        0,
+        line,
     );
+    if need == line {
+        return Written::Bytes(0);
+    }
     if buf.len() < need {
         return Written::Short(need);
     }
-    if need == 0 {
-        return Written::Bytes(0);
-    }
-    put_object(o, dump, g, order, rows, dump2, g2, order2, rows2, buf, 0);
+    put_name(buf, 0, o);
+    put_differences(dump, g, order, rows, dump2, g2, order2, rows2, buf, line);
     Written::Bytes(need)
 }
 
