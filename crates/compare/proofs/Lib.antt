@@ -24,6 +24,7 @@ pub mod Heads
 pub mod Stretching
 pub mod Lining
 pub mod Listing
+pub mod Bounded
 -- that prepared words give the report
 pub mod Showing
 pub mod Prepared

@@ -1,5 +1,5 @@
 -- The lines of what differs, piece by piece: what each piece comes to, and that the pieces are the lines of all differences.
-use Prim.Native.Nat.{ℕ, _≤_, _<_, min, zero-le}
+use Prim.Native.Nat.{ℕ, _+_, _≤_, _<_, min, zero-le}
 use mathlib.Core.Bool.{Bool, true, false, not, _&&_}
 use mathlib.Core.List.{List, [], _∷_, _++_, map, append-nil, append-assoc}
 use mathlib.Core.Logic.{_≢_}
@@ -7,7 +7,8 @@ use mathlib.Core.Option.{Option, none, some}
 use mathlib.Core.Path.{_≡_, refl, sym, ap, _∙_}
 use lib.Dec.{eqb}
 use native.Mathlib.Omega.{arith}
-use lib.ListN.{length, length-append}
+use lib.ListN.{length, take, drop, length-append}
+use lib.Seq.{sets-eq, drop-at, length-take-le}
 use borrow.Author.Tests.{eq-eqb, ne-eqb, le-ltb}
 use Rattle.page.specs.Records.{recordAt}
 use Rattle.page.specs.declared.geometry.Geometry.{Geometry}
@@ -21,7 +22,7 @@ use Rattle.text.specs.Whole.{writtenBy, bytesBy}
 use Rattle.text.specs.declared.written.Written.the-variants.{Bytes, Short}
 use Rattle.text.proofs.Writing.{refused, accepted}
 use Rattle.text.proofs.Lines.{line-length}
-use Rattle.text.proofs.Putting.{exact, nothing, also, kept, measured}
+use Rattle.text.proofs.Putting.{exact, nothing, also, kept, measured, whole}
 use Rattle.index.specs.Held.{fromList}
 use Rattle.index.specs.Walks.{sizeWalk}
 use Rattle.compare.specs.Differences.{Difference, Side, first, second, only, deleted, headless, field, sizes, stretch, onOne, lacks, fieldDiffers, fieldsOf, sizesOf, stretchesTo, stretchesOf, differencesOf}
@@ -119,7 +120,7 @@ lacks-bytes g dump none = refl
 lacks-bytes g dump (some p) = refl
 
 -- five lists of differences, one behind the other
-five : (a b c d e : List Difference) → joined linesOf (a ++ b ++ c ++ d ++ e) ≡ (joined linesOf a ++ (joined linesOf b ++ joined linesOf c)) ++ (joined linesOf d ++ joined linesOf e)
+pub five : (a b c d e : List Difference) → joined linesOf (a ++ b ++ c ++ d ++ e) ≡ (joined linesOf a ++ (joined linesOf b ++ joined linesOf c)) ++ (joined linesOf d ++ joined linesOf e)
 five a b c d e =
     let J = joined linesOf in
     joined-append linesOf (a ++ b ++ c ++ d) e
@@ -254,7 +255,7 @@ written-none {text} {after} bytes p e =
     (rw (z, le-ltb (length bytes) 0 zero-le), rw (measured p .0, z, le-ltb (length bytes) 0 zero-le))
 
 -- an object's line and what differs, measured one behind the other; the line of an object is short, so that its length is counted as it is
-name-short : (o : ℕ) → o < 4294967296 → length (lineOf (bytesOf "object=") o) ≤ 18
+pub name-short : (o : ℕ) → o < 4294967296 → length (lineOf (bytesOf "object=") o) ≤ 18
 name-short o h = omega (arith, line-length (bytesOf "object=") 9 o (omega arith))
 
 module _ (o : ℕ) (small : o < 4294967296) (ds : List Difference) {a b : List ℕ} {line need : ℕ}
@@ -305,3 +306,48 @@ module _ (o : ℕ) (small : o < 4294967296) (ds : List Difference) {a b : List �
       let x₁ = rw (both-empty .0, same) at x in
       let z : Put (objectLines o ds) (b ++ bytes) 0 c₂ r = rw (object-some o ds some) (also x₁ y) in
       accepted bytes (measured-both h) k₁ z
+
+-- what differs put behind the place of the object's line, where both have room, and then the line before it
+module _ (o : ℕ) (small : o < 4294967296) (ds : List Difference) {a b : List ℕ} {line next : ℕ} (bytes : List ℕ)
+    (fits : length (lineOf (bytesOf "object=") o) + length (joined linesOf ds) ≤ length bytes)
+    (p : Put (lineOf (bytesOf "object=") o) [] 0 a line) (q : Put (joined linesOf ds) (a ++ bytes) line b next) where
+  abbrev s : List ℕ
+  s = lineOf (bytesOf "object=") o
+
+  abbrev t : List ℕ
+  t = joined linesOf ds
+
+  behind-line : line ≡ length s
+  behind-line = measured p .1 ∙ exact (length s) (omega (arith, name-short o small))
+
+  lent : a ++ bytes ≡ bytes
+  lent = rw (measured p .0)
+
+  behind-all : next ≡ length s + length t
+  unfolding counted
+  behind-all = q .behind ∙ omega (arith, behind-line, q .short, ap length lent)
+
+  pub straight-nothing : next ≡ line → (Bytes 0 ≡ writtenBy (length bytes) (objectLines o ds)) × (b ≡ bytesBy (objectLines o ds) bytes)
+  unfolding writtenBy bytesBy over
+  straight-nothing e =
+      let none : length t ≡ 0 = omega (arith, behind-all, behind-line) in
+      let z = object-none o ds none in
+      let same : b ≡ bytes = q .holds ∙ rw (empty t none, lent) in
+      (rw (z, le-ltb (length bytes) 0 zero-le), rw (same, z, le-ltb (length bytes) 0 zero-le))
+
+  pub straight-both :
+      next ≢ line → {c : List ℕ} {m : ℕ} → Put s b 0 c m → (Bytes next ≡ writtenBy (length bytes) (objectLines o ds)) × (c ≡ bytesBy (objectLines o ds) bytes)
+  unfolding writtenBy bytesBy over
+  straight-both h {c} x =
+      let some : length t ≢ 0 = λ e. h (omega (arith, behind-all, behind-line)) in
+      let all : length (s ++ t) ≡ length s + length t = length-append s t in
+      let long : length b ≡ length bytes = kept q ∙ ap length lent in
+      let put : b ≡ take (length s) bytes ++ (t ++ drop (length s + length t) bytes) =
+      q .holds ∙ rw (lent, behind-line) (sets-eq t bytes (length s) fits ∙ append-assoc (take (length s) bytes) t (drop (length s + length t) bytes)) in
+      let front : length (take (length s) bytes) ≡ length s = length-take-le (length s) bytes (omega arith) in
+      let rest : drop (length s) b ≡ t ++ drop (length s + length t) bytes =
+      ap (drop (length s)) put ∙ drop-at (take (length s) bytes) (t ++ drop (length s + length t) bytes) (length s) front in
+      let after : c ≡ (s ++ t) ++ drop (length (s ++ t)) bytes =
+      whole x (omega arith) ∙ rw (rest, all) (sym (append-assoc s t (drop (length s + length t) bytes))) in
+      let fit = le-ltb (length bytes) (length (s ++ t)) (omega arith) in
+      rw (object-some o ds some) (rw (fit, behind-all, all), rw fit after)

@@ -9,5 +9,6 @@ pub mod Lists
 pub mod Prepared
 pub mod Ranks
 pub mod Rows
+pub mod Bounds
 pub mod Answers
 pub mod Parts

@@ -26,7 +26,7 @@ use text::put::put_line;
 const STRETCH: u64 = 512;
 
 // How many stretches so many bytes have, the last cut off or not.
-fn stretches_in(m: u64) -> u64
+pub(crate) fn stretches_in(m: u64) -> u64
     ensures { λ r. ⌜ r ≡ stretchesIn m ⌝ }
 {
     if m == 0 {

@@ -1,24 +1,40 @@
 // The report of two prepared dumps: which object comes next, the report of one object, and the whole report.
 ghost use mathlib.Core.Path.{_≡_};
-ghost use Prim.Native.Nat.{min};
+ghost use Prim.Native.Nat.{_+_, _≤_, min};
 ghost use lib.ListN.{length, take, drop};
 ghost use Rattle.page.specs.Lengths.{openedOf};
+ghost use Rattle.text.specs.Lines.{lineOf};
 ghost use Rattle.text.specs.Put.{Put};
+ghost use Rattle.text.specs.Quoted.{bytesOf};
 ghost use Rattle.text.specs.Whole.{writtenBy, bytesBy};
 ghost use Rattle.compare.specs.Answers.{earlierOf, bothOf, comparedBy, comparedOn, bytesLeft};
+ghost use Rattle.compare.specs.Bounds.{mostOf, Small};
+ghost use Rattle.compare.specs.Differences.{differencesOf};
+ghost use Rattle.compare.specs.Heads.{sizeAs};
+ghost use Rattle.compare.specs.Report.{linesOf, joined};
+ghost use Rattle.compare.specs.Sides.{sideOf};
 ghost use Rattle.compare.specs.Lists.{runOf, nextOf, nextIn, sidesReport, listsReport};
 use crate::answer::Both;
 use crate::answer::Compared;
+use crate::head::Size;
+use crate::head::head_of;
 use crate::object::put_differences;
 use crate::object::put_name;
 use crate::object::put_object;
 use crate::runs::run_of;
+use crate::stretches::stretches_in;
+use chunk::record::smaller;
 use page::geometry::Geometry;
 use page::geometry::Opened;
 use page::number::ObjectId;
 use page::refusal::Refusal;
 use sort::rows::key_of;
 use text::written::Written;
+
+// The bytes of all lines of an object but those of stretches, and of the line of a stretch, at most.
+const PLAIN_BYTES: u64 = 1024;
+
+const LINE_BYTES: u64 = 29;
 
 // The object that comes next, and how many words at the front of each list are of it.
 pub struct Turn {
@@ -161,8 +177,48 @@ fn write_reports(
     Written::Bytes(need)
 }
 
-// Writes the report of object o, if it fits. What does not differ is gone over once, and what differs twice.
-fn write_object(
+// More bytes than this no report of an object has, by the sizes of its files.
+fn most_bytes(one: Size, other: Size) -> u64
+    ensures { λ r. ⌜ r ≡ mostOf (sizeAs one) (sizeAs other) ⌝ }
+    ensures { λ _. ⌜ Small (sizeAs one) (sizeAs other) ⌝ }
+{
+    match one {
+        Size::Nothing => PLAIN_BYTES,
+        Size::Bytes(y) => match other {
+            Size::Nothing => PLAIN_BYTES,
+            Size::Bytes(z) => PLAIN_BYTES + stretches_in(smaller(y, z)) * LINE_BYTES,
+        },
+    }
+}
+
+// Writes the report of object o, for which there is room: what differs behind the place of its line, and then the line, if something does.
+fn write_straight(
+    o: ObjectId,
+    dump: &[u8],
+    g: Geometry,
+    order: &[u64],
+    rows: &[u64],
+    dump2: &[u8],
+    g2: Geometry,
+    order2: &[u64],
+    rows2: &[u64],
+    buf: &mut [u8],
+) -> Written
+    requires { ⌜ length (lineOf (bytesOf "object=") (o .0)) + length (joined linesOf (differencesOf (sideOf g (now dump) (now order) (now rows)) (sideOf g2 (now dump2) (now order2) (now rows2)))) ≤ length (now buf) ⌝ }
+    ensures { λ r. ⌜ r ≡ writtenBy (length (now (buf .entry))) (sidesReport g (now (dump .entry)) g2 (now (dump2 .entry)) (o .0) (now (order .entry)) (now (rows .entry)) (now (order2 .entry)) (now (rows2 .entry))) ⌝ }
+    ensures { λ _. ⌜ now (buf .exit) ≡ bytesBy (sidesReport g (now (dump .entry)) g2 (now (dump2 .entry)) (o .0) (now (order .entry)) (now (rows .entry)) (now (order2 .entry)) (now (rows2 .entry))) (now (buf .entry)) ⌝ }
+{
+    let line = put_name(&mut buf[..0], 0, o);
+    let next = put_differences(dump, g, order, rows, dump2, g2, order2, rows2, buf, line);
+    if next == line {
+        return Written::Bytes(0);
+    }
+    put_name(buf, 0, o);
+    Written::Bytes(next)
+}
+
+// Writes the report of object o, if it fits: measured first, and written if something differs.
+fn write_measured(
     o: ObjectId,
     dump: &[u8],
     g: Geometry,
@@ -199,6 +255,31 @@ fn write_object(
     put_name(buf, 0, o);
     put_differences(dump, g, order, rows, dump2, g2, order2, rows2, buf, line);
     Written::Bytes(need)
+}
+
+// Writes the report of object o, if it fits. Where so many bytes are lent that any report of its files would fit, what differs is gone over once, and
+// else twice; what does not differ once.
+fn write_object(
+    o: ObjectId,
+    dump: &[u8],
+    g: Geometry,
+    order: &[u64],
+    rows: &[u64],
+    dump2: &[u8],
+    g2: Geometry,
+    order2: &[u64],
+    rows2: &[u64],
+    buf: &mut [u8],
+) -> Written
+    ensures { λ r. ⌜ r ≡ writtenBy (length (now (buf .entry))) (sidesReport g (now (dump .entry)) g2 (now (dump2 .entry)) (o .0) (now (order .entry)) (now (rows .entry)) (now (order2 .entry)) (now (rows2 .entry))) ⌝ }
+    ensures { λ _. ⌜ now (buf .exit) ≡ bytesBy (sidesReport g (now (dump .entry)) g2 (now (dump2 .entry)) (o .0) (now (order .entry)) (now (rows .entry)) (now (order2 .entry)) (now (rows2 .entry))) (now (buf .entry)) ⌝ }
+{
+    let one = head_of(dump, g, order).size(dump, g);
+    let other = head_of(dump2, g2, order2).size(dump2, g2);
+    if most_bytes(one, other) <= buf.len() as u64 {
+        return write_straight(o, dump, g, order, rows, dump2, g2, order2, rows2, buf);
+    }
+    write_measured(o, dump, g, order, rows, dump2, g2, order2, rows2, buf)
 }
 
 // The answer by what became of a text.

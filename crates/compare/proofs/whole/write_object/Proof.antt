@@ -1,35 +1,24 @@
--- The object's line and what differs are measured on no bytes, one behind the other, and written if something differs and both fit.
-use Prim.Native.Nat.{_<_}
+-- Where any report of files of these sizes would fit, this one does.
+use native.Mathlib.Nat.{le-trans}
 use native.Mathlib.Omega.{arith}
 use borrow.Author.Needs.{needs}
-use Rattle.compare.proofs.Lining.{written-nothing, written-short, written-both}
+use Rattle.compare.proofs.Bounded.{sides-most}
 use Rattle.compare.proofs.whole.write_object.Statement.{statement}
 use Rattle.compare.proofs.whole.write_object.Tie as tie
 
--- an object's number is a word
-small : (n : tie.After-put-name) → n .before .before .before .before .before .before .before .before .before .args .o .0 < 4294967296
-small n = let g = n .before .before .before .before .before .before .before .before .before .good .0 in omega (arith, g)
-
-returns : tie.Need-returns
-returns c =
-    let d = c .before .before .before in
-    let n = d .before .before .before .before in
-    written-nothing _ (small n) _ (n .put-name .ensures) (d .put-differences .ensures) _ (c .if1 .taken)
-
-returns-2 : tie.Need-returns-2
-returns-2 c =
-    let d = c .before .before .before .before in
-    let n = d .before .before .before .before in
-    written-short _ (small n) _ (n .put-name .ensures) (d .put-differences .ensures) _ (c .before .if1 .left) (c .if2 .taken)
-
-returns-3 : tie.Need-returns-3
-returns-3 c =
-    let m = c .before .before .before .before .before .before in
-    let i = m .before .before in
-    let d = i .before .before .before .before in
-    let n = d .before .before .before .before in
-    written-both _ (small n) _ (n .put-name .ensures) (d .put-differences .ensures) _ (i .before .if1 .left) (i .if2 .left)
-    (m .put-name2 .ensures) (c .before .before .put-differences2 .ensures)
+write-straight-requires : tie.Need-write-straight-requires
+write-straight-requires c κs =
+    let m = c .before .before in
+    let h = m .before .before in
+    let start = h .before .before .before .before .before .before .before .before .before .before in
+    let a = start .args in
+    let facts = m .most-bytes .ensures in
+    le-trans
+    (sides-most (a .o .0) (omega (arith, start .good .0)) (a .g) (a .dump .now) (a .order .now) (a .rows .now) (a .g2) (a .dump2 .now) (a .order2 .now) (a .rows2 .now)
+    (h .before .before .head-of .result) (h .head-of2 .result) (h .before .size .result) (m .before .size2 .result)
+    (h .before .before .head-of .ensures) (h .head-of2 .ensures) (h .before .size .ensures) (m .before .size2 .ensures)
+    (facts .1))
+    (rw (← facts .0) (c .before .if1 .taken))
 
 pub write-object-spec : {M : Type 1} → statement M
 write-object-spec =
@@ -40,12 +29,9 @@ write-object-spec =
     (search needs)
     (search needs)
     (search needs)
+    write-straight-requires
+    (search needs)
+    (λ c. c .before .before .write-straight .ensures)
     (search needs)
     (search needs)
-    returns
-    (search needs)
-    returns-2
-    (search needs)
-    (search needs)
-    (search needs)
-    returns-3)
+    (λ c. c .before .before .write-measured .ensures))
