@@ -246,14 +246,6 @@ empty : (t : List ℕ) → length t ≡ 0 → t ≡ []
 empty [] e = refl
 empty (x ∷ t) e = absurd (omega arith)
 
--- a text that was measured and has no byte is written, whatever the bytes
-pub written-none : {text after : List ℕ} {next : ℕ} (bytes : List ℕ) → Put text [] 0 after next → next ≡ 0
-    → (Bytes 0 ≡ writtenBy (length bytes) text) × (after ++ bytes ≡ bytesBy text bytes)
-unfolding writtenBy bytesBy
-written-none {text} {after} bytes p e =
-    let z : text ≡ [] = empty text (counted-none (length text) (sym (measured p .1) ∙ e)) in
-    (rw (z, le-ltb (length bytes) 0 zero-le), rw (measured p .0, z, le-ltb (length bytes) 0 zero-le))
-
 -- an object's line and what differs, measured one behind the other; the line of an object is short, so that its length is counted as it is
 pub name-short : (o : ℕ) → o < 4294967296 → length (lineOf (bytesOf "object=") o) ≤ 18
 name-short o h = omega (arith, line-length (bytesOf "object=") 9 o (omega arith))
