@@ -1,0 +1,2 @@
+// Open dumps: the bytes of a dump and its geometry, held together, and what is asked of them.
+pub mod open;
