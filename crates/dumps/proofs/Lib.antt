@@ -1,2 +1,3 @@
 pub mod Thin
 pub mod Apart
+pub mod Opening
