@@ -106,3 +106,20 @@ module _ {M : Type 1} (𝓤 : URA M) (H : Heap 𝓤) (A : Atoms 𝓤) (W : Given
         -- [the fourth token; the first; D; D′; X; Y; Z; the other tokens]
         move ! (3 ∷ 6 ∷ []) $ fjoin ! $ move ! (5 ∷ 0 ∷ []) $ fjoin ! $ move ! (4 ∷ 0 ∷ []) $ fjoin ! $ move ! (3 ∷ 0 ∷ []) $ fjoin ! $
         move ! (1 ∷ 5 ∷ []) $ join ! $ move ! (4 ∷ 0 ∷ []) $ join ! $ move ! (3 ∷ 0 ∷ []) $ join ! $ move ! (2 ∷ 0 ∷ []) $ join ! $ done !
+
+    -- the same where I stands in front of all
+    pub parted-with : (I : Fml) (s s′ : RefT (List ℕ)) (g g′ : Geometry)
+        → ent 𝓤 (sep 𝓤 (toks 𝓤 A 7 κs qs) (sem 𝓤 H A (fsep I (fsep (slice-own (κs .0) s) (fsep (geometry-own g) (fsep X (fsep Y (fsep (slice-own (κs .1 .1 .1 .0) s′) (fsep (geometry-own g′) Z)))))))))
+        (mean 𝓤 H A (raw (Open .pre (to-open (κs .0) (qs .0) s g)) ⊛ (raw (Open .pre (to-open (κs .1 .1 .1 .0) (qs .1 .1 .1 .0) s′ g′)) ⊛ (‵ I ⊛ others))))
+    parted-with I s s′ g g′ =
+        qed W (raw (toks 𝓤 A 7 κs qs) ∷ ‵ (fsep I (fsep (slice-own (κs .0) s) (fsep (geometry-own g) (fsep X (fsep Y (fsep (slice-own (κs .1 .1 .1 .0) s′) (fsep (geometry-own g′) Z))))))) ∷ []) ∵ move ! (1 ∷ []) $ fsplit ! $ move ! (2 ∷ 1 ∷ []) $
+        use2 W (raw (Open .pre (to-open (κs .0) (qs .0) s g)) ⊛ (raw (Open .pre (to-open (κs .1 .1 .1 .0) (qs .1 .1 .1 .0) s′ g′)) ⊛ others)) (parted s s′ g g′) $
+        split ! $ move ! (1 ∷ []) $ split ! $ move ! (2 ∷ 0 ∷ 3 ∷ 1 ∷ []) $ done !
+
+    pub rejoined-with : (I D D′ : Fml)
+        → ent 𝓤 (mean 𝓤 H A (‵ D ⊛ (raw (token (κs .0) (qs .0)) ⊛ (‵ D′ ⊛ (raw (token (κs .1 .1 .1 .0) (qs .1 .1 .1 .0)) ⊛ (‵ I ⊛ others))))))
+        (sep 𝓤 (toks 𝓤 A 7 κs qs) (sem 𝓤 H A (fsep I (fsep D (fsep X (fsep Y (fsep D′ Z)))))))
+    rejoined-with I D D′ =
+        qed W (‵ D ∷ raw (token (κs .0) (qs .0)) ∷ ‵ D′ ∷ raw (token (κs .1 .1 .1 .0) (qs .1 .1 .1 .0)) ∷ ‵ I ∷ others ∷ []) ∵
+        move ! (3 ∷ 5 ∷ []) $ join ! $ move ! (3 ∷ 0 ∷ []) $ join ! $ move ! (2 ∷ 0 ∷ []) $ join ! $ move ! (1 ∷ 0 ∷ []) $ join ! $
+        use1 W (raw (toks 𝓤 A 7 κs qs) ⊛ ‵ (fsep D (fsep X (fsep Y (fsep D′ Z))))) (rejoined D D′) $ split ! $ move ! (2 ∷ 1 ∷ []) $ fjoin ! $ move ! (1 ∷ 0 ∷ []) $ done !

@@ -100,3 +100,35 @@ pub fn report_object<'a, 'b, 'c, 'd, 'e, 'f, 'g>(
         buf,
     )
 }
+
+// Writes the report of object o of two dumps, each opened for it, by its words on each side, if it fits.
+pub fn compare_object(
+    o: ObjectId,
+    bytes: &[u8],
+    geometry: Geometry,
+    order: &[u64],
+    rows: &[u64],
+    bytes2: &[u8],
+    geometry2: Geometry,
+    order2: &[u64],
+    rows2: &[u64],
+    buf: &mut [u8],
+) -> Compared
+    ensures { λ r. ⌜ r ≡ comparedOn geometry (length (now (bytes .entry))) geometry2 (length (now (bytes2 .entry)))
+        (sidesReport geometry (now (bytes .entry)) geometry2 (now (bytes2 .entry)) (o .0)
+        (now (order .entry)) (now (rows .entry)) (now (order2 .entry)) (now (rows2 .entry))) (length (now (buf .entry))) ⌝ }
+    ensures { λ _. ⌜ now (buf .exit) ≡ bytesLeft geometry (length (now (bytes .entry))) geometry2 (length (now (bytes2 .entry)))
+        (sidesReport geometry (now (bytes .entry)) geometry2 (now (bytes2 .entry)) (o .0)
+        (now (order .entry)) (now (rows .entry)) (now (order2 .entry)) (now (rows2 .entry))) (now (buf .entry)) ⌝ }
+{
+    report_object(
+        o,
+        open(bytes, geometry),
+        order,
+        rows,
+        open(bytes2, geometry2),
+        order2,
+        rows2,
+        buf,
+    )
+}
