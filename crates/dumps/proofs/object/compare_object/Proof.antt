@@ -57,14 +57,14 @@ use Rattle.dumps.proofs.open.open as opens
 use Rattle.dumps.proofs.open.open.Symbol as opens-def
 use Rattle.dumps.proofs.open.open.Symbol.{name as #dumps·open·open}
 use Rattle.dumps.proofs.open.open.Met as opens-thm
-use Rattle.dumps.proofs.both.report_object as report
-use Rattle.dumps.proofs.both.report_object.Symbol as report-def
-use Rattle.dumps.proofs.both.report_object.Symbol.{name as #dumps·both·report-object}
-use Rattle.dumps.proofs.both.report_object.Met as report-thm
-use Rattle.dumps.proofs.both.compare_object.Key.{name as #dumps·both·compare-object}
-use Rattle.dumps.proofs.both.compare_object as all
-use Rattle.dumps.proofs.both.compare_object.Statement as stated
-use Rattle.dumps.proofs.both.compare_object.Code as code
+use Rattle.dumps.proofs.object.report_object as report
+use Rattle.dumps.proofs.object.report_object.Symbol as report-def
+use Rattle.dumps.proofs.object.report_object.Symbol.{name as #dumps·object·report-object}
+use Rattle.dumps.proofs.object.report_object.Met as report-thm
+use Rattle.dumps.proofs.object.compare_object.Key.{name as #dumps·object·compare-object}
+use Rattle.dumps.proofs.object.compare_object as all
+use Rattle.dumps.proofs.object.compare_object.Statement as stated
+use Rattle.dumps.proofs.object.compare_object.Code as code
 
 -- a slice of bytes or of words at a lifetime
 abbrev bytes : (j : ℕ) → AllWithin 7 (j ∷ []) → Slot 7
@@ -157,7 +157,7 @@ module _ {M : Type 1} (𝓤 : URA M) (H : Heap 𝓤) (A : Atoms 𝓤) (W : Given
         qed W (‵ (finally u8 (x .name) zs) ∷ []) ∵ nothing ! $ move ! (1 ∷ 0 ∷ []) $ fjoin ! $ nothing ! $ fjoin ! $ nothing ! $ fjoin ! $ nothing ! $ fjoin ! $ nothing ! $ fjoin ! $
         nothing ! $ fjoin ! $ nothing ! $ fjoin ! $ nothing ! $ fjoin ! $ nothing ! $ fjoin ! $ nothing ! $ fjoin ! $ done !
 
-    module _ (C : Calls 𝓤 H) (Λ : Loops 𝓤 H) (fm : FmC 𝓤 H (W .laws) C) (known-open : Triple 𝓤 (C #dumps·open·open) (Open 𝓤 H A W mem run)) (known-report : Triple 𝓤 (C #dumps·both·report-object) Report) where
+    module _ (C : Calls 𝓤 H) (Λ : Loops 𝓤 H) (fm : FmC 𝓤 H (W .laws) C) (known-open : Triple 𝓤 (C #dumps·open·open) (Open 𝓤 H A W mem run)) (known-report : Triple 𝓤 (C #dumps·object·report-object) Report) where
       walk : Is O.the-row i (O′.lowered i ∷ []) → Is (ShrSlice (named 0) κ u8) s (v s ∷ []) → Is P.the-row g (P′.lowered g ∷ []) → Is (ShrSlice (named 1) (κs .1 .0) u64) o (v o ∷ []) → Is (ShrSlice (named 2) (κs .1 .1 .0) u64) p (v p ∷ [])
           → Is (ShrSlice (named 3) κ′ u8) s′ (v s′ ∷ []) → Is P.the-row g′ (P′.lowered g′ ∷ []) → Is (ShrSlice (named 4) (κs .1 .1 .1 .1 .0) u64) o′ (v o′ ∷ []) → Is (ShrSlice (named 5) (κs .1 .1 .1 .1 .1 .0) u64) p′ (v p′ ∷ [])
           → Room u8 (length (now x))
@@ -217,12 +217,12 @@ compare-object-spec 𝓤 H 𝓜 𝓖 𝓡 =
     let 𝓣 = tablesOf 𝓤 H 𝓜 (tables 𝓤 H 𝓜 𝓡 code.env) in
     let goes = goes-dropped 𝓤 H (𝓖 .A) W 7 in
     entered 𝓤 H (tripleOf 𝓤 H (𝓖 .A) all.signature (all.spec 𝓤 H (𝓖 .A) (𝓜 .mem) (𝓡 .run)))
-    (tables 𝓤 H 𝓜 𝓡 code.env .C) (tables 𝓤 H 𝓜 𝓡 code.env .Λ) #dumps·both·compare-object code.function (code.unfolded 𝓤 H 𝓜 𝓡)
+    (tables 𝓤 H 𝓜 𝓡 code.env .C) (tables 𝓤 H 𝓜 𝓡 code.env .Λ) #dumps·object·compare-object code.function (code.unfolded 𝓤 H 𝓜 𝓡)
     (thin 𝓤 H (𝓖 .A) W all.ended stayed (all.clauses 𝓤 H (𝓖 .A) (𝓜 .mem) (𝓡 .run)) code.function 𝓣
     (goes (plain (λ _. O.the-row)) yes (λ κs x f. refl), (goes (bytes 0 tt) yes (λ κs x f. refl), (goes (plain (λ _. P.the-row)) yes (λ κs x f. refl), (goes (words 1 tt) yes (λ κs x f. refl), (goes (words 2 tt) yes (λ κs x f. refl), (goes (bytes 3 tt) yes (λ κs x f. refl), (goes (plain (λ _. P.the-row)) yes (λ κs x f. refl), (goes (words 4 tt) yes (λ κs x f. refl), (goes (words 5 tt) yes (λ κs x f. refl), (goes-gave-slice 𝓤 H (𝓖 .A) W 7 6 tt (plain (λ _. u8)), tt))))))))))
     (λ κs. (LL.vals O.the-type O′.the-laws, (slice-vals, (LL.vals P.the-type P′.the-laws, (slice-vals, (slice-vals, (slice-vals, (LL.vals P.the-type P′.the-laws, (slice-vals, (slice-vals, (slice-vals, tt)))))))))))
     (λ κs. (LL.tells O.the-type O′.the-laws, (shr-slice-tells (named 0) (κs .0) u8, (LL.tells P.the-type P′.the-laws, (shr-slice-tells (named 1) (κs .1 .0) u64, (shr-slice-tells (named 2) (κs .1 .1 .0) u64, (shr-slice-tells (named 3) (κs .1 .1 .1 .0) u8, (LL.tells P.the-type P′.the-laws, (shr-slice-tells (named 4) (κs .1 .1 .1 .1 .0) u64, (shr-slice-tells (named 5) (κs .1 .1 .1 .1 .1 .0) u64, (mut-slice-tells (named 6) (κs .1 .1 .1 .1 .1 .1 .0) u8, tt)))))))))))
     (λ κs qs bounds a h are. walk 𝓤 H (𝓖 .A) W (𝓜 .mem) (𝓡 .run) κs qs (a .0) (a .1 .0) (a .1 .1 .0) (a .1 .1 .1 .0) (a .1 .1 .1 .1 .0) (a .1 .1 .1 .1 .1 .0) (a .1 .1 .1 .1 .1 .1 .0) (a .1 .1 .1 .1 .1 .1 .1 .0) (a .1 .1 .1 .1 .1 .1 .1 .1 .0) (a .1 .1 .1 .1 .1 .1 .1 .1 .1 .0) (𝓣 .C) (𝓣 .Λ) (fmOf 𝓤 H (W .laws) 𝓣)
     (cited 𝓤 H (Open 𝓤 H (𝓖 .A) W (𝓜 .mem) (𝓡 .run)) 𝓜 𝓡 code.env #dumps·open·open opens-def.routine code.calls-dumps·open·open (opens-thm.met 𝓤 H 𝓜 𝓖 𝓡))
-    (cited 𝓤 H (Report 𝓤 H (𝓖 .A) W (𝓜 .mem) (𝓡 .run)) 𝓜 𝓡 code.env #dumps·both·report-object report-def.routine code.calls-dumps·both·report-object (report-thm.met 𝓤 H 𝓜 𝓖 𝓡))
+    (cited 𝓤 H (Report 𝓤 H (𝓖 .A) W (𝓜 .mem) (𝓡 .run)) 𝓜 𝓡 code.env #dumps·object·report-object report-def.routine code.calls-dumps·object·report-object (report-thm.met 𝓤 H 𝓜 𝓖 𝓡))
     (are .0) (are .1 .0) (are .1 .1 .0) (are .1 .1 .1 .0) (are .1 .1 .1 .1 .0) (are .1 .1 .1 .1 .1 .0) (are .1 .1 .1 .1 .1 .1 .0) (are .1 .1 .1 .1 .1 .1 .1 .0) (are .1 .1 .1 .1 .1 .1 .1 .1 .0) (are .1 .1 .1 .1 .1 .1 .1 .1 .1 .0 .0 .1)))

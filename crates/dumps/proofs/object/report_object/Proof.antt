@@ -54,10 +54,10 @@ use Rattle.dumps.proofs.Apart.{slice-of, geometry-of, apart-two}
 use Rattle.dumps.proofs.Thin.{passed-on, both-told, both-said, answered-last, left-with, thin}
 use Rattle.dumps.proofs.open.OpenDump as T
 use Rattle.dumps.proofs.open.OpenDump.Laws as T′
-use Rattle.dumps.proofs.both.report_object.Key.{name as #dumps·both·report-object}
-use Rattle.dumps.proofs.both.report_object as report
-use Rattle.dumps.proofs.both.report_object.Statement as stated
-use Rattle.dumps.proofs.both.report_object.Code as code
+use Rattle.dumps.proofs.object.report_object.Key.{name as #dumps·object·report-object}
+use Rattle.dumps.proofs.object.report_object as report
+use Rattle.dumps.proofs.object.report_object.Statement as stated
+use Rattle.dumps.proofs.object.report_object.Code as code
 
 -- the structs' lifetimes
 abbrev α : Lfts 7 → NamedLft
@@ -174,7 +174,7 @@ report-object-spec 𝓤 H 𝓜 𝓖 𝓡 =
     let 𝓣 = tablesOf 𝓤 H 𝓜 (tables 𝓤 H 𝓜 𝓡 code.env) in
     let goes = goes-dropped 𝓤 H (𝓖 .A) W 7 in
     entered 𝓤 H (tripleOf 𝓤 H (𝓖 .A) report.signature (report.spec 𝓤 H (𝓖 .A) (𝓜 .mem) (𝓡 .run)))
-    (tables 𝓤 H 𝓜 𝓡 code.env .C) (tables 𝓤 H 𝓜 𝓡 code.env .Λ) #dumps·both·report-object code.function (code.unfolded 𝓤 H 𝓜 𝓡)
+    (tables 𝓤 H 𝓜 𝓡 code.env .C) (tables 𝓤 H 𝓜 𝓡 code.env .Λ) #dumps·object·report-object code.function (code.unfolded 𝓤 H 𝓜 𝓡)
     (thin 𝓤 H (𝓖 .A) W report.ended stayed (report.clauses 𝓤 H (𝓖 .A) (𝓜 .mem) (𝓡 .run)) code.function 𝓣 (
       goes (plain (λ _. O.the-row)) yes (λ κs x f. refl),
       (
