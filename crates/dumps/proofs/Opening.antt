@@ -15,10 +15,10 @@ use prog.Wp.{Heap}
 use ghost.Atoms.{Atoms, sem}
 use contract.Lifetimes.{Lfts, Shares, toks}
 use contract.Monad.{Fun}
-use types.Kit.{Given, Item, mean, ‵, raw, _⊛_, _$_, _∵_, !, qed, move, use1, use2, use3, split, join, fsplit, fjoin, frame, done}
+use types.Kit.{Given, Item, mean, ‵, raw, _⊛_, _$_, _∵_, !, qed, move, use1, use2, use3, split, join, fsplit, fjoin, done}
 use denote.RattleType.{owns}
 use denote.Builtin.{u8}
-use denote.Ref.{RefT, NamedLft}
+use denote.Ref.{RefT}
 use denote.Signature.{namedLft}
 use denote.Slice.{sliceVal, ShrSlice}
 use denote.Steps.{nothing}

@@ -35,7 +35,6 @@ use denote.Triple.Call.{calls-at}
 use denote.Triple.Entry.{Vals, Args, onEntry, alive}
 use denote.Triple.Spec.{tripleOf}
 use denote.Triple.Table.{entered, cited}
-use denote.Triple.Clauses.{Lasts}
 use denote.Triple.Walked.{Stays, stay-dropped, gave-slice, goes-dropped, goes-gave-slice, hasOf, walkOf}
 use Rattle.page.specs.declared.geometry.Geometry.{Geometry}
 use Rattle.page.proofs.geometry.Geometry as P
