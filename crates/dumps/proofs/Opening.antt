@@ -41,7 +41,8 @@ abbrev pub is-made : RefT (List ℕ) → Geometry → OpenDump → Type 0
 is-made s g r = (r .bytes ≡ s) × (r .geometry ≡ g)
 
 -- what is so of an open dump is so of its slice and geometry; of two
-pub of-part : (Φ : RefT (List ℕ) → Geometry → Type 0) (s : RefT (List ℕ)) (g : Geometry) (r : OpenDump) → is-made s g r → Φ (r .bytes) (r .geometry) → Φ s g
+pub of-part : (Φ : RefT (List ℕ) → Geometry → Type 0) (s : RefT (List ℕ)) (g : Geometry) (r : OpenDump) → is-made s g r
+    → Φ (r .bytes) (r .geometry) → Φ s g
 of-part Φ s g r e x = subst (λ m. Φ s m) (e .1) (subst (λ t. Φ t (r .geometry)) (e .0) x)
 
 pub of-parts : (Φ : RefT (List ℕ) → Geometry → RefT (List ℕ) → Geometry → Type 0) (s s′ : RefT (List ℕ)) (g g′ : Geometry) (r r′ : OpenDump)
@@ -73,7 +74,8 @@ module _ {M : Type 1} (𝓤 : URA M) (H : Heap 𝓤) (A : Atoms 𝓤) (W : Given
   abbrev geometry-own : Geometry → Fml
   geometry-own g = P.the-row .own g (P′.lowered g ∷ [])
 
-  opening : (κ : Lft) (q : Share) (s : RefT (List ℕ)) (g : Geometry) → ent 𝓤 (sep 𝓤 (A .lft κ q) (sep 𝓤 (sem 𝓤 H A (slice-own κ s)) (sem 𝓤 H A (geometry-own g)))) (Open .pre (to-open κ q s g))
+  opening : (κ : Lft) (q : Share) (s : RefT (List ℕ)) (g : Geometry)
+      → ent 𝓤 (sep 𝓤 (A .lft κ q) (sep 𝓤 (sem 𝓤 H A (slice-own κ s)) (sem 𝓤 H A (geometry-own g)))) (Open .pre (to-open κ q s g))
   opening κ q s g =
       qed W (raw (A .lft κ q) ∷ ‵ (slice-own κ s) ∷ ‵ (geometry-own g) ∷ []) ∵ use1 W (raw (token κ q)) (alone (A .lft κ q)) $
       move ! (2 ∷ []) $ nothing ! $ move ! (1 ∷ 0 ∷ []) $ fjoin ! $ move ! (2 ∷ 0 ∷ []) $ fjoin ! $ move ! (1 ∷ 0 ∷ []) $
@@ -88,14 +90,17 @@ module _ {M : Type 1} (𝓤 : URA M) (H : Heap 𝓤) (A : Atoms 𝓤) (W : Given
         → ent 𝓤 (sep 𝓤 (toks 𝓤 A (suc n) κs qs) (sem 𝓤 H A (fsep (slice-own (κs .0) s) (fsep (geometry-own g) Z)))) (mean 𝓤 H A (raw (Open .pre (to-open (κs .0) (qs .0) s g)) ⊛ behind))
     parted-one s g =
         qed W (raw (toks 𝓤 A (suc n) κs qs) ∷ ‵ (fsep (slice-own (κs .0) s) (fsep (geometry-own g) Z)) ∷ []) ∵
-        use1 W (raw (A .lft (κs .0) (qs .0)) ⊛ raw (toks 𝓤 A n (κs .1) (qs .1))) (id⊢ 𝓤 _) $ split ! $ move ! (2 ∷ []) $ fsplit ! $ move ! (1 ∷ []) $ fsplit ! $
+        use1 W (raw (A .lft (κs .0) (qs .0)) ⊛ raw (toks 𝓤 A n (κs .1) (qs .1))) (id⊢ 𝓤 _) $ split ! $ move ! (2 ∷ []) $ fsplit ! $ move ! (1 ∷ []) $
+        fsplit ! $
         -- [the geometry; Z; the slice; the tokens]
         move ! (3 ∷ 2 ∷ 0 ∷ []) $ use3 W (raw (Open .pre (to-open (κs .0) (qs .0) s g))) (opening (κs .0) (qs .0) s g) $ done !
 
-    pub rejoined-one : (D : Fml) → ent 𝓤 (mean 𝓤 H A (‵ D ⊛ (raw (token (κs .0) (qs .0)) ⊛ behind))) (sep 𝓤 (toks 𝓤 A (suc n) κs qs) (sem 𝓤 H A (fsep D Z)))
+    pub rejoined-one : (D : Fml)
+        → ent 𝓤 (mean 𝓤 H A (‵ D ⊛ (raw (token (κs .0) (qs .0)) ⊛ behind))) (sep 𝓤 (toks 𝓤 A (suc n) κs qs) (sem 𝓤 H A (fsep D Z)))
     rejoined-one D =
         qed W (‵ D ∷ raw (token (κs .0) (qs .0)) ∷ ‵ Z ∷ raw (toks 𝓤 A n (κs .1) (qs .1)) ∷ []) ∵ move ! (1 ∷ []) $
-        use1 W (raw (A .lft (κs .0) (qs .0))) (fst∗ 𝓤 (A .lft (κs .0) (qs .0)) (emp 𝓤)) $ move ! (1 ∷ 2 ∷ []) $ fjoin ! $ move ! (1 ∷ 2 ∷ []) $ join ! $ done !
+        use1 W (raw (A .lft (κs .0) (qs .0))) (fst∗ 𝓤 (A .lft (κs .0) (qs .0)) (emp 𝓤)) $ move ! (1 ∷ 2 ∷ []) $ fjoin ! $ move ! (1 ∷ 2 ∷ []) $
+        join ! $ done !
 
   -- two: X and Y stand behind the first dump, Z behind the second
   module _ (κs : Lfts 7) (qs : Shares 7) (X Y Z : Fml) where
@@ -111,10 +116,13 @@ module _ {M : Type 1} (𝓤 : URA M) (H : Heap 𝓤) (A : Atoms 𝓤) (W : Given
         use1 W (raw (A .lft (κs .0) (qs .0)) ⊛ (raw (A .lft (κs .1 .0) (qs .1 .0)) ⊛ (raw (A .lft (κs .1 .1 .0) (qs .1 .1 .0)) ⊛ (raw (A .lft (κs .1 .1 .1 .0) (qs .1 .1 .1 .0)) ⊛ raw (toks 𝓤 A 3 (κs .1 .1 .1 .1) (qs .1 .1 .1 .1)))))) (id⊢ 𝓤 _) $
         split ! $ move ! (1 ∷ []) $ split ! $ move ! (1 ∷ []) $ split ! $ move ! (1 ∷ []) $ split ! $
         -- [the fourth token; those behind; the third, the second, the first; what is owned]
-        move ! (5 ∷ []) $ fsplit ! $ move ! (1 ∷ []) $ fsplit ! $ move ! (1 ∷ []) $ fsplit ! $ move ! (1 ∷ []) $ fsplit ! $ move ! (1 ∷ []) $ fsplit ! $ move ! (1 ∷ []) $ fsplit ! $
+        move ! (5 ∷ []) $ fsplit ! $ move ! (1 ∷ []) $ fsplit ! $ move ! (1 ∷ []) $ fsplit ! $ move ! (1 ∷ []) $ fsplit ! $ move ! (1 ∷ []) $
+        fsplit ! $ move ! (1 ∷ []) $ fsplit ! $
         -- [the second geometry; Z; the second slice; Y; X; the first geometry; the first slice; the tokens]
-        move ! (7 ∷ 2 ∷ 0 ∷ []) $ use3 W (raw (Open .pre (to-open (κs .1 .1 .1 .0) (qs .1 .1 .1 .0) s′ g′))) (opening (κs .1 .1 .1 .0) (qs .1 .1 .1 .0) s′ g′) $
-        move ! (9 ∷ 5 ∷ 4 ∷ []) $ use3 W (raw (Open .pre (to-open (κs .0) (qs .0) s g))) (opening (κs .0) (qs .0) s g) $ move ! (0 ∷ 1 ∷ 4 ∷ 3 ∷ 2 ∷ 7 ∷ 6 ∷ 5 ∷ []) $ done !
+        move ! (7 ∷ 2 ∷ 0 ∷ []) $
+        use3 W (raw (Open .pre (to-open (κs .1 .1 .1 .0) (qs .1 .1 .1 .0) s′ g′))) (opening (κs .1 .1 .1 .0) (qs .1 .1 .1 .0) s′ g′) $
+        move ! (9 ∷ 5 ∷ 4 ∷ []) $ use3 W (raw (Open .pre (to-open (κs .0) (qs .0) s g))) (opening (κs .0) (qs .0) s g) $
+        move ! (0 ∷ 1 ∷ 4 ∷ 3 ∷ 2 ∷ 7 ∷ 6 ∷ 5 ∷ []) $ done !
 
     pub rejoined : (D D′ : Fml)
         → ent 𝓤 (mean 𝓤 H A (‵ D ⊛ (raw (token (κs .0) (qs .0)) ⊛ (‵ D′ ⊛ (raw (token (κs .1 .1 .1 .0) (qs .1 .1 .1 .0)) ⊛ others)))))
@@ -142,4 +150,5 @@ module _ {M : Type 1} (𝓤 : URA M) (H : Heap 𝓤) (A : Atoms 𝓤) (W : Given
     rejoined-with I D D′ =
         qed W (‵ D ∷ raw (token (κs .0) (qs .0)) ∷ ‵ D′ ∷ raw (token (κs .1 .1 .1 .0) (qs .1 .1 .1 .0)) ∷ ‵ I ∷ others ∷ []) ∵
         move ! (3 ∷ 5 ∷ []) $ join ! $ move ! (3 ∷ 0 ∷ []) $ join ! $ move ! (2 ∷ 0 ∷ []) $ join ! $ move ! (1 ∷ 0 ∷ []) $ join ! $
-        use1 W (raw (toks 𝓤 A 7 κs qs) ⊛ ‵ (fsep D (fsep X (fsep Y (fsep D′ Z))))) (rejoined D D′) $ split ! $ move ! (2 ∷ 1 ∷ []) $ fjoin ! $ move ! (1 ∷ 0 ∷ []) $ done !
+        use1 W (raw (toks 𝓤 A 7 κs qs) ⊛ ‵ (fsep D (fsep X (fsep Y (fsep D′ Z))))) (rejoined D D′) $ split ! $ move ! (2 ∷ 1 ∷ []) $ fjoin ! $
+        move ! (1 ∷ 0 ∷ []) $ done !

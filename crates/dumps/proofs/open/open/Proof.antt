@@ -71,9 +71,12 @@ module _ {M : Type 1} (𝓤 : URA M) (H : Heap 𝓤) (A : Atoms 𝓤) (W : Given
         let wg = LL.lawful P.the-type P′.the-laws 𝓤 H A W .typed g (P′.lowered g ∷ []) is-g .0 in
         qed W (raw (onEntry 𝓤 H A opens.signature κs (q, tt) a at) ∷ []) ∵ enter ! C Λ code.function (v ∷ P′.lowered g ∷ []) _ $
         alloc1 ! (λ l₀. alloc1 ! (λ l₁. alloc1 ! (λ l₂. alloc0 ! $ params1 ! $ pass1 ! (init ! 2 refl ws) $ pass1 ! (init ! 0 refl wg) $ pass0 ! $
-        assigns ! (agg ! (and-then ! (load ! (from ! (stop !)) (look ! 2 refl)) (and-then ! (load ! (from ! (stop !)) (look ! 0 refl)) (no-more !)))) (from ! (stop !)) (init ! 4 refl (tt, (ws .1, (wg .1, tt)))) $
-        returns ! (look ! 4 refl) $ forget ! 0 refl $ forget ! 2 refl $ forget ! 4 refl $ move ! (4 ∷ 5 ∷ []) $ free1 ! $ move ! (2 ∷ 3 ∷ []) $ free1 ! $ free1 ! $ free0 ! $
-        use1 W (raw (alive 𝓤 H A opens.signature κs (q, tt)) ⊛ ‵ (owns (ShrSlice (named 0) κ u8 ∷ P.the-row ∷ []) a at)) (id⊢ 𝓤 _) $ split ! $ move ! (1 ∷ []) $
+        assigns ! (agg ! (and-then ! (load ! (from ! (stop !)) (look ! 2 refl))
+        (and-then ! (load ! (from ! (stop !)) (look ! 0 refl)) (no-more !)))) (from ! (stop !)) (init ! 4 refl (tt, (ws .1, (wg .1, tt)))) $
+        returns ! (look ! 4 refl) $ forget ! 0 refl $ forget ! 2 refl $ forget ! 4 refl $ move ! (4 ∷ 5 ∷ []) $ free1 ! $ move ! (2 ∷ 3 ∷ []) $
+        free1 ! $ free1 ! $ free0 ! $
+        use1 W (raw (alive 𝓤 H A opens.signature κs (q, tt)) ⊛ ‵ (owns (ShrSlice (named 0) κ u8 ∷ P.the-row ∷ []) a at)) (id⊢ 𝓤 _) $ split ! $
+        move ! (1 ∷ []) $
         use1 W (‵ (T.the-row (α κs) .own made (T′.lowered made ∷ []))) (own-shut 𝓤 H A W (T.the-type (α κs)) (T′.the-laws (α κs)) a) $
         by ! (left 𝓤 H A W opens.ended (opens.clauses 𝓤 H A mem run) ((κs, (q, tt), tt, a, at), tt) (T′.lowered made) made (tt, (tt, tt)) (factI 𝓤 ((s ≡ s) × (g ≡ g)) (emp 𝓤) (refl, refl))))))
 

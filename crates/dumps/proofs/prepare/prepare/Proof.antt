@@ -108,9 +108,11 @@ module _ {M : Type 1} (𝓤 : URA M) (H : Heap 𝓤) (A : Atoms 𝓤) (W : Given
     abbrev ended : List ℕ → List ℕ → List ℕ → SProp 𝓤
     ended xs ys zs = sep 𝓤 (sem 𝓤 H A (finally u64 (x .name) xs)) (sep 𝓤 (sem 𝓤 H A (finally u64 (y .name) ys)) (sem 𝓤 H A (finally u64 (z .name) zs)))
 
-    had : (xs ys zs : List ℕ) → ent 𝓤 (ended xs ys zs) (sem 𝓤 H A (hasOf κs (prepare.ended .signature .params) (prepare.ended .kept) stayed a (tt, (xs, (ys, (zs, tt)))) at))
+    had : (xs ys zs : List ℕ)
+        → ent 𝓤 (ended xs ys zs) (sem 𝓤 H A (hasOf κs (prepare.ended .signature .params) (prepare.ended .kept) stayed a (tt, (xs, (ys, (zs, tt)))) at))
     had xs ys zs =
-        qed W (‵ (finally u64 (x .name) xs) ∷ ‵ (finally u64 (y .name) ys) ∷ ‵ (finally u64 (z .name) zs) ∷ []) ∵ nothing ! $ move ! (3 ∷ 0 ∷ []) $ fjoin ! $ move ! (2 ∷ 0 ∷ []) $ fjoin ! $
+        qed W (‵ (finally u64 (x .name) xs) ∷ ‵ (finally u64 (y .name) ys) ∷ ‵ (finally u64 (z .name) zs) ∷ []) ∵ nothing ! $ move ! (3 ∷ 0 ∷ []) $
+        fjoin ! $ move ! (2 ∷ 0 ∷ []) $ fjoin ! $
         move ! (1 ∷ 0 ∷ []) $ fjoin ! $ nothing ! $ fjoin ! $ done !
 
     asked : ent 𝓤 (onEntry 𝓤 H A prepare.signature κs qs a at) (Within .pre to)
@@ -127,29 +129,42 @@ module _ {M : Type 1} (𝓤 : URA M) (H : Heap 𝓤) (A : Atoms 𝓤) (W : Given
           qed W (raw (onEntry 𝓤 H A prepare.signature κs qs a at) ∷ []) ∵ enter ! C Λ code.function (T′.lowered d ∷ v x ∷ v y ∷ v z ∷ []) _ $
           alloc1 ! (λ l₀. alloc1 ! (λ l₁. alloc1 ! (λ l₂. alloc1 ! (λ l₃. alloc1 ! (λ l₄. alloc1 ! (λ l₅. alloc1 ! (λ l₆. alloc1 ! (λ l₇. alloc1 ! (λ l₈. alloc1 ! (λ l₉. alloc1 ! (λ l₁₀. alloc1 ! (λ l₁₁. alloc1 ! (λ l₁₂. alloc0 ! $ params1 ! $
           pass1 ! (init ! 22 refl wd) $ pass1 ! (init ! 20 refl (tt, (tt, (record { fits = room-x .0 }, tt)))) $
-          pass1 ! (init ! 18 refl (tt, (tt, (record { fits = room-y .0 }, tt)))) $ pass1 ! (init ! 16 refl (tt, (tt, (record { fits = room-z .0 }, tt)))) $ pass0 ! $
+          pass1 ! (init ! 18 refl (tt, (tt, (record { fits = room-y .0 }, tt)))) $
+          pass1 ! (init ! 16 refl (tt, (tt, (record { fits = room-z .0 }, tt)))) $ pass0 ! $
           assigns ! (of-opd ! (load ! (from ! (fld ! refl (stop !))) (look-in ! 22 (sub ! 0 refl (whole !))))) (from ! (stop !)) (init ! 14 refl (tt, wd .1 .0)) $
           assigns ! (of-opd ! (load ! (from ! (fld ! refl (stop !))) (look-in ! 22 (sub ! 1 refl (whole !))))) (from ! (stop !)) (init ! 12 refl (tt, wd .1 .1 .0)) $
           assigns ! (addr ! (from ! (fld ! refl (hop ! (look-in ! 20 (sub ! 0 refl (whole !))) (stop !))))) (from ! (stop !)) (init ! 10 refl (tt, tt)) $
-          assigns ! (agg ! (and-then ! (load ! (from ! (stop !)) (look ! 10 refl)) (and-then ! (load ! (from ! (fld ! refl (stop !))) (look-in ! 20 (sub ! 1 refl (whole !)))) (no-more !)))) (from ! (stop !)) (init ! 8 refl (tt, (tt, (record { fits = room-x .0 }, tt)))) $
+          assigns ! (agg ! (and-then ! (load ! (from ! (stop !)) (look ! 10 refl))
+          (and-then ! (load ! (from ! (fld ! refl (stop !))) (look-in ! 20 (sub ! 1 refl (whole !)))) (no-more !)))) (from ! (stop !)) (init ! 8 refl (tt, (tt, (record { fits = room-x .0 }, tt)))) $
           assigns ! (addr ! (from ! (fld ! refl (hop ! (look-in ! 18 (sub ! 0 refl (whole !))) (stop !))))) (from ! (stop !)) (init ! 6 refl (tt, tt)) $
-          assigns ! (agg ! (and-then ! (load ! (from ! (stop !)) (look ! 6 refl)) (and-then ! (load ! (from ! (fld ! refl (stop !))) (look-in ! 18 (sub ! 1 refl (whole !)))) (no-more !)))) (from ! (stop !)) (init ! 4 refl (tt, (tt, (record { fits = room-y .0 }, tt)))) $
+          assigns ! (agg ! (and-then ! (load ! (from ! (stop !)) (look ! 6 refl))
+          (and-then ! (load ! (from ! (fld ! refl (stop !))) (look-in ! 18 (sub ! 1 refl (whole !)))) (no-more !)))) (from ! (stop !)) (init ! 4 refl (tt, (tt, (record { fits = room-y .0 }, tt)))) $
           assigns ! (addr ! (from ! (fld ! refl (hop ! (look-in ! 16 (sub ! 0 refl (whole !))) (stop !))))) (from ! (stop !)) (init ! 2 refl (tt, tt)) $
-          assigns ! (agg ! (and-then ! (load ! (from ! (stop !)) (look ! 2 refl)) (and-then ! (load ! (from ! (fld ! refl (stop !))) (look-in ! 16 (sub ! 1 refl (whole !)))) (no-more !)))) (from ! (stop !)) (init ! 0 refl (tt, (tt, (record { fits = room-z .0 }, tt)))) $
+          assigns ! (agg ! (and-then ! (load ! (from ! (stop !)) (look ! 2 refl))
+          (and-then ! (load ! (from ! (fld ! refl (stop !))) (look-in ! 16 (sub ! 1 refl (whole !)))) (no-more !)))) (from ! (stop !)) (init ! 0 refl (tt, (tt, (record { fits = room-z .0 }, tt)))) $
           move ! (26 ∷ []) $ use1 W (raw (Within .pre to)) asked $
           -- [what the covered function asks; _12; …; _1; …; room for _0; …]
           calls-at ! fm Within known to
-          (and-then ! (load ! (from ! (stop !)) (look ! 15 refl)) (and-then ! (load ! (from ! (stop !)) (look ! 13 refl)) (and-then ! (load ! (from ! (stop !)) (look ! 9 refl)) (and-then ! (load ! (from ! (stop !)) (look ! 5 refl)) (and-then ! (load ! (from ! (stop !)) (look ! 1 refl)) (no-more !)))))) (λ u.
+          (and-then ! (load ! (from ! (stop !)) (look ! 15 refl)) (and-then ! (load ! (from ! (stop !)) (look ! 13 refl))
+          (and-then ! (load ! (from ! (stop !)) (look ! 9 refl)) (and-then ! (load ! (from ! (stop !)) (look ! 5 refl))
+          (and-then ! (load ! (from ! (stop !)) (look ! 1 refl)) (no-more !)))))) (λ u.
           answered-last 𝓤 H A W within.ended (within.clauses 𝓤 H A mem run) to u ! tt (λ r ws. is-told r × (is-order (order ws) × (is-copies (copies ws) × is-work (work ws))))
           (λ r ws. told-more 𝓤 H A W (is-told r) (is-order (order ws) × (is-copies (copies ws) × is-work (work ws))) (told-more 𝓤 H A W (is-order (order ws)) (is-copies (copies ws) × is-work (work ws)) (both-told 𝓤 H A W (is-copies (copies ws)) (is-work (work ws))))) (λ r ws s.
-          fsplit ! $ drop ! $ fsplit ! $ drop ! $ fsplit ! $ fsplit ! $ move ! (1 ∷ []) $ feqL ! (λ lx. move ! (1 ∷ []) $ fsplit ! $ fsplit ! $ move ! (1 ∷ []) $ feqL ! (λ ly. move ! (1 ∷ []) $ fsplit ! $ fsplit ! $ move ! (1 ∷ []) $ feqL ! (λ lz.
+          fsplit ! $ drop ! $ fsplit ! $ drop ! $ fsplit ! $ fsplit ! $ move ! (1 ∷ []) $ feqL ! (λ lx. move ! (1 ∷ []) $ fsplit ! $ fsplit ! $
+          move ! (1 ∷ []) $ feqL ! (λ ly. move ! (1 ∷ []) $ fsplit ! $ fsplit ! $ move ! (1 ∷ []) $ feqL ! (λ lz.
           move ! (4 ∷ 5 ∷ 3 ∷ 2 ∷ 0 ∷ 1 ∷ []) $
           -- [the result; the tokens; the three last lists; true; _12; …; _1; …; room for _0; …]
           peeks ! S.the-row (Is S.the-row) (shows 𝓤 H A S.the-row) r (u ∷ []) (λ is.
           land ! (from ! (stop !)) (init ! 30 refl (EL.lawful S.the-type S′.the-laws 𝓤 H A W tt .typed r _ is .0)) $
-          returns ! (look ! 30 refl) $ forget ! 6 refl $ forget ! 8 refl $ forget ! 10 refl $ forget ! 12 refl $ forget ! 14 refl $ forget ! 16 refl $ forget ! 18 refl $ forget ! 20 refl $ forget ! 22 refl $ forget ! 24 refl $ forget ! 26 refl $ forget ! 28 refl $ forget ! 30 refl $
-          move ! (30 ∷ 31 ∷ []) $ free1 ! $ move ! (28 ∷ 29 ∷ []) $ free1 ! $ move ! (26 ∷ 27 ∷ []) $ free1 ! $ move ! (24 ∷ 25 ∷ []) $ free1 ! $ move ! (22 ∷ 23 ∷ []) $ free1 ! $ move ! (20 ∷ 21 ∷ []) $ free1 ! $ move ! (18 ∷ 19 ∷ []) $ free1 ! $ move ! (16 ∷ 17 ∷ []) $ free1 ! $ move ! (14 ∷ 15 ∷ []) $ free1 ! $ move ! (12 ∷ 13 ∷ []) $ free1 ! $ move ! (10 ∷ 11 ∷ []) $ free1 ! $ move ! (8 ∷ 9 ∷ []) $ free1 ! $ move ! (6 ∷ 7 ∷ []) $ free1 ! $ free0 ! $
-          keep ! (0 ∷ 1 ∷ 2 ∷ 3 ∷ 4 ∷ []) $ by ! (left-with 𝓤 H A W prepare.ended stayed (prepare.clauses 𝓤 H A mem run) ((κs, qs, tt, a, at), tt) u r (tt, (order ws, (copies ws, (work ws, tt)))) (tt, (lx, (ly, (lz, tt))))
+          returns ! (look ! 30 refl) $ forget ! 6 refl $ forget ! 8 refl $ forget ! 10 refl $ forget ! 12 refl $ forget ! 14 refl $
+          forget ! 16 refl $ forget ! 18 refl $ forget ! 20 refl $ forget ! 22 refl $ forget ! 24 refl $ forget ! 26 refl $ forget ! 28 refl $
+          forget ! 30 refl $
+          move ! (30 ∷ 31 ∷ []) $ free1 ! $ move ! (28 ∷ 29 ∷ []) $ free1 ! $ move ! (26 ∷ 27 ∷ []) $ free1 ! $ move ! (24 ∷ 25 ∷ []) $ free1 ! $
+          move ! (22 ∷ 23 ∷ []) $ free1 ! $ move ! (20 ∷ 21 ∷ []) $ free1 ! $ move ! (18 ∷ 19 ∷ []) $ free1 ! $ move ! (16 ∷ 17 ∷ []) $ free1 ! $
+          move ! (14 ∷ 15 ∷ []) $ free1 ! $ move ! (12 ∷ 13 ∷ []) $ free1 ! $ move ! (10 ∷ 11 ∷ []) $ free1 ! $ move ! (8 ∷ 9 ∷ []) $ free1 ! $
+          move ! (6 ∷ 7 ∷ []) $ free1 ! $ free0 ! $
+          keep ! (0 ∷ 1 ∷ 2 ∷ 3 ∷ 4 ∷ []) $
+          by ! (left-with 𝓤 H A W prepare.ended stayed (prepare.clauses 𝓤 H A mem run) ((κs, qs, tt, a, at), tt) u r (tt, (order ws, (copies ws, (work ws, tt)))) (tt, (lx, (ly, (lz, tt))))
           (said-more 𝓤 H A W (is-told r) (s .0) (said-more 𝓤 H A W (is-order (order ws)) (s .1 .0) (both-said 𝓤 H A W (is-copies (copies ws)) (is-work (work ws)) (s .1 .1))))
           (ended (order ws) (copies ws) (work ws)) (had (order ws) (copies ws) (work ws))))))))))))))))))))))
 

@@ -105,7 +105,8 @@ module _ {M : Type 1} (𝓤 : URA M) (H : Heap 𝓤) (A : Atoms 𝓤) (W : Given
     abbrev to : OpenDump → Val → Prepare .Ghost
     to r u = ((κs, qs, tt, (r, a .1 .1), (u ∷ [], at .1 .1)), tt)
 
-    asked : (r : OpenDump) (u : Val) → ent 𝓤 (mean 𝓤 H A (‵ (dump-own 𝓤 H A W mem run κ r u) ⊛ (raw (token 𝓤 H A W mem run κ (qs .0)) ⊛ rest))) (Prepare .pre (to r u))
+    asked : (r : OpenDump) (u : Val)
+        → ent 𝓤 (mean 𝓤 H A (‵ (dump-own 𝓤 H A W mem run κ r u) ⊛ (raw (token 𝓤 H A W mem run κ (qs .0)) ⊛ rest))) (Prepare .pre (to r u))
     asked r u =
         via 𝓤 _ (rejoined-one 𝓤 H A W mem run 3 κs qs Z (dump-own 𝓤 H A W mem run κ r u))
         (passed-on 𝓤 H A W (alive 𝓤 H A all.signature κs qs) (id⊢ 𝓤 (sem 𝓤 H A (fsep (dump-own 𝓤 H A W mem run κ r u) Z))))
@@ -143,48 +144,65 @@ module _ {M : Type 1} (𝓤 : URA M) (H : Heap 𝓤) (A : Atoms 𝓤) (W : Given
     abbrev ended : List ℕ → List ℕ → List ℕ → SProp 𝓤
     ended xs ys zs = sep 𝓤 (sem 𝓤 H A (finally u64 (x .name) xs)) (sep 𝓤 (sem 𝓤 H A (finally u64 (y .name) ys)) (sem 𝓤 H A (finally u64 (z .name) zs)))
 
-    had : (xs ys zs : List ℕ) → ent 𝓤 (ended xs ys zs) (sem 𝓤 H A (hasOf κs (all.ended .signature .params) (all.ended .kept) stayed a (tt, (tt, (xs, (ys, (zs, tt))))) at))
+    had : (xs ys zs : List ℕ)
+        → ent 𝓤 (ended xs ys zs) (sem 𝓤 H A (hasOf κs (all.ended .signature .params) (all.ended .kept) stayed a (tt, (tt, (xs, (ys, (zs, tt))))) at))
     had xs ys zs =
-        qed W (‵ (finally u64 (x .name) xs) ∷ ‵ (finally u64 (y .name) ys) ∷ ‵ (finally u64 (z .name) zs) ∷ []) ∵ nothing ! $ move ! (3 ∷ 0 ∷ []) $ fjoin ! $ move ! (2 ∷ 0 ∷ []) $ fjoin ! $
+        qed W (‵ (finally u64 (x .name) xs) ∷ ‵ (finally u64 (y .name) ys) ∷ ‵ (finally u64 (z .name) zs) ∷ []) ∵ nothing ! $ move ! (3 ∷ 0 ∷ []) $
+        fjoin ! $ move ! (2 ∷ 0 ∷ []) $ fjoin ! $
         move ! (1 ∷ 0 ∷ []) $ fjoin ! $ nothing ! $ fjoin ! $ nothing ! $ fjoin ! $ done !
 
     module _ (C : Calls 𝓤 H) (Λ : Loops 𝓤 H) (fm : FmC 𝓤 H (W .laws) C) (known-open : Triple 𝓤 (C #dumps·open·open) (Open 𝓤 H A W mem run)) (known-prepare : Triple 𝓤 (C #dumps·prepare·prepare) Prepare) where
-      walk : Is (ShrSlice (named 0) κ u8) s (v s ∷ []) → Is P.the-row g (P′.lowered g ∷ []) → Room u64 (length (now x)) → Room u64 (length (now y)) → Room u64 (length (now z))
+      walk : Is (ShrSlice (named 0) κ u8) s (v s ∷ []) → Is P.the-row g (P′.lowered g ∷ []) → Room u64 (length (now x)) → Room u64 (length (now y))
+          → Room u64 (length (now z))
           → ent 𝓤 (onEntry 𝓤 H A all.signature κs qs a at)
           (WpFn 𝓤 H C Λ code.function (v s ∷ P′.lowered g ∷ v x ∷ v y ∷ v z ∷ []) (walkOf 𝓤 H A all.ended stayed (all.clauses 𝓤 H A mem run) .post ((κs, qs, tt, a, at), tt)))
       walk is-s is-g room-x room-y room-z =
           qed W (raw (onEntry 𝓤 H A all.signature κs qs a at) ∷ []) ∵ enter ! C Λ code.function (v s ∷ P′.lowered g ∷ v x ∷ v y ∷ v z ∷ []) _ $
           alloc1 ! (λ l₀. alloc1 ! (λ l₁. alloc1 ! (λ l₂. alloc1 ! (λ l₃. alloc1 ! (λ l₄. alloc1 ! (λ l₅. alloc1 ! (λ l₆. alloc1 ! (λ l₇. alloc1 ! (λ l₈. alloc1 ! (λ l₉. alloc1 ! (λ l₁₀. alloc1 ! (λ l₁₁. alloc1 ! (λ l₁₂. alloc0 ! $ params1 ! $
           pass1 ! (init ! 22 refl (shr-slice-lawful 𝓤 H A W (named 0) κ u8 .typed s (v s ∷ []) is-s .0)) $
-          pass1 ! (init ! 20 refl (LL.lawful P.the-type P′.the-laws 𝓤 H A W .typed g (P′.lowered g ∷ []) is-g .0)) $ pass1 ! (init ! 18 refl (tt, (tt, (record { fits = room-x .0 }, tt)))) $
-          pass1 ! (init ! 16 refl (tt, (tt, (record { fits = room-y .0 }, tt)))) $ pass1 ! (init ! 14 refl (tt, (tt, (record { fits = room-z .0 }, tt)))) $ pass0 ! $
+          pass1 ! (init ! 20 refl (LL.lawful P.the-type P′.the-laws 𝓤 H A W .typed g (P′.lowered g ∷ []) is-g .0)) $
+          pass1 ! (init ! 18 refl (tt, (tt, (record { fits = room-x .0 }, tt)))) $
+          pass1 ! (init ! 16 refl (tt, (tt, (record { fits = room-y .0 }, tt)))) $
+          pass1 ! (init ! 14 refl (tt, (tt, (record { fits = room-z .0 }, tt)))) $ pass0 ! $
           move ! (26 ∷ []) $ use1 W (raw (Open 𝓤 H A W mem run .pre opening) ⊛ rest) (parted-one 𝓤 H A W mem run 3 κs qs Z s g) $ split ! $
           -- [what `open` asks; the others; _12; …; _1; …; room for _0; …]
-          calls-at ! fm (Open 𝓤 H A W mem run) known-open opening (and-then ! (load ! (from ! (stop !)) (look ! 24 refl)) (and-then ! (load ! (from ! (stop !)) (look ! 22 refl)) (no-more !))) (λ u.
+          calls-at ! fm (Open 𝓤 H A W mem run) known-open opening (and-then ! (load ! (from ! (stop !)) (look ! 24 refl))
+          (and-then ! (load ! (from ! (stop !)) (look ! 22 refl)) (no-more !))) (λ u.
           answered 𝓤 H A W opens.ended (opens.clauses 𝓤 H A mem run) opening u ! tt (is-made s g) (λ r ws. id⊢ 𝓤 _) (λ r e.
           peeks ! (T.the-row (namedLft 1 0 tt (κ, tt))) (Is (T.the-row (namedLft 1 0 tt (κ, tt)))) (shows 𝓤 H A (T.the-row (namedLft 1 0 tt (κ, tt)))) r (u ∷ []) (λ is.
           land ! (from ! (stop !)) (init ! 15 refl (LL.lawful (T.the-type (local κ)) (T′.the-laws (local κ)) 𝓤 H A W .typed r _ is .0)) $
           -- [the open dump; its token; the others; _12; …; _1; …; room for _0; …]
           assigns ! (addr ! (from ! (fld ! refl (hop ! (look-in ! 21 (sub ! 0 refl (whole !))) (stop !))))) (from ! (stop !)) (init ! 13 refl (tt, tt)) $
-          assigns ! (agg ! (and-then ! (load ! (from ! (stop !)) (look ! 13 refl)) (and-then ! (load ! (from ! (fld ! refl (stop !))) (look-in ! 21 (sub ! 1 refl (whole !)))) (no-more !)))) (from ! (stop !)) (init ! 11 refl (tt, (tt, (record { fits = room-x .0 }, tt)))) $
+          assigns ! (agg ! (and-then ! (load ! (from ! (stop !)) (look ! 13 refl))
+          (and-then ! (load ! (from ! (fld ! refl (stop !))) (look-in ! 21 (sub ! 1 refl (whole !)))) (no-more !)))) (from ! (stop !)) (init ! 11 refl (tt, (tt, (record { fits = room-x .0 }, tt)))) $
           assigns ! (addr ! (from ! (fld ! refl (hop ! (look-in ! 19 (sub ! 0 refl (whole !))) (stop !))))) (from ! (stop !)) (init ! 9 refl (tt, tt)) $
-          assigns ! (agg ! (and-then ! (load ! (from ! (stop !)) (look ! 9 refl)) (and-then ! (load ! (from ! (fld ! refl (stop !))) (look-in ! 19 (sub ! 1 refl (whole !)))) (no-more !)))) (from ! (stop !)) (init ! 7 refl (tt, (tt, (record { fits = room-y .0 }, tt)))) $
+          assigns ! (agg ! (and-then ! (load ! (from ! (stop !)) (look ! 9 refl))
+          (and-then ! (load ! (from ! (fld ! refl (stop !))) (look-in ! 19 (sub ! 1 refl (whole !)))) (no-more !)))) (from ! (stop !)) (init ! 7 refl (tt, (tt, (record { fits = room-y .0 }, tt)))) $
           assigns ! (addr ! (from ! (fld ! refl (hop ! (look-in ! 17 (sub ! 0 refl (whole !))) (stop !))))) (from ! (stop !)) (init ! 5 refl (tt, tt)) $
-          assigns ! (agg ! (and-then ! (load ! (from ! (stop !)) (look ! 5 refl)) (and-then ! (load ! (from ! (fld ! refl (stop !))) (look-in ! 17 (sub ! 1 refl (whole !)))) (no-more !)))) (from ! (stop !)) (init ! 3 refl (tt, (tt, (record { fits = room-z .0 }, tt)))) $
+          assigns ! (agg ! (and-then ! (load ! (from ! (stop !)) (look ! 5 refl))
+          (and-then ! (load ! (from ! (fld ! refl (stop !))) (look-in ! 17 (sub ! 1 refl (whole !)))) (no-more !)))) (from ! (stop !)) (init ! 3 refl (tt, (tt, (record { fits = room-z .0 }, tt)))) $
           move ! (1 ∷ 2 ∷ []) $ join ! $ move ! (1 ∷ 0 ∷ []) $ join ! $ use1 W (raw (Prepare .pre (to r u))) (asked r u) $
           -- [what `prepare` asks; _12; …; _1; …; room for _0; …]
           calls-at ! fm Prepare known-prepare (to r u)
-          (and-then ! (load ! (from ! (stop !)) (look ! 13 refl)) (and-then ! (load ! (from ! (stop !)) (look ! 9 refl)) (and-then ! (load ! (from ! (stop !)) (look ! 5 refl)) (and-then ! (load ! (from ! (stop !)) (look ! 1 refl)) (no-more !))))) (λ w.
+          (and-then ! (load ! (from ! (stop !)) (look ! 13 refl)) (and-then ! (load ! (from ! (stop !)) (look ! 9 refl))
+          (and-then ! (load ! (from ! (stop !)) (look ! 5 refl)) (and-then ! (load ! (from ! (stop !)) (look ! 1 refl)) (no-more !))))) (λ w.
           answered-last 𝓤 H A W prepare.ended (prepare.clauses 𝓤 H A mem run) (to r u) w ! tt (λ c ws. Told c (ws .1 .0) (ws .1 .1 .0) (ws .1 .1 .1 .0) (r .bytes) (r .geometry))
           (λ c ws. told c (ws .1 .0) (ws .1 .1 .0) (ws .1 .1 .1 .0) (r .bytes) (r .geometry)) (λ c ws t.
-          fsplit ! $ drop ! $ fsplit ! $ fsplit ! $ move ! (1 ∷ []) $ feqL ! (λ lx. move ! (1 ∷ []) $ fsplit ! $ fsplit ! $ move ! (1 ∷ []) $ feqL ! (λ ly. move ! (1 ∷ []) $ fsplit ! $ fsplit ! $ move ! (1 ∷ []) $ feqL ! (λ lz.
+          fsplit ! $ drop ! $ fsplit ! $ fsplit ! $ move ! (1 ∷ []) $ feqL ! (λ lx. move ! (1 ∷ []) $ fsplit ! $ fsplit ! $ move ! (1 ∷ []) $
+          feqL ! (λ ly. move ! (1 ∷ []) $ fsplit ! $ fsplit ! $ move ! (1 ∷ []) $ feqL ! (λ lz.
           move ! (4 ∷ 5 ∷ 3 ∷ 2 ∷ 0 ∷ 1 ∷ []) $
           -- [the result; the tokens; the three last lists; true; _12; …; _1; …; room for _0; …]
           peeks ! S.the-row (Is S.the-row) (shows 𝓤 H A S.the-row) c (w ∷ []) (λ is′.
           land ! (from ! (stop !)) (init ! 30 refl (EL.lawful S.the-type S′.the-laws 𝓤 H A W tt .typed c _ is′ .0)) $
-          returns ! (look ! 30 refl) $ forget ! 6 refl $ forget ! 8 refl $ forget ! 10 refl $ forget ! 12 refl $ forget ! 14 refl $ forget ! 16 refl $ forget ! 18 refl $ forget ! 20 refl $ forget ! 22 refl $ forget ! 24 refl $ forget ! 26 refl $ forget ! 28 refl $ forget ! 30 refl $
-          move ! (30 ∷ 31 ∷ []) $ free1 ! $ move ! (28 ∷ 29 ∷ []) $ free1 ! $ move ! (26 ∷ 27 ∷ []) $ free1 ! $ move ! (24 ∷ 25 ∷ []) $ free1 ! $ move ! (22 ∷ 23 ∷ []) $ free1 ! $ move ! (20 ∷ 21 ∷ []) $ free1 ! $ move ! (18 ∷ 19 ∷ []) $ free1 ! $ move ! (16 ∷ 17 ∷ []) $ free1 ! $ move ! (14 ∷ 15 ∷ []) $ free1 ! $ move ! (12 ∷ 13 ∷ []) $ free1 ! $ move ! (10 ∷ 11 ∷ []) $ free1 ! $ move ! (8 ∷ 9 ∷ []) $ free1 ! $ move ! (6 ∷ 7 ∷ []) $ free1 ! $ free0 ! $
-          keep ! (0 ∷ 1 ∷ 2 ∷ 3 ∷ 4 ∷ []) $ by ! (left-with 𝓤 H A W all.ended stayed (all.clauses 𝓤 H A mem run) ((κs, qs, tt, a, at), tt) w c (tt, (tt, (ws .1 .0, (ws .1 .1 .0, (ws .1 .1 .1 .0, tt))))) (tt, (tt, (lx, (ly, (lz, tt)))))
+          returns ! (look ! 30 refl) $ forget ! 6 refl $ forget ! 8 refl $ forget ! 10 refl $ forget ! 12 refl $ forget ! 14 refl $
+          forget ! 16 refl $ forget ! 18 refl $ forget ! 20 refl $ forget ! 22 refl $ forget ! 24 refl $ forget ! 26 refl $ forget ! 28 refl $
+          forget ! 30 refl $
+          move ! (30 ∷ 31 ∷ []) $ free1 ! $ move ! (28 ∷ 29 ∷ []) $ free1 ! $ move ! (26 ∷ 27 ∷ []) $ free1 ! $ move ! (24 ∷ 25 ∷ []) $ free1 ! $
+          move ! (22 ∷ 23 ∷ []) $ free1 ! $ move ! (20 ∷ 21 ∷ []) $ free1 ! $ move ! (18 ∷ 19 ∷ []) $ free1 ! $ move ! (16 ∷ 17 ∷ []) $ free1 ! $
+          move ! (14 ∷ 15 ∷ []) $ free1 ! $ move ! (12 ∷ 13 ∷ []) $ free1 ! $ move ! (10 ∷ 11 ∷ []) $ free1 ! $ move ! (8 ∷ 9 ∷ []) $ free1 ! $
+          move ! (6 ∷ 7 ∷ []) $ free1 ! $ free0 ! $
+          keep ! (0 ∷ 1 ∷ 2 ∷ 3 ∷ 4 ∷ []) $
+          by ! (left-with 𝓤 H A W all.ended stayed (all.clauses 𝓤 H A mem run) ((κs, qs, tt, a, at), tt) w c (tt, (tt, (ws .1 .0, (ws .1 .1 .0, (ws .1 .1 .1 .0, tt))))) (tt, (tt, (lx, (ly, (lz, tt)))))
           (said c (ws .1 .0) (ws .1 .1 .0) (ws .1 .1 .1 .0) s g (of-part (Told c (ws .1 .0) (ws .1 .1 .0) (ws .1 .1 .1 .0)) s g r e t))
           (ended (ws .1 .0) (ws .1 .1 .0) (ws .1 .1 .1 .0)) (had (ws .1 .0) (ws .1 .1 .0) (ws .1 .1 .1 .0)))))))))))))))))))))))))
 
