@@ -1,3 +1,4 @@
 pub mod Thin
 pub mod Apart
+pub mod Said
 pub mod Opening

@@ -1,6 +1,6 @@
 -- An open dump is taken apart and prepared by its slice and geometry: a walk of the MIR by hand. All that it knows of the covered function is that it meets
 -- its contract. The borrows of the three slices go to it for good, and what it says of their last lists is what is said at the exit.
-use mathlib.Core.Path.{_≡_, refl}
+use mathlib.Core.Path.{refl}
 use Prim.Native.Nat.{ℕ}
 use mathlib.Core.List.{List, [], _∷_}
 use lib.ListN.{length}
@@ -36,7 +36,6 @@ use denote.Triple.Spec.{tripleOf}
 use denote.Triple.Table.{entered, cited}
 use denote.Triple.Clauses.{Lasts}
 use denote.Triple.Walked.{Stays, stay-dropped, gave-slice, goes-dropped, goes-gave-slice, hasOf, walkOf}
-use Rattle.compare.specs.Prepared.{preparedOn, orderLeft, copiesLeft, workLeft}
 use Rattle.compare.specs.declared.prepare.Prepared.{Prepared}
 use Rattle.compare.proofs.prepare.Prepared as S
 use Rattle.compare.proofs.prepare.Prepared.Laws as S′
@@ -46,6 +45,7 @@ use Rattle.compare.proofs.prepare.prepare.Symbol.{name as #compare·prepare·pr
 use Rattle.compare.proofs.prepare.prepare.Met as within-thm
 use Rattle.dumps.specs.declared.open.OpenDump.{OpenDump}
 use Rattle.dumps.proofs.Apart.{slice-of, geometry-of, apart}
+use Rattle.dumps.proofs.Said.{Readied}
 use Rattle.dumps.proofs.Thin.{passed-on, told-more, said-more, both-told, both-said, answered-last, left-with, thin}
 use Rattle.dumps.proofs.open.OpenDump as T
 use Rattle.dumps.proofs.open.OpenDump.Laws as T′
@@ -82,19 +82,7 @@ module _ {M : Type 1} (𝓤 : URA M) (H : Heap 𝓤) (A : Atoms 𝓤) (W : Given
     abbrev to : Within .Ghost
     to = ((κs, qs, tt, (d .bytes, (d .geometry, a .1)), (slice-of d, (geometry-of d, at .1))), tt)
 
-    -- what is said of the result, and of the last lists
-    abbrev is-told : Prepared → Type 0
-    is-told r = r ≡ preparedOn (d .geometry) (now (d .bytes)) (length (now x)) (length (now y)) (length (now z))
-
-    abbrev is-order : List ℕ → Type 0
-    is-order zs = zs ≡ orderLeft (d .geometry) (now (d .bytes)) (now x) (length (now y)) (length (now z))
-
-    abbrev is-copies : List ℕ → Type 0
-    is-copies zs = zs ≡ copiesLeft (d .geometry) (now (d .bytes)) (now y) (length (now x)) (length (now z))
-
-    abbrev is-work : List ℕ → Type 0
-    is-work zs = zs ≡ workLeft (d .geometry) (now (d .bytes)) (now z) (length (now x)) (length (now y))
-
+    -- the last lists
     abbrev order : Lasts within.ended κs (to .0 .3) → List ℕ
     order ws = ws .1 .1 .0
 
@@ -103,6 +91,10 @@ module _ {M : Type 1} (𝓤 : URA M) (H : Heap 𝓤) (A : Atoms 𝓤) (W : Given
 
     abbrev work : Lasts within.ended κs (to .0 .3) → List ℕ
     work ws = ws .1 .1 .1 .1 .0
+
+    -- what is said of the result and of the last lists
+    abbrev So : Prepared → Lasts within.ended κs (to .0 .3) → Type 0
+    So r ws = Readied x y z r (order ws) (copies ws) (work ws) (d .bytes) (d .geometry)
 
     -- what says the last lists
     abbrev ended : List ℕ → List ℕ → List ℕ → SProp 𝓤
@@ -148,8 +140,8 @@ module _ {M : Type 1} (𝓤 : URA M) (H : Heap 𝓤) (A : Atoms 𝓤) (W : Given
           (and-then ! (load ! (from ! (stop !)) (look ! 15 refl)) (and-then ! (load ! (from ! (stop !)) (look ! 13 refl))
           (and-then ! (load ! (from ! (stop !)) (look ! 9 refl)) (and-then ! (load ! (from ! (stop !)) (look ! 5 refl))
           (and-then ! (load ! (from ! (stop !)) (look ! 1 refl)) (no-more !)))))) (λ u.
-          answered-last 𝓤 H A W within.ended (within.clauses 𝓤 H A mem run) to u ! tt (λ r ws. is-told r × (is-order (order ws) × (is-copies (copies ws) × is-work (work ws))))
-          (λ r ws. told-more 𝓤 H A W (is-told r) (is-order (order ws) × (is-copies (copies ws) × is-work (work ws))) (told-more 𝓤 H A W (is-order (order ws)) (is-copies (copies ws) × is-work (work ws)) (both-told 𝓤 H A W (is-copies (copies ws)) (is-work (work ws))))) (λ r ws s.
+          answered-last 𝓤 H A W within.ended (within.clauses 𝓤 H A mem run) to u ! tt (λ r ws. So r ws)
+          (λ r ws. told-more 𝓤 H A W _ _ (told-more 𝓤 H A W _ _ (both-told 𝓤 H A W _ _))) (λ r ws s.
           fsplit ! $ drop ! $ fsplit ! $ drop ! $ fsplit ! $ fsplit ! $ move ! (1 ∷ []) $ feqL ! (λ lx. move ! (1 ∷ []) $ fsplit ! $ fsplit ! $
           move ! (1 ∷ []) $ feqL ! (λ ly. move ! (1 ∷ []) $ fsplit ! $ fsplit ! $ move ! (1 ∷ []) $ feqL ! (λ lz.
           move ! (4 ∷ 5 ∷ 3 ∷ 2 ∷ 0 ∷ 1 ∷ []) $
@@ -165,7 +157,7 @@ module _ {M : Type 1} (𝓤 : URA M) (H : Heap 𝓤) (A : Atoms 𝓤) (W : Given
           move ! (6 ∷ 7 ∷ []) $ free1 ! $ free0 ! $
           keep ! (0 ∷ 1 ∷ 2 ∷ 3 ∷ 4 ∷ []) $
           by ! (left-with 𝓤 H A W prepare.ended stayed (prepare.clauses 𝓤 H A mem run) ((κs, qs, tt, a, at), tt) u r (tt, (order ws, (copies ws, (work ws, tt)))) (tt, (lx, (ly, (lz, tt))))
-          (said-more 𝓤 H A W (is-told r) (s .0) (said-more 𝓤 H A W (is-order (order ws)) (s .1 .0) (both-said 𝓤 H A W (is-copies (copies ws)) (is-work (work ws)) (s .1 .1))))
+          (said-more 𝓤 H A W _ (s .0) (said-more 𝓤 H A W _ (s .1 .0) (both-said 𝓤 H A W _ _ (s .1 .1))))
           (ended (order ws) (copies ws) (work ws)) (had (order ws) (copies ws) (work ws))))))))))))))))))))))
 
 pub prepare-spec : {M : Type 1} → stated.statement M
