@@ -11,10 +11,10 @@ use crate::layout::geometry_at;
 use crate::trees::TextAnswer;
 use compare::answer::Compared;
 use compare::prepare::Prepared;
-use compare::prepare::prepare;
-use compare::whole::compare;
-use compare::whole::compare_object;
 use compare::whole::next;
+use dumps::both::compare_dumps;
+use dumps::object::compare_object;
+use dumps::prepare::prepare_dump;
 use page::number::ObjectId;
 
 // How many records the dump has. Beside ShortBuffer `need` is that number, and 0 else.
@@ -83,7 +83,7 @@ pub extern "C" fn lohenarr_compare_prepare(
     ensures { λ _. ⌜ now (copies .exit) ≡ copiesLeft (geometryAt geometry) (now (dump .entry)) (now (copies .entry)) (length (now (order .entry))) (length (now (work .entry))) ⌝ }
     ensures { λ _. ⌜ now (work .exit) ≡ workLeft (geometryAt geometry) (now (dump .entry)) (now (work .entry)) (length (now (order .entry))) (length (now (copies .entry))) ⌝ }
 {
-    prepared_answer(prepare(dump, geometry_at(geometry), order, copies, work))
+    prepared_answer(prepare_dump(dump, geometry_at(geometry), order, copies, work))
 }
 
 // The object that comes next in the words of two dumps, and how many words at the front of each list are of it.
@@ -146,7 +146,7 @@ pub extern "C" fn lohenarr_compare(
     ensures { λ r. ⌜ r ≡ comparedAnswer (comparedOn (geometryAt geometry1) (length (now (dump1 .entry))) (geometryAt geometry2) (length (now (dump2 .entry))) (listsReport (geometryAt geometry1) (now (dump1 .entry)) (geometryAt geometry2) (now (dump2 .entry)) (now (order1 .entry)) (now (copies1 .entry)) (now (order2 .entry)) (now (copies2 .entry))) (length (now (buf .entry)))) ⌝ }
     ensures { λ _. ⌜ now (buf .exit) ≡ bytesLeft (geometryAt geometry1) (length (now (dump1 .entry))) (geometryAt geometry2) (length (now (dump2 .entry))) (listsReport (geometryAt geometry1) (now (dump1 .entry)) (geometryAt geometry2) (now (dump2 .entry)) (now (order1 .entry)) (now (copies1 .entry)) (now (order2 .entry)) (now (copies2 .entry))) (now (buf .entry)) ⌝ }
 {
-    compared_answer(compare(
+    compared_answer(compare_dumps(
         dump1,
         geometry_at(geometry1),
         order1,

@@ -7,7 +7,7 @@ returns : tie.Need-returns
 returns c =
     let p = c .before .before .before .before .before .before .before in
     let l = p .before .before .before .before .geometry-at .ensures in
-    let e = p .prepare .ensures in
+    let e = p .prepare-dump .ensures in
     (rw (c .prepared-answer .ensures, e .0, l), (rw (← l) (e .1 .0), (rw (← l) (e .1 .1 .0), rw (← l) (e .1 .1 .1))))
 
 pub lohenarr-compare-prepare-spec : {M : Type 1} → statement M

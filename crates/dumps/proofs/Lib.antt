@@ -1,0 +1,4 @@
+pub mod Thin
+pub mod Apart
+pub mod Said
+pub mod Opening
