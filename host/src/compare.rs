@@ -6,6 +6,14 @@ use crate::refusal::SHORT_BUFFER;
 /// Bytes that are mostly enough for the report of one object.
 const SOME_BYTES: usize = 1 << 16;
 
+/// The library writes a report without measuring it where it is lent so many bytes and so
+/// many for each stretch; more than the last are not lent for that.
+const PLAIN_BYTES: usize = 1024;
+const LINE_BYTES: usize = 29;
+const MOST_BYTES: usize = 1 << 27;
+/// The bytes of a stretch.
+const STRETCH: usize = 512;
+
 /// A dump that was prepared to be compared.
 pub struct Prepared<'d> {
     dump: &'d [u8],
@@ -85,6 +93,10 @@ impl<'p> Comparison<'p> {
         }
         let one = taken(&mut self.first, first as usize);
         let other = taken(&mut self.second, second as usize);
+        let room = room(one).max(room(other)).min(MOST_BYTES);
+        if self.buffer.len() < room {
+            self.buffer = vec![0; room];
+        }
         let write = |bytes: &mut [u8]| ffi::compare_object(one, other, object, bytes);
         let mut answer = write(&mut self.buffer);
         if answer.refusal == SHORT_BUFFER {
@@ -111,6 +123,13 @@ impl<'p> Comparison<'p> {
         text.truncate(answer.given()?.length as usize);
         Ok(text)
     }
+}
+
+/// The bytes of the longest report of a file that has as many chunks as the side has
+/// records.
+fn room(side: Side<'_>) -> usize {
+    let chunk = ffi::layout(side.on.layout).data as usize;
+    PLAIN_BYTES + side.order.len() * chunk.div_ceil(STRETCH) * LINE_BYTES
 }
 
 /// Takes so many words from the front of a side.
