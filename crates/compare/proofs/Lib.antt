@@ -29,3 +29,5 @@ pub mod Showing
 pub mod Prepared
 pub mod Walking
 pub mod Told
+-- computed
+pub mod Examples

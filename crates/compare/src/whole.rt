@@ -6,9 +6,10 @@ ghost use Rattle.page.specs.Lengths.{openedOf};
 ghost use Rattle.text.specs.Put.{Put};
 ghost use Rattle.text.specs.Whole.{writtenBy, bytesBy};
 ghost use Rattle.compare.specs.Answers.{earlierOf, bothOf, comparedBy, comparedOn, bytesLeft};
-ghost use Rattle.compare.specs.Lists.{runOf, nextOf, nextIn, sidesReport, listsReport};
+ghost use Rattle.compare.specs.Lists.{nextOf, nextIn, sidesReport, listsReport};
 use crate::answer::Both;
 use crate::answer::Compared;
+use crate::bytes::lesser;
 use crate::object::put_object;
 use crate::runs::run_of;
 use page::geometry::Geometry;
@@ -23,13 +24,6 @@ pub struct Turn {
     pub object: u32,
     pub first: usize,
     pub second: usize,
-}
-
-// The lesser of two numbers.
-fn lesser(a: usize, b: usize) -> usize
-    ensures { λ r. ⌜ r ≡ min a b ⌝ }
-{
-    if a < b { a } else { b }
 }
 
 // The lesser of two objects.
