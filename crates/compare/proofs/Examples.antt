@@ -8,7 +8,7 @@ use mathlib.Core.Option.{Option, none, some}
 use mathlib.Core.Path.{_≡_, refl, ap, fun-ext}
 use native.Mathlib.Omega.{arith}
 use lib.Dec.{eqb}
-use lib.ListN.{length, getD, set}
+use lib.ListN.{length, getD, set, replicate}
 use Rattle.page.specs.Search.{count}
 use Rattle.page.specs.Numbers.{badObject, badChunk}
 use Rattle.page.specs.Words.{le32}
@@ -22,7 +22,8 @@ use Rattle.page.specs.Shelf.{shelfGeometry, wordBytes, tagged, erased, headerPa
 use Rattle.page.specs.declared.kind.Kind.{Kind}
 use Rattle.page.specs.declared.kind.Kind.the-variants.{Blank, Header, Data}
 use Rattle.page.specs.declared.record.Record.{Record}
-use Rattle.page.specs.declared.refusal.Refusal.the-variants.{Deleted, NoHeader}
+use Rattle.page.specs.declared.geometry.Opened.the-variants as opened
+use Rattle.page.specs.declared.refusal.Refusal.the-variants.{BadLayout, BadLength, Deleted, NoHeader}
 use Rattle.page.proofs.Marked as pages
 use Rattle.sort.specs.Arranged.{ascend, arranged, timesIn}
 use Rattle.chunk.specs.Answers.{validPart, partBy}
@@ -40,6 +41,8 @@ use Rattle.chunk.proofs.Living.{objectIds}
 use Rattle.text.specs.Decimal.{digits, decimal}
 use Rattle.text.specs.Lines.{fieldOf, lineOf}
 use Rattle.text.specs.Quoted.{bytesOf}
+use Rattle.compare.specs.Answers.{bothOf}
+use Rattle.compare.specs.declared.answer.Both.the-variants as both
 use Rattle.compare.specs.Differences.{second, only, field, sizes, stretch, differIn, fieldsOf, stretchesOf, differencesOf}
 use Rattle.compare.specs.Fields.{fieldPlaces, fieldLengths, placeOf, lengthOf}
 use Rattle.compare.specs.Views.{byteOf, bytesOn, isDeleted, sizeIn, shownAt, viewOf}
@@ -297,6 +300,14 @@ unfolding wholeReport idsIn objectReport inEither others timesIn arranged ascend
 changed-report =
     rw (ids-seen shelf shelf-seen, ids-seen changed changed-seen, changed-differences, added-differences)
 
+-- ---- headers of which every byte differs
+
+pub every-field :
+    fieldsOf (some (replicate 512 0)) (some (replicate 512 1))
+    ≡ 0 ∷ 4 ∷ 10 ∷ 268 ∷ 272 ∷ 276 ∷ 280 ∷ 284 ∷ 288 ∷ 292 ∷ 296 ∷ 300 ∷ 460 ∷ 464 ∷ 472 ∷ 480 ∷ 504 ∷ 508 ∷ []
+unfolding fieldsOf passed gather differIn count fieldPlaces fieldLengths placeOf lengthOf
+every-field = refl
+
 -- ---- the other dumps
 
 -- deleted on the first side, without a header on the second
@@ -310,6 +321,12 @@ lost-report =
       first-view unlinked unlinked-seen,
       first-view headless headless-seen,
     )
+
+-- of two refused dumps the refusal that comes first in the table is told
+pub first-refusal :
+    (bothOf (opened.Refused BadLength) (opened.Refused BadLayout) ≡ both.Refused BadLayout)
+    × (bothOf (opened.Refused BadLayout) (opened.Refused BadLength) ≡ both.Refused BadLayout)
+first-refusal = (refl, refl)
 
 -- W does not differ from itself
 pub shelf-itself : wholeReport shelfGeometry shelf 8 shelfGeometry shelf 8 ≡ []

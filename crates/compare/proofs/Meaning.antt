@@ -177,9 +177,9 @@ pub fields-inside : (i : ℕ) → i < fields → placeOf i + lengthOf i ≤ head
 unfolding sticksOut
 fields-inside i h = ltb-false _ _ (uncounted sticksOut fields none-out i h)
 
--- and begins behind those before it
+-- and ends where the next begins, or before
 early : (i j : ℕ) → Bool
-early i j = ltb i j && leb (placeOf j) (placeOf i)
+early i j = ltb i j && leb (placeOf j) (placeOf i + (lengthOf i - 1))
 
 anyEarly : (i : ℕ) → Bool
 anyEarly i = ltb 0 (count (early i) fields)
@@ -192,11 +192,17 @@ later : (t u : Bool) → t && u ≡ false → t ≡ true → u ≡ false
 later true u e f = e
 later false u e f = clash (cc)
 
-pub places-rise : (i j : ℕ) → i < j → j < fields → placeOf i < placeOf j
+last-before : (i j : ℕ) → i < j → j < fields → placeOf i + (lengthOf i - 1) < placeOf j
 unfolding anyEarly early
-places-rise i j h k =
+last-before i j h k =
     let e = uncounted (early i) fields (uncounted anyEarly fields none-early i (omega arith)) j k in
-    leb-false _ _ (later (ltb i j) (leb (placeOf j) (placeOf i)) e (lt-ltb i j h))
+    leb-false _ _ (later (ltb i j) (leb (placeOf j) (placeOf i + (lengthOf i - 1))) e (lt-ltb i j h))
+
+pub fields-apart : (i j : ℕ) → i < j → j < fields → placeOf i + lengthOf i ≤ placeOf j
+fields-apart i j h k = omega (arith, last-before i j h k)
+
+pub places-rise : (i j : ℕ) → i < j → j < fields → placeOf i < placeOf j
+places-rise i j h k = omega (arith, last-before i j h k)
 
 -- so the fields that differ ascend, each once
 pub fields-ascend : (one other : Option (List ℕ)) → Ascends 0 (fieldsOf one other)

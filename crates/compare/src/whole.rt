@@ -119,7 +119,7 @@ fn put_reports(
     next
 }
 
-// Writes the whole report, if it fits.
+// Writes the whole report, if it fits. Where nothing differs there is nothing to write, and all bytes are gone over once.
 fn write_reports(
     dump: &[u8],
     g: Geometry,
@@ -148,6 +148,9 @@ fn write_reports(
     );
     if buf.len() < need {
         return Written::Short(need);
+    }
+    if need == 0 {
+        return Written::Bytes(0);
     }
     put_reports(dump, g, order, rows, dump2, g2, order2, rows2, buf, 0);
     Written::Bytes(need)
