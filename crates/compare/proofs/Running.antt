@@ -3,19 +3,29 @@
 use Prim.Native.Nat.{ℕ, suc, _+_, _≤_, _<_}
 use mathlib.Core.List.{List, [], _∷_, _++_, map}
 use mathlib.Core.Logic.{inl, inr}
-use mathlib.Core.Path.{_≡_, refl, sym, ap, _∙_}
+use mathlib.Core.Path.{_≡_, refl, sym, ap, ap₂, _∙_}
 use native.Mathlib.Numerals.{add-one}
 use native.Mathlib.Omega.{arith}
 use lib.ListN.{length, drop, getD, drop-of-length-le}
 use lib.Seq.{drop-cons}
 use borrow.Author.Tests.{eq-eqb, ne-eqb}
-use Rattle.sort.specs.Packed.{wordValues, packed, keyOf}
+use Rattle.sort.specs.Arranged.{Every}
+use Rattle.sort.specs.Packed.{wordValues, packed, keyOf, valueOf}
 use Rattle.sort.proofs.Ascending.{In}
-use Rattle.sort.proofs.Packing.{packed-key}
+use Rattle.sort.proofs.Packing.{packed-key, packed-value}
 use Rattle.compare.specs.Lists.{runOf}
 use Rattle.compare.specs.Report.{joined}
 
 module _ (o : ℕ) where
+  -- the pages of its words, and their keys
+  pub values-back : (L : List ℕ) → ((x : ℕ) → In x L → x < wordValues) → map valueOf (map (packed o) L) ≡ L
+  values-back [] h = refl
+  values-back (p ∷ L) h = ap₂ {C = List ℕ} (λ x M. x ∷ M) (packed-value o p (h p (inl refl))) (values-back L (λ x i. h x (inr i)))
+
+  pub keys-back : (L : List ℕ) → ((x : ℕ) → In x L → x < wordValues) → Every (λ w. keyOf w ≡ o) (map (packed o) L)
+  keys-back [] h = tt
+  keys-back (p ∷ L) h = (packed-key o p (h p (inl refl)), keys-back L (λ x i. h x (inr i)))
+
   -- a word of the object, another, and none
   pub run-own : (x : ℕ) (rest : List ℕ) → keyOf x ≡ o → runOf o (x ∷ rest) ≡ suc (runOf o rest)
   unfolding runOf
