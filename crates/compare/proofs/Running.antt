@@ -6,7 +6,7 @@ use mathlib.Core.Logic.{inl, inr}
 use mathlib.Core.Path.{_≡_, refl, sym, ap, ap₂, _∙_}
 use native.Mathlib.Numerals.{add-one}
 use native.Mathlib.Omega.{arith}
-use lib.ListN.{length, drop, getD, drop-of-length-le}
+use lib.ListN.{length, length-map, drop, getD, drop-of-length-le}
 use lib.Seq.{drop-cons}
 use borrow.Author.Tests.{eq-eqb, ne-eqb}
 use Rattle.sort.specs.Arranged.{Every}
@@ -50,13 +50,14 @@ module _ (o : ℕ) where
     pub run-end : length list ≤ i → runOf o (drop i list) ≡ 0
     run-end h = rw (drop-of-length-le list {i = i} h) run-none
 
-  -- the words of its pages, and what comes behind them
+  -- words of the object, and what comes behind them
+  pub run-keyed : (L M : List ℕ) → Every (λ w. keyOf w ≡ o) L → runOf o (L ++ M) ≡ length L + runOf o M
+  run-keyed [] M k = omega arith
+  run-keyed (w ∷ L) M k = run-own w (L ++ M) (k .0) ∙ ap suc (run-keyed L M (k .1)) ∙ omega arith
+
+  -- the words of its pages
   pub run-words : (L M : List ℕ) → ((x : ℕ) → In x L → x < wordValues) → runOf o (map (packed o) L ++ M) ≡ length L + runOf o M
-  run-words [] M h = omega arith
-  run-words (p ∷ L) M h =
-      run-own (packed o p) (map (packed o) L ++ M) (packed-key o p (h p (inl refl)))
-      ∙ ap suc (run-words L M (λ x i. h x (inr i)))
-      ∙ omega arith
+  run-words L M h = run-keyed (map (packed o) L) M (keys-back L h) ∙ rw (length-map L (packed o))
 
   -- the words of another object
   run-past : (x : ℕ) (L M : List ℕ) → ((p : ℕ) → In p L → p < wordValues) → (x ≡ o → ⊥) → runOf o M ≡ 0 → runOf o (map (packed x) L ++ M) ≡ 0

@@ -7,7 +7,6 @@ use mathlib.Core.Logic.{_⊎_, inl, inr, ⊎-elim}
 use mathlib.Core.Path.{_≡_, refl, sym, ap, _∙_}
 use native.Mathlib.Nat.{le-refl}
 use native.Mathlib.Omega.{arith}
-use borrow.Author.Tests.{eq-eqb, ne-eqb}
 use lib.ListN.{length, length-append}
 use lib.Seq.{take-at, drop-at}
 use Rattle.page.specs.declared.geometry.Geometry.{Geometry}
@@ -17,8 +16,10 @@ use Rattle.sort.proofs.Ascending.{In, Ascends, ascends-in}
 use Rattle.text.proofs.Order.{le-or-lt}
 use Rattle.compare.specs.Report.{joined, inEither}
 use Rattle.compare.specs.Lists.{runOf, nextOf, sidesReport, reportsTo}
-use Rattle.compare.proofs.Ids.{ascends-from, either-left, either-less, either-both, either-more}
+use Rattle.compare.proofs.Ids.{either-left, either-less, either-both, either-more}
+use Rattle.compare.proofs.Joining.{ascends-lower}
 use Rattle.compare.proofs.Listing.{reports-turn}
+use Rattle.compare.proofs.Running.{run-other, run-none, run-keyed}
 
 -- ---- words of one object, and words behind it
 
@@ -33,14 +34,11 @@ Later o (w ∷ L) = o < keyOf w
 
 -- how many words at the front are of object o
 run-later : (o : ℕ) (L : List ℕ) → Later o L → runOf o L ≡ 0
-unfolding runOf
-run-later o [] h = refl
-run-later o (w ∷ L) h = rw (ne-eqb (keyOf w) o (λ e. omega arith))
+run-later o [] h = run-none o
+run-later o (w ∷ L) h = run-other o w L (λ e. omega arith)
 
 run-own : (o : ℕ) (M L : List ℕ) → Keyed o M → Later o L → runOf o (M ++ L) ≡ length M
-unfolding runOf
-run-own o [] L k h = run-later o L h
-run-own o (w ∷ M) L k h = rw (eq-eqb (keyOf w) o (k .0)) (ap suc (run-own o M L (k .1) h))
+run-own o M L k h = run-keyed o M L k ∙ omega (arith, run-later o L h)
 
 -- the next object: that of the first list, of the second, or of both
 next-first : (o : ℕ) (M L L′ : List ℕ) → Keyed o M → (length M ≡ 0 → ⊥) → Later o L′ → nextOf (M ++ L) L′ ≡ o
@@ -101,7 +99,7 @@ joined-later : (f : ℕ → List ℕ) (o : ℕ) (A : List ℕ) → ((x : ℕ) �
 unfolding joined
 joined-later f o [] k a = tt
 joined-later f o (x ∷ A) k a =
-    go (f x) (k x (inl refl)) (joined-later f o A (λ y i. k y (inr i)) (ascends-from (suc o) (suc x) A (a .1) (λ y i. omega (arith, a .0, ascends-in (suc x) y A (a .1) i))))
+    go (f x) (k x (inl refl)) (joined-later f o A (λ y i. k y (inr i)) (ascends-lower (suc o) (suc x) A (omega (arith, a .0)) (a .1)))
   where
     go : (M : List ℕ) → Keyed x M → Later o (joined f A) → Later o (M ++ joined f A)
     go [] k h = h
@@ -138,7 +136,7 @@ module _
       other-one : (x : ℕ) → In x B → In x ids → In x A
 
     lower : (x : ℕ) (A : List ℕ) → Ascends (suc x) A → Ascends 0 A
-    lower x A a = ascends-from 0 (suc x) A a (λ z i. zero-le)
+    lower x A a = ascends-lower 0 (suc x) A zero-le a
 
     -- what is left when the first id of the first list is done, which the second has not
     left-first : (x : ℕ) (A B : List ℕ) → Left (x ∷ A) B → Ascends (suc x) B → Left A B
