@@ -13,15 +13,13 @@ use Rattle.page.specs.Records.{recordAt}
 use Rattle.page.specs.declared.geometry.Geometry.{Geometry}
 use Rattle.page.specs.declared.geometry.Opened.the-variants as opened
 use Rattle.page.specs.declared.record.Record.{Record}
-use Rattle.page.specs.declared.record.Record.the-variants as said
 use Rattle.page.specs.declared.refusal.Refusal.{Refusal}
 use Rattle.page.specs.declared.refusal.Refusal.the-variants.{NoObject}
-use Rattle.page.proofs.Searching.{clash}
-use Rattle.page.proofs.Within.{object-within, object-good, header-within, data-within}
+use Rattle.page.proofs.Within.{object-within}
 use Rattle.sort.proofs.Ascending.{In}
 use Rattle.chunk.specs.Lookups.{sizedOf, lookedOf}
 use Rattle.chunk.specs.Live.{objectAt}
-use Rattle.chunk.specs.Records.{ageOf, isOf}
+use Rattle.chunk.specs.Records.{ageOf}
 use Rattle.chunk.specs.declared.answer.Sized.{Sized}
 use Rattle.chunk.specs.declared.answer.Sized.the-variants as sized
 use Rattle.chunk.proofs.Cases.{size-by-file, chunk-by-file}
@@ -99,16 +97,7 @@ module _ (g : Geometry) (dump : List ℕ) (n : ℕ) (e : openedOf g (length dump
         go (sized.Refused r v) s = rw (rows-refused r v s) zero-le
         go (sized.Size z v) s = rw (rows-sized z v s) (omega (arith, length-map (copiesAlong says P z list) packedCopy, along-few says P z list))
 
-  -- the objects of records may be ones
-  record-good : (o : ℕ) (k : Record) (p : ℕ) → says p ≡ k → isOf o k ≡ true → objectAt says p ≡ o → badObject o ≡ false
-  record-good o said.Other p s t b = clash (cc)
-  record-good o (said.Header h) p s t b = object-good o (rw (rw s at b) at (header-within g dump p h s .object))
-  record-good o (said.Data d) p s t b = object-good o (rw (rw s at b) at (data-within g dump p d s .object))
-
-  pub ids-good : (o : ℕ) → In o (objectIds (recordAt g dump) n) → badObject o ≡ false
-  ids-good o i = let w = objects-of says n o i .1 in record-good o (says (w .page)) (w .page) refl (w .passes) (w .bears)
-
-  -- and have records
+  -- the objects that are listed have records
   pub ids-recorded : (o : ℕ) → In o (objectIds (recordAt g dump) n) → 0 < length (recordsOf (recordAt g dump) n o)
   ids-recorded o i =
       let w = objects-of says n o i .1 in

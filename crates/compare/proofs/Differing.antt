@@ -23,7 +23,7 @@ more-sum true n = refl
 more-sum false n = sym (add-zero n)
 
 -- it does not matter which of two numbers is first
-eqb-swap : (x y : ℕ) → eqb x y ≡ eqb y x
+pub eqb-swap : (x y : ℕ) → eqb x y ≡ eqb y x
 eqb-swap x y =
     by-test (eqb x y) _
     (λ t. t ∙ sym (eq-eqb y x (sym (eqb-true x y t))))

@@ -1,18 +1,17 @@
 -- Both dumps exchanged: the same differences, each with its sides exchanged.
 use Prim.Native.Nat.{ℕ, _+_, _-_, _*_, min}
-use mathlib.Core.Bool.{Bool, true, false, not, _&&_, and-comm}
+use mathlib.Core.Bool.{Bool, true, false, _&&_, and-comm}
 use mathlib.Core.List.{List, [], _∷_, _++_, map, map-append}
 use mathlib.Core.Option.{Option, none, some}
 use mathlib.Core.Path.{_≡_, refl, sym, ap, _∙_}
 use native.Mathlib.Omega.{arith}
-use borrow.Author.Tests.{eqb-true, eqb-false, eq-eqb, ne-eqb}
-use lib.Dec.{eqb, ltb}
-use Rattle.page.specs.Search.{count}
+use lib.Dec.{eqb}
 use Rattle.page.proofs.Searching.{by-test}
 use Rattle.chunk.specs.Live.{passed}
 use Rattle.compare.specs.Views.{View, byteOf}
 use Rattle.compare.specs.Fields.{fields, placeOf, lengthOf}
-use Rattle.compare.specs.Differences.{Side, first, second, Difference, only, deleted, headless, field, sizes, stretch, onOne, lacks, differIn, fieldsOf, sizesOf, stretchBytes, stretchesIn, stretchesTo, stretchesOf, differencesOf}
+use Rattle.compare.specs.Differences.{Side, first, second, Difference, only, deleted, headless, field, sizes, stretch, onOne, lacks, fieldsOf, sizesOf, stretchBytes, stretchesIn, stretchesTo, stretchesOf, differencesOf}
+use Rattle.compare.proofs.Differing.{eqb-swap, differ-swap}
 
 -- the other side
 abbrev pub otherSide : Side → Side
@@ -30,25 +29,15 @@ swapped (stretch k) = stretch k
 
 -- ---- each part
 
-eqb-swap : (x y : ℕ) → eqb x y ≡ eqb y x
-eqb-swap x y =
-    by-test (eqb x y) _
-    (λ t. t ∙ sym (eq-eqb y x (sym (eqb-true x y t))))
-    (λ t. t ∙ sym (ne-eqb y x (λ e. eqb-false x y t (sym e))))
-
 one-swap : (d : Side → Difference) → ((s : Side) → swapped (d s) ≡ d (otherSide s)) → (t u : Bool) → onOne d u t ≡ map swapped (onOne d t u)
 one-swap d e true true = refl
 one-swap d e true false = ap (λ (x : Difference). x ∷ []) (sym (e first))
 one-swap d e false true = ap (λ (x : Difference). x ∷ []) (sym (e second))
 one-swap d e false false = refl
 
-differ-swap : (a b : ℕ → ℕ) (from n : ℕ) → differIn b a from n ≡ differIn a b from n
-unfolding differIn
-differ-swap a b from n = λ j. ltb 0 (count (λ i. not (eqb-swap (b (from + i)) (a (from + i)) j)) n)
-
 fields-swap : (s t : Option (List ℕ)) → fieldsOf t s ≡ fieldsOf s t
 unfolding fieldsOf
-fields-swap (some a) (some b) = λ j. passed (λ i. differ-swap (byteOf a) (byteOf b) (placeOf i) (lengthOf i) j) placeOf fields
+fields-swap (some a) (some b) = λ j. passed (λ i. differ-swap (byteOf b) (byteOf a) (placeOf i) (lengthOf i) j) placeOf fields
 fields-swap (some a) none = refl
 fields-swap none (some b) = refl
 fields-swap none none = refl
@@ -61,7 +50,7 @@ sizes-swap none none = refl
 
 module _ (a b : ℕ → ℕ) where
   to-swap : (m : ℕ) → stretchesTo b a m ≡ stretchesTo a b m
-  to-swap m = λ j. passed (λ k. differ-swap a b (stretchBytes * k) (min stretchBytes (m - stretchBytes * k)) j) (λ k. k) (stretchesIn m)
+  to-swap m = λ j. passed (λ k. differ-swap b a (stretchBytes * k) (min stretchBytes (m - stretchBytes * k)) j) (λ k. k) (stretchesIn m)
 
   stretches-swap : (s t : Option ℕ) → stretchesOf b a t s ≡ stretchesOf a b s t
   unfolding stretchesOf

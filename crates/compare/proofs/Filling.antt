@@ -4,9 +4,9 @@ use Prim.Native.Nat.{ℕ, zero, suc, _+_, _-_, _≤_, _<_}
 use mathlib.Core.List.{List, [], _∷_, _++_, map, append-assoc, append-nil}
 use mathlib.Core.Bool.{false}
 use mathlib.Core.Logic.{inl, inr}
-use mathlib.Core.Path.{_≡_, refl, sym, ap, ap₂, _∙_}
+use mathlib.Core.Path.{_≡_, refl, sym, ap, _∙_}
 use native.Mathlib.Omega.{arith}
-use lib.Dec.{eqb, leb}
+use lib.Dec.{eqb}
 use lib.ListN.{length, take, drop, getD, replicate, length-append, length-drop, length-map, length-replicate, drop-of-length-le}
 use lib.Seq.{length-take-le, length-front, take-all, take-at, drop-at, drop-drop, getD-drop}
 use Rattle.page.specs.Lengths.{openedOf}
@@ -17,18 +17,18 @@ use Rattle.page.specs.declared.geometry.Opened.the-variants as opened
 use Rattle.page.specs.declared.record.Record.{Record}
 use Rattle.page.proofs.Lengths.{opened-pages}
 use Rattle.page.proofs.Searching.{by-test}
-use Rattle.sort.specs.Packed.{wordValues, packed, keyOf, valueOf}
+use Rattle.sort.specs.Packed.{wordValues, packed, keyOf}
 use Rattle.sort.specs.Room.{inRoom, clearedIn}
 use Rattle.sort.proofs.Ascending.{In, Ascends, ascends-in}
 use Rattle.sort.proofs.Clearing.{clear-inside}
-use Rattle.sort.proofs.Packing.{packed-key, packed-value}
+use Rattle.sort.proofs.Packing.{packed-key}
 use Rattle.chunk.specs.Lookups.{sizedOf}
 use Rattle.chunk.specs.Records.{ageOf}
 use Rattle.chunk.specs.declared.answer.Sized.{Sized}
 use Rattle.chunk.specs.declared.answer.Sized.the-variants as sized
 use Rattle.chunk.proofs.Living.{objectIds, objects-ascend}
 use Rattle.index.specs.Chains.{objects}
-use Rattle.index.specs.Held.{insert, recs}
+use Rattle.index.specs.Held.{recs}
 use Rattle.index.proofs.Sorted.Records.{recs-of}
 use Rattle.file.specs.Along.{copiesAlong}
 use Rattle.file.specs.Copies.{packedCopy}
@@ -37,8 +37,10 @@ use Rattle.compare.specs.Prepared as prepared
 use Rattle.compare.specs.Prepared.{recordsOf, orderOf, rowsOf, copiesOf}
 use Rattle.compare.specs.Report.{joined}
 use Rattle.compare.specs.Rows.{padded, rowsIn, copiesIn}
-use Rattle.compare.proofs.Copying.{size-recorded, copies-recorded, rows-few, ids-good, ids-recorded}
-use Rattle.compare.proofs.Running.{run-words, run-others}
+use Rattle.compare.proofs.Copying.{size-recorded, copies-recorded, rows-few, ids-recorded}
+use Rattle.compare.proofs.Running.{values-back, run-words, run-others}
+use Rattle.compare.proofs.OrderWords.{insert-length}
+use Rattle.compare.proofs.Reporting.{listed-good}
 
 -- rows in front of words that have room for more
 pub room-front : (rows : List ℕ) (room : ℕ) (words : List ℕ) (r : ℕ) → r ≡ length rows → take r (inRoom rows room words) ≡ rows
@@ -64,11 +66,6 @@ laid-padded work rows m words h e =
     rw (e, l)
 
 -- no object has more records than there are pages
-insert-length : (age : ℕ → ℕ) (p : ℕ) (L : List ℕ) → length (insert age p L) ≡ suc (length L)
-unfolding insert
-insert-length age p [] = refl
-insert-length age p (q ∷ L) = by-test (leb (age q) (age p)) _ (λ t. rw t refl) (λ t. rw t (ap suc (insert-length age p L)))
-
 recs-few : (obj age : ℕ → ℕ) (o m : ℕ) → length (recs obj age o m) ≤ m
 unfolding recs
 recs-few obj age o zero = omega arith
@@ -76,11 +73,6 @@ recs-few obj age o (suc m) =
     by-test (eqb (obj m) o) _
     (λ t. rw t (omega (arith, insert-length age m (recs obj age o m), recs-few obj age o m)))
     (λ t. rw t (omega (arith, recs-few obj age o m)))
-
--- the pages of an object's words
-values-back : (o : ℕ) (L : List ℕ) → ((x : ℕ) → In x L → x < wordValues) → map valueOf (map (packed o) L) ≡ L
-values-back o [] h = refl
-values-back o (p ∷ L) h = ap₂ {C = List ℕ} (λ x M. x ∷ M) (packed-value o p (h p (inl refl))) (values-back o L (λ x i. h x (inr i)))
 
 -- the object of their first
 first-key : (o : ℕ) (L M : List ℕ) → 0 < length L → ((x : ℕ) → In x L → x < wordValues) → keyOf (getD (map (packed o) L ++ M) 0 0) ≡ o
@@ -141,14 +133,14 @@ module _ (g : Geometry) (dump : List ℕ) (n P : ℕ) (e : openedOf g (length du
       rw (own, size-recorded g dump n e o good P, s) refl
 
   copies-own : (o : ℕ) → In o ids → copiesIn says P (orderOf says n o) ≡ copiesOf says n P o
-  copies-own o i = rw (rows-own o (ids-good g dump n e o i) _ refl, length-map (recordsOf says n o) (packed o))
+  copies-own o i = rw (rows-own o (listed-good g dump n o i) _ refl, length-map (recordsOf says n o) (packed o))
 
   pub copies-length : (o : ℕ) → In o ids → length (copiesOf says n P o) ≡ length (recordsOf says n o)
   copies-length o i =
       let rows = rowsOf says n P o in
       length-append rows (replicate (length (recordsOf says n o) - length rows) 0)
       ∙ rw (length-replicate {A = ℕ} (length (recordsOf says n o) - length rows) 0)
-      (omega (arith, rows-few g dump n e o (ids-good g dump n e o i) P))
+      (omega (arith, rows-few g dump n e o (listed-good g dump n o i) P))
 
   -- the words of its records
   module _ (list : List ℕ) (is : list ≡ prepared.order says n) where

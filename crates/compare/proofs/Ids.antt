@@ -13,9 +13,10 @@ use Rattle.sort.specs.Arranged.{timesIn}
 use Rattle.sort.proofs.Ascending.{In, Ascends, ascends-in, same-members}
 use Rattle.sort.proofs.Times.{Once, times-joined, in-times, times-in, times-out, joined-in, in-joined, ascends-once, in-arranged, arranged-in, once-ascends}
 use Rattle.compare.specs.Report.{others, inEither}
+use Rattle.compare.proofs.Joining.{ascends-lower}
 
 -- a list that ascends ascends from every number that is not above its members
-pub ascends-from : (b c : ℕ) (L : List ℕ) → Ascends c L → ((x : ℕ) → In x L → b ≤ x) → Ascends b L
+ascends-from : (b c : ℕ) (L : List ℕ) → Ascends c L → ((x : ℕ) → In x L → b ≤ x) → Ascends b L
 ascends-from b c [] a f = tt
 ascends-from b c (x ∷ L) a f = (f x (inl refl), a .1)
 
@@ -48,7 +49,7 @@ module _ (A : List ℕ) where
       let r : Ascends (suc y) (others A B) = others-ascend (suc y) B (a .1) in
       by-test (eqb (timesIn y A) 0) _
       (λ t. rw t (a .0, r))
-      (λ t. rw t (ascends-from b (suc y) (others A B) r (λ x i. omega (arith, a .0, ascends-in (suc y) x (others A B) r i))))
+      (λ t. rw t (ascends-lower b (suc y) (others A B) (omega (arith, a .0)) r))
 
   -- a member of either is there, and nothing else is
   pub either-in : (x : ℕ) (B : List ℕ) → In x A ⊎ In x B → In x (inEither A B)
@@ -111,14 +112,14 @@ either-right B b = either-swap [] B tt b ∙ either-left B b
 either-from : (b : ℕ) (A B : List ℕ) → Ascends b A → Ascends b B → Ascends b (inEither A B)
 either-from b A B p q =
     ascends-from b 0 (inEither A B)
-    (either-ascends A B (ascends-from 0 b A p (λ x i. zero-le)) (ascends-from 0 b B q (λ x i. zero-le)))
+    (either-ascends A B (ascends-lower 0 b A zero-le p) (ascends-lower 0 b B zero-le q))
     (λ x i. ⊎-elim (λ k. ascends-in b x A p k) (λ k. ascends-in b x B q k) (either-of A x B i))
 
 module _ (x : ℕ) (A : List ℕ) (a : Ascends 0 (x ∷ A)) where
   -- the first of the first list is below all of the second
   pub either-less : (B : List ℕ) → Ascends (suc x) B → inEither (x ∷ A) B ≡ x ∷ inEither A B
   either-less B b =
-      same-members 0 (inEither (x ∷ A) B) (x ∷ inEither A B) (either-ascends (x ∷ A) B a (ascends-from 0 (suc x) B b (λ z i. zero-le)))
+      same-members 0 (inEither (x ∷ A) B) (x ∷ inEither A B) (either-ascends (x ∷ A) B a (ascends-lower 0 (suc x) B zero-le b))
       (zero-le, either-from (suc x) A B (a .1) b)
       (λ z i. there z (either-of (x ∷ A) z B i))
       (λ z i. back z i)
@@ -153,7 +154,7 @@ module _ (x : ℕ) (A : List ℕ) (a : Ascends 0 (x ∷ A)) where
 -- the first of the second list is below all of the first
 pub either-more : (A : List ℕ) (y : ℕ) (B : List ℕ) → Ascends (suc y) A → Ascends 0 (y ∷ B) → inEither A (y ∷ B) ≡ y ∷ inEither A B
 either-more A y B a b =
-    let a₀ = ascends-from 0 (suc y) A a (λ z i. zero-le) in
+    let a₀ = ascends-lower 0 (suc y) A zero-le a in
     either-swap A (y ∷ B) a₀ b
     ∙ either-less y B b A a
-    ∙ ap (λ (l : List ℕ). y ∷ l) (either-swap B A (ascends-from 0 (suc y) B (b .1) (λ z i. zero-le)) a₀)
+    ∙ ap (λ (l : List ℕ). y ∷ l) (either-swap B A (ascends-lower 0 (suc y) B zero-le (b .1)) a₀)

@@ -5,25 +5,17 @@ use mathlib.Core.Logic.{_⊎_, inl, inr, ⊎-elim}
 use mathlib.Core.Path.{_≡_, refl, sym, ap, ap₂, _∙_}
 use native.Mathlib.Nat.{mul-le-mul-right, suc-mul}
 use native.Mathlib.Omega.{arith}
+use lib.ListN.{length}
 use Rattle.sort.proofs.Ascending.{In, Ascends}
+use Rattle.sort.proofs.Times as times
 use Rattle.compare.specs.Report.{joined}
 
--- ---- two lists
+-- ---- lists
 
--- a member of one of two lists is one of both together, and nothing else is
-pub in-front : (x : ℕ) (L M : List ℕ) → In x L → In x (L ++ M)
-in-front x [] M i = absurd i
-in-front x (y ∷ L) M (inl e) = inl e
-in-front x (y ∷ L) M (inr i) = inr (in-front x L M i)
-
-pub in-behind : (x : ℕ) (L M : List ℕ) → In x M → In x (L ++ M)
-in-behind x [] M i = i
-in-behind x (y ∷ L) M i = inr (in-behind x L M i)
-
-pub in-either : (x : ℕ) (L M : List ℕ) → In x (L ++ M) → In x L ⊎ In x M
-in-either x [] M i = inr i
-in-either x (y ∷ L) M (inl e) = inl (inl e)
-in-either x (y ∷ L) M (inr i) = ⊎-elim (λ k. inl (inr k)) (λ k. inr k) (in-either x L M i)
+-- a list without members is empty
+pub length-none : {A : Type 0} (L : List A) → length L ≡ 0 → L ≡ []
+length-none [] e = refl
+length-none (x ∷ L) e = absurd (omega arith)
 
 -- a list that ascends from a number ascends from a lower one
 pub ascends-lower : (a b : ℕ) (L : List ℕ) → a ≤ b → Ascends b L → Ascends a L
@@ -72,8 +64,8 @@ module _ (f : ℕ → List ℕ) where
   pub in-joined : (x y : ℕ) (L : List ℕ) → In x L → In y (f x) → In y (joined f L)
   unfolding joined
   in-joined x y [] i j = absurd i
-  in-joined x y (z ∷ L) (inl e) j = in-front y (f z) (joined f L) (rw e at j)
-  in-joined x y (z ∷ L) (inr i) j = in-behind y (f z) (joined f L) (in-joined x y L i j)
+  in-joined x y (z ∷ L) (inl e) j = times.joined-in y (f z) (joined f L) (inl (rw e at j))
+  in-joined x y (z ∷ L) (inr i) j = times.joined-in y (f z) (joined f L) (inr (in-joined x y L i j))
 
   pub joined-in : (y : ℕ) (L : List ℕ) → In y (joined f L) → Given f L y
   unfolding joined
@@ -82,7 +74,7 @@ module _ (f : ℕ → List ℕ) where
       ⊎-elim
       (λ k. record { by = x; there = inl refl; gives = k })
       (λ k. let m = joined-in y L k in record { by = m .by; there = inr (m .there); gives = m .gives })
-      (in-either y (f x) (joined f L) i)
+      (times.in-joined y (f x) (joined f L) i)
 
   -- the numbers made of all of them
   pub joined-map : (g : ℕ → ℕ) (h : ℕ → List ℕ) (L : List ℕ) → ((x : ℕ) → In x L → map g (f x) ≡ h x) → map g (joined f L) ≡ joined h L

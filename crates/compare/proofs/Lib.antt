@@ -31,3 +31,5 @@ pub mod Prepared
 pub mod Walking
 pub mod Told
 pub mod Answered
+-- computed
+pub mod Examples

@@ -1,6 +1,6 @@
 -- The lines of what differs, piece by piece: what each piece comes to, and that the pieces are the lines of all differences.
 use Prim.Native.Nat.{ℕ, _+_, _≤_, _<_, min, zero-le}
-use mathlib.Core.Bool.{Bool, true, false, not, _&&_}
+use mathlib.Core.Bool.{Bool, true, false, not}
 use mathlib.Core.List.{List, [], _∷_, _++_, map, append-nil, append-assoc}
 use mathlib.Core.Logic.{_≢_}
 use mathlib.Core.Option.{Option, none, some}
@@ -15,7 +15,7 @@ use Rattle.page.specs.declared.geometry.Geometry.{Geometry}
 use Rattle.page.proofs.Searching.{clash}
 use Rattle.chunk.specs.Live.{passed}
 use Rattle.sort.specs.Packed.{valueOf}
-use Rattle.text.specs.Lines.{newline, fieldOf, lineOf}
+use Rattle.text.specs.Lines.{lineOf}
 use Rattle.text.specs.Put.{most, counted, over, Put}
 use Rattle.text.specs.Quoted.{bytesOf}
 use Rattle.text.specs.Whole.{writtenBy, bytesBy}
@@ -34,8 +34,10 @@ use Rattle.compare.proofs.Heads.{head-page, head-size}
 use Rattle.compare.specs.Lines.{sideLines, headerLines, contentLines}
 use Rattle.compare.specs.Report.{linesOf, joined, sideNumber, objectLines}
 use Rattle.compare.specs.Sides.{firstHeader, pagesIn, rowsShow, sideOf}
-use Rattle.compare.specs.Views.{View, bytesOn, isDeleted, sizeIn}
+use Rattle.compare.specs.Views.{bytesOn, isDeleted, sizeIn}
+use Rattle.compare.proofs.Joining.{length-none}
 use Rattle.compare.proofs.Passing.{joined-append}
+use Rattle.compare.proofs.Same.{line-some}
 
 -- no fields where a header is missing, and those that differ where both are there
 module _ (g : Geometry) (dump : List ℕ) (g′ : Geometry) (dump′ : List ℕ) where
@@ -196,11 +198,7 @@ module _ (g : Geometry) (dump L C : List ℕ) (g′ : Geometry) (dump′ L′ C�
       let t : sizeAs z ≡ sizeOn′ = b ∙ ap (sizeBy says′) f ∙ sym (head-size says′ P′ (map valueOf L′)) in
       rw (p, q, s, t) (lines-both h h′)
 
--- a line is not empty, so that lines without a byte are of no difference
-line-some : (key : List ℕ) (n : ℕ) → 0 < length (lineOf key n)
-unfolding lineOf
-line-some key n = rw (length-append (fieldOf key n) (newline ∷ [])) (omega arith)
-
+-- lines without a byte are of no difference, since a line is not empty
 lines-some : (d : Difference) → 0 < length (linesOf d)
 unfolding linesOf
 lines-some (only s) = line-some (bytesOf "only=") (sideNumber s)
@@ -242,9 +240,13 @@ module _ (o : ℕ) (ds : List Difference) {after : List ℕ} {next : ℕ} (p : P
       let q₁ = rw (measured p .0) at q in
       rw (object-some o ds (counted-some (length (joined linesOf ds)) (λ e. h (measured p .1 ∙ e)))) (also q₁ s)
 
-empty : (t : List ℕ) → length t ≡ 0 → t ≡ []
-empty [] e = refl
-empty (x ∷ t) e = absurd (omega arith)
+-- a text that was measured and has no byte is written, whatever the bytes
+pub written-none : {text after : List ℕ} {next : ℕ} (bytes : List ℕ) → Put text [] 0 after next → next ≡ 0
+    → (Bytes 0 ≡ writtenBy (length bytes) text) × (after ++ bytes ≡ bytesBy text bytes)
+unfolding writtenBy bytesBy
+written-none {text} {after} bytes p e =
+    let z : text ≡ [] = length-none text (counted-none (length text) (sym (measured p .1) ∙ e)) in
+    (rw (z, le-ltb (length bytes) 0 zero-le), rw (measured p .0, z, le-ltb (length bytes) 0 zero-le))
 
 -- an object's line and what differs, measured one behind the other; the line of an object is short, so that its length is counted as it is
 pub name-short : (o : ℕ) → o < 4294967296 → length (lineOf (bytesOf "object=") o) ≤ 18
@@ -257,10 +259,7 @@ module _ (o : ℕ) (small : o < 4294967296) (ds : List Difference) {a b : List �
 
   both-empty : (a ≡ []) × (b ≡ [])
   unfolding over
-  both-empty = (measured p .0, length-zero (kept q))
-    where
-      length-zero : {l : List ℕ} → length l ≡ length {A = ℕ} [] → l ≡ []
-      length-zero {l} e = empty l e
+  both-empty = (measured p .0, length-none b (kept q))
 
   -- nothing differs
   pub written-nothing :
@@ -324,7 +323,7 @@ module _ (o : ℕ) (small : o < 4294967296) (ds : List Difference) {a b : List �
   straight-nothing e =
       let none : length t ≡ 0 = omega (arith, behind-all, behind-line) in
       let z = object-none o ds none in
-      let same : b ≡ bytes = q .holds ∙ rw (empty t none, lent) in
+      let same : b ≡ bytes = q .holds ∙ rw (length-none t none, lent) in
       (rw (z, le-ltb (length bytes) 0 zero-le), rw (same, z, le-ltb (length bytes) 0 zero-le))
 
   pub straight-both :

@@ -17,6 +17,7 @@ use Rattle.sort.proofs.Ascending.{In, Ascends}
 use Rattle.compare.specs.Views.{byteOf}
 use Rattle.compare.specs.Fields.{fields, fieldPlaces, fieldLengths, placeOf, lengthOf}
 use Rattle.compare.specs.Differences.{differIn, fieldDiffers, fieldsOf, stretchBytes, stretchesIn, stretchDiffers, stretchesTo}
+use Rattle.compare.proofs.Differing.{differ-equal}
 use Rattle.compare.proofs.Passes.{counted-passes, passes-counted, uncounted, passed-in, passed-of, passed-nothing, nothing-passed, passed-ascends}
 
 -- ---- bytes
@@ -41,7 +42,7 @@ module _ (a b : ℕ → ℕ) where
       passes-counted (λ i. not (eqb (a (from + i)) (b (from + i)))) n
       (record { at = w .at; inside = w .inside; passes = rw (ne-eqb (a (from + w .at)) (b (from + w .at)) (w .apart)) })
 
-  -- where it does not, all are the same, and where all are the same it does not
+  -- where it does not, all are the same (the other way round is `differ-equal` of Differing)
   pub differ-none : (from n : ℕ) → differIn a b from n ≡ false → (i : ℕ) → i < n → a (from + i) ≡ b (from + i)
   differ-none from n e i h =
       by-test (eqb (a (from + i)) (b (from + i))) _
@@ -50,10 +51,6 @@ module _ (a b : ℕ → ℕ) where
       let w : Differs from n = record { at = i; inside = h; apart = eqb-false _ _ t } in
       let z : true ≡ false = sym (means-differ from n w) ∙ e in
       clash (cc))
-
-  pub none-differ : (from n : ℕ) → ((i : ℕ) → i < n → a (from + i) ≡ b (from + i)) → differIn a b from n ≡ false
-  none-differ from n f =
-      by-test (differIn a b from n) _ (λ t. let w = differ-means from n t in absurd (w .apart (f (w .at) (w .inside)))) (λ t. t)
 
   -- ---- stretches
 
@@ -180,9 +177,9 @@ pub fields-inside : (i : ℕ) → i < fields → placeOf i + lengthOf i ≤ head
 unfolding sticksOut
 fields-inside i h = ltb-false _ _ (uncounted sticksOut fields none-out i h)
 
--- and begins behind those before it
+-- and ends where the next begins, or before
 early : (i j : ℕ) → Bool
-early i j = ltb i j && leb (placeOf j) (placeOf i)
+early i j = ltb i j && leb (placeOf j) (placeOf i + (lengthOf i - 1))
 
 anyEarly : (i : ℕ) → Bool
 anyEarly i = ltb 0 (count (early i) fields)
@@ -195,11 +192,17 @@ later : (t u : Bool) → t && u ≡ false → t ≡ true → u ≡ false
 later true u e f = e
 later false u e f = clash (cc)
 
-pub places-rise : (i j : ℕ) → i < j → j < fields → placeOf i < placeOf j
+last-before : (i j : ℕ) → i < j → j < fields → placeOf i + (lengthOf i - 1) < placeOf j
 unfolding anyEarly early
-places-rise i j h k =
+last-before i j h k =
     let e = uncounted (early i) fields (uncounted anyEarly fields none-early i (omega arith)) j k in
-    leb-false _ _ (later (ltb i j) (leb (placeOf j) (placeOf i)) e (lt-ltb i j h))
+    leb-false _ _ (later (ltb i j) (leb (placeOf j) (placeOf i + (lengthOf i - 1))) e (lt-ltb i j h))
+
+pub fields-apart : (i j : ℕ) → i < j → j < fields → placeOf i + lengthOf i ≤ placeOf j
+fields-apart i j h k = omega (arith, last-before i j h k)
+
+pub places-rise : (i j : ℕ) → i < j → j < fields → placeOf i < placeOf j
+places-rise i j h k = omega (arith, last-before i j h k)
 
 -- so the fields that differ ascend, each once
 pub fields-ascend : (one other : Option (List ℕ)) → Ascends 0 (fieldsOf one other)
@@ -225,7 +228,7 @@ unfolding fieldsOf inField
 same-fields a b f =
     passed-nothing (fieldDiffers a b) placeOf fields
     (λ i h.
-    none-differ (byteOf a) (byteOf b) (placeOf i) (lengthOf i)
+    differ-equal (byteOf a) (byteOf b) (placeOf i) (lengthOf i)
     (λ j k.
     let x = placeOf i + j in
     let inside : x < headerLength = omega (arith, fields-inside i h) in

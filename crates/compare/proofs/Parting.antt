@@ -1,10 +1,10 @@
--- A part from a place on, cut off at the end of the bytes.
-use Prim.Native.Nat.{ℕ, _+_, _-_, _<_, min}
+-- A part from a place on, of bytes or of words, cut off at their end.
+use Prim.Native.Nat.{ℕ, _-_, _<_, min}
 use mathlib.Core.List.{List}
-use mathlib.Core.Path.{_≡_, refl}
+use mathlib.Core.Path.{_≡_}
 use native.Mathlib.Omega.{arith}
 use lib.ListN.{length, take, drop, length-take, length-drop}
-use lib.Seq.{ext-getD, getD-take, getD-drop}
+use lib.Seq.{ext-getD, getD-take}
 
 pub clipped : (s : List ℕ) (from n a k : ℕ) → a ≡ min from (length s) → k ≡ min n (length s - a) → take k (drop a s) ≡ take n (drop from s)
 clipped s from n a k p q =

@@ -5,7 +5,7 @@ use mathlib.Core.Bool.{true, false, not}
 use mathlib.Core.List.{List, [], _∷_, _++_, map}
 use mathlib.Core.Logic.{inl, inr}
 use mathlib.Core.Option.{Option, none, some}
-use mathlib.Core.Path.{_≡_, refl, sym, ap, ap₂, _∙_}
+use mathlib.Core.Path.{_≡_, refl, sym, ap, _∙_}
 use native.Mathlib.Numerals.{add-one}
 use native.Mathlib.Omega.{arith}
 use borrow.Author.Tests.{leb-true, leb-false}
@@ -24,9 +24,8 @@ use Rattle.page.proofs.Layouts.{listed-whole}
 use Rattle.page.proofs.Lengths.{opened-facts, opened-pages}
 use Rattle.page.proofs.Searching.{by-test, clash}
 use Rattle.page.proofs.Within.{object-within, chunk-within}
-use Rattle.sort.specs.Packed.{wordValues, packed, valueOf}
+use Rattle.sort.specs.Packed.{wordValues, packed}
 use Rattle.sort.proofs.Ascending.{In}
-use Rattle.sort.proofs.Packing.{packed-value}
 use Rattle.chunk.specs.Answers.{partBy}
 use Rattle.chunk.specs.Cuts.{lowestCut, hides}
 use Rattle.chunk.specs.Lookups.{fileOf, sizedOf, sizedBy, lookedOf, lookedBy, copyBy, shownOf, validOf}
@@ -58,14 +57,8 @@ use Rattle.compare.specs.Differences.{stretchBytes}
 use Rattle.compare.specs.Sides.{stretchBegin, firstHeader, pagesIn, rowsShow, sideOf}
 use Rattle.compare.specs.Prepared.{recordsOf, orderOf, copiesOf}
 use Rattle.compare.proofs.Copying.{size-recorded}
+use Rattle.compare.proofs.Running.{values-back}
 use Rattle.compare.proofs.Showing.{byte-behind, aside-none, zeros-aside, shows-past, shows-own}
-
--- ---- words
-
--- the pages of an object's words
-pub words-told : (o : ℕ) (L : List ℕ) → ((x : ℕ) → In x L → x < wordValues) → map valueOf (map (packed o) L) ≡ L
-words-told o [] f = refl
-words-told o (x ∷ L) f = ap₂ {C = List ℕ} (λ y M. y ∷ M) (packed-value o x (f x (inl refl))) (words-told o L (λ y i. f y (inr i)))
 
 -- ---- the first header
 
@@ -184,7 +177,7 @@ module _ (g : Geometry) (dump : List ℕ) (n : ℕ) (e : openedOf g (length dump
 
   -- the pages of its words
   pages-in : pagesIn g dump (orderOf says n o) ≡ L
-  pages-in = words-told o L record-words
+  pages-in = values-back o L record-words
 
   -- how many they are
   pub many : length (orderOf says n o) ≡ records says o n

@@ -3,19 +3,29 @@
 use Prim.Native.Nat.{ℕ, suc, _+_, _≤_, _<_}
 use mathlib.Core.List.{List, [], _∷_, _++_, map}
 use mathlib.Core.Logic.{inl, inr}
-use mathlib.Core.Path.{_≡_, refl, sym, ap, _∙_}
+use mathlib.Core.Path.{_≡_, refl, sym, ap, ap₂, _∙_}
 use native.Mathlib.Numerals.{add-one}
 use native.Mathlib.Omega.{arith}
-use lib.ListN.{length, drop, getD, drop-of-length-le}
+use lib.ListN.{length, length-map, drop, getD, drop-of-length-le}
 use lib.Seq.{drop-cons}
 use borrow.Author.Tests.{eq-eqb, ne-eqb}
-use Rattle.sort.specs.Packed.{wordValues, packed, keyOf}
+use Rattle.sort.specs.Arranged.{Every}
+use Rattle.sort.specs.Packed.{wordValues, packed, keyOf, valueOf}
 use Rattle.sort.proofs.Ascending.{In}
-use Rattle.sort.proofs.Packing.{packed-key}
+use Rattle.sort.proofs.Packing.{packed-key, packed-value}
 use Rattle.compare.specs.Lists.{runOf}
 use Rattle.compare.specs.Report.{joined}
 
 module _ (o : ℕ) where
+  -- the pages of its words, and their keys
+  pub values-back : (L : List ℕ) → ((x : ℕ) → In x L → x < wordValues) → map valueOf (map (packed o) L) ≡ L
+  values-back [] h = refl
+  values-back (p ∷ L) h = ap₂ {C = List ℕ} (λ x M. x ∷ M) (packed-value o p (h p (inl refl))) (values-back L (λ x i. h x (inr i)))
+
+  pub keys-back : (L : List ℕ) → ((x : ℕ) → In x L → x < wordValues) → Every (λ w. keyOf w ≡ o) (map (packed o) L)
+  keys-back [] h = tt
+  keys-back (p ∷ L) h = (packed-key o p (h p (inl refl)), keys-back L (λ x i. h x (inr i)))
+
   -- a word of the object, another, and none
   pub run-own : (x : ℕ) (rest : List ℕ) → keyOf x ≡ o → runOf o (x ∷ rest) ≡ suc (runOf o rest)
   unfolding runOf
@@ -40,13 +50,14 @@ module _ (o : ℕ) where
     pub run-end : length list ≤ i → runOf o (drop i list) ≡ 0
     run-end h = rw (drop-of-length-le list {i = i} h) run-none
 
-  -- the words of its pages, and what comes behind them
+  -- words of the object, and what comes behind them
+  pub run-keyed : (L M : List ℕ) → Every (λ w. keyOf w ≡ o) L → runOf o (L ++ M) ≡ length L + runOf o M
+  run-keyed [] M k = omega arith
+  run-keyed (w ∷ L) M k = run-own w (L ++ M) (k .0) ∙ ap suc (run-keyed L M (k .1)) ∙ omega arith
+
+  -- the words of its pages
   pub run-words : (L M : List ℕ) → ((x : ℕ) → In x L → x < wordValues) → runOf o (map (packed o) L ++ M) ≡ length L + runOf o M
-  run-words [] M h = omega arith
-  run-words (p ∷ L) M h =
-      run-own (packed o p) (map (packed o) L ++ M) (packed-key o p (h p (inl refl)))
-      ∙ ap suc (run-words L M (λ x i. h x (inr i)))
-      ∙ omega arith
+  run-words L M h = run-keyed (map (packed o) L) M (keys-back L h) ∙ rw (length-map L (packed o))
 
   -- the words of another object
   run-past : (x : ℕ) (L M : List ℕ) → ((p : ℕ) → In p L → p < wordValues) → (x ≡ o → ⊥) → runOf o M ≡ 0 → runOf o (map (packed x) L ++ M) ≡ 0

@@ -5,10 +5,11 @@ use Prim.Native.Nat.{ℕ, _+_, _-_, _*_, _/_, _<_, min}
 use mathlib.Core.Bool.{Bool, true, false}
 use mathlib.Core.List.{List, [], _∷_, _++_, map, cons≢nil}
 use mathlib.Core.Option.{Option, none, some}
-use mathlib.Core.Path.{_≡_, refl, sym, _∙_}
+use mathlib.Core.Path.{_≡_, refl, sym, ap, _∙_}
 use native.Mathlib.Omega.{arith}
 use borrow.Author.Tests.{eqb-true, eq-eqb}
 use lib.Dec.{eqb}
+use lib.ListN.{length, length-append}
 use Rattle.page.proofs.Searching.{clash, by-test}
 use Rattle.text.specs.Lines.{newline, fieldOf, lineOf}
 use Rattle.text.specs.Quoted.{bytesOf}
@@ -16,7 +17,8 @@ use Rattle.compare.specs.Views.{View, byteOf}
 use Rattle.compare.specs.Differences.{Side, Difference, deleted, headless, field, stretch, onOne, lacks, fieldsOf, sizesOf, stretchBytes, stretchesIn, stretchDiffers, stretchesOf, differencesOf}
 use Rattle.compare.specs.Report.{linesOf, joined, objectLines}
 use Rattle.compare.proofs.Passes.{passed-nothing, nothing-passed}
-use Rattle.compare.proofs.Meaning.{differ-none, none-differ, headerLength, leftOut, fields-same, same-fields}
+use Rattle.compare.proofs.Differing.{differ-equal}
+use Rattle.compare.proofs.Meaning.{differ-none, headerLength, leftOut, fields-same, same-fields}
 
 -- what is the same of an object that both dumps have
 pub record SameShown (v w : View) : Type 0 where
@@ -79,7 +81,7 @@ module _ (a b : ℕ → ℕ) where
   unfolding stretchesOf
   nil-stretches (some y) (some z) f =
       passed-nothing (stretchDiffers a b (min y z)) (λ k. k) (stretchesIn (min y z))
-      (λ k h. none-differ a b (stretchBytes * k) (min stretchBytes (min y z - stretchBytes * k)) (λ i l. f y z refl refl _ (omega arith)))
+      (λ k h. differ-equal a b (stretchBytes * k) (min stretchBytes (min y z - stretchBytes * k)) (λ i l. f y z refl refl _ (omega arith)))
   nil-stretches (some y) none f = refl
   nil-stretches none t f = refl
 
@@ -169,15 +171,16 @@ itself v =
     }
 
 -- a line is not empty
-line-some : (key : List ℕ) (n : ℕ) → lineOf key n ≡ [] → ⊥
+pub line-some : (key : List ℕ) (n : ℕ) → 0 < length (lineOf key n)
 unfolding lineOf
-line-some key n e = cons≢nil (joined-nil (fieldOf key n) (newline ∷ []) e .1)
+line-some key n = rw (length-append (fieldOf key n) (newline ∷ [])) (omega arith)
 
 -- so the lines of an object are empty exactly if nothing differs
 pub empty-report : (o : ℕ) (ds : List Difference) → objectLines o ds ≡ [] → ds ≡ []
 unfolding objectLines
 empty-report o [] e = refl
-empty-report o (d ∷ ds) e = absurd (line-some (bytesOf "object=") o (joined-nil _ (joined linesOf (d ∷ ds)) e .0))
+empty-report o (d ∷ ds) e =
+    let z = ap length (joined-nil (lineOf (bytesOf "object=") o) (joined linesOf (d ∷ ds)) e .0) in absurd (omega (arith, line-some (bytesOf "object=") o))
 
 pub report-none : (o : ℕ) (ds : List Difference) → ds ≡ [] → objectLines o ds ≡ []
 unfolding objectLines

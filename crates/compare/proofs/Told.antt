@@ -1,10 +1,10 @@
 -- The report by the words that two accepted dumps are prepared to is document 02's report: of each object by its words what the rules say of it, and
 -- object after object over the ids of both.
-use Prim.Native.Nat.{ℕ, _<_}
+use Prim.Native.Nat.{ℕ}
 use mathlib.Core.Bool.{false}
-use mathlib.Core.List.{List, [], _∷_, map}
-use mathlib.Core.Logic.{_⊎_, inl, inr, ⊎-elim}
-use mathlib.Core.Path.{_≡_, refl, sym, ap, ap₂, _∙_}
+use mathlib.Core.List.{List, []}
+use mathlib.Core.Logic.{_⊎_, ⊎-elim}
+use mathlib.Core.Path.{_≡_, sym, ap, ap₂, _∙_}
 use native.Mathlib.Omega.{arith}
 use lib.ListN.{length, length-append, length-map, length-replicate}
 use Rattle.page.specs.Lengths.{openedOf}
@@ -13,10 +13,7 @@ use Rattle.page.specs.Records.{recordAt}
 use Rattle.page.specs.declared.geometry.Geometry.{Geometry}
 use Rattle.page.specs.declared.geometry.Opened.the-variants as opened
 use Rattle.page.specs.declared.record.Record.{Record}
-use Rattle.sort.specs.Arranged.{Every}
-use Rattle.sort.specs.Packed.{wordValues, packed, keyOf}
 use Rattle.sort.proofs.Ascending.{In}
-use Rattle.sort.proofs.Packing.{packed-key}
 use Rattle.chunk.proofs.Living.{objectIds, objects-ascend}
 use Rattle.compare.specs.Views.{viewOf}
 use Rattle.compare.specs.Report.{reportOf, inEither, idsIn, objectReport, wholeReport}
@@ -25,18 +22,11 @@ use Rattle.compare.specs.Sides.{sideOf}
 use Rattle.compare.specs.Prepared.{recordsOf, orderOf, order, rowsOf, copiesOf, copies}
 use Rattle.compare.proofs.Copying.{rows-few}
 use Rattle.compare.proofs.Ids.{either-of}
+use Rattle.compare.proofs.Joining.{length-none}
+use Rattle.compare.proofs.Running.{keys-back}
 use Rattle.compare.proofs.Reporting.{unlisted-none, listed-some, listed-good, joined-same}
 use Rattle.compare.proofs.Prepared.{record-words, many, side-view}
 use Rattle.compare.proofs.Walking.{Words, walked}
-
--- the keys of an object's words
-keys-packed : (o : ℕ) (L : List ℕ) → ((x : ℕ) → In x L → x < wordValues) → Every (λ w. keyOf w ≡ o) (map (packed o) L)
-keys-packed o [] f = tt
-keys-packed o (x ∷ L) f = (packed-key o x (f x (inl refl)), keys-packed o L (λ y i. f y (inr i)))
-
-length-none : {A : Type 0} (L : List A) → length L ≡ 0 → L ≡ []
-length-none [] e = refl
-length-none (x ∷ L) e = absurd (omega arith)
 
 -- ---- one accepted dump
 
@@ -54,7 +44,7 @@ module _ (g : Geometry) (dump : List ℕ) (n : ℕ) (e : openedOf g (length dump
   -- so the words of each are as the walk takes them
   object-words : Words (objectIds says n) (orderOf says n) (copiesOf says n P) o
   object-words = record {
-    keys = keys-packed o (recordsOf says n o) (record-words g dump n e o good);
+    keys = keys-back o (recordsOf says n o) (record-words g dump n e o good);
     long = copies-long;
     some = λ i z. listed-some g dump n o i (sym (many g dump n e o good) ∙ z);
     none = λ f. length-none (orderOf says n o) (many g dump n e o good ∙ unlisted-none g dump n o f);

@@ -2,15 +2,12 @@
 -- keys ascend: so the lesser of both first keys is the next id, and as many words at the front have it as the object has there. What is left then
 -- are the words of the other ids.
 use Prim.Native.Nat.{ℕ, zero, suc, _+_, _≤_, _<_, zero-le}
-use mathlib.Core.Bool.{Bool, true, false, _&&_}
 use mathlib.Core.List.{List, [], _∷_, _++_}
 use mathlib.Core.Logic.{_⊎_, inl, inr, ⊎-elim}
 use mathlib.Core.Path.{_≡_, refl, sym, ap, _∙_}
 use native.Mathlib.Nat.{le-refl}
 use native.Mathlib.Omega.{arith}
-use borrow.Author.Tests.{eq-eqb, ne-eqb}
-use lib.Dec.{eqb}
-use lib.ListN.{length, take, drop, length-append}
+use lib.ListN.{length, length-append}
 use lib.Seq.{take-at, drop-at}
 use Rattle.page.specs.declared.geometry.Geometry.{Geometry}
 use Rattle.sort.specs.Arranged.{Every}
@@ -19,7 +16,10 @@ use Rattle.sort.proofs.Ascending.{In, Ascends, ascends-in}
 use Rattle.text.proofs.Order.{le-or-lt}
 use Rattle.compare.specs.Report.{joined, inEither}
 use Rattle.compare.specs.Lists.{runOf, nextOf, sidesReport, reportsTo}
-use Rattle.compare.proofs.Ids.{ascends-from, either-left, either-less, either-both, either-more}
+use Rattle.compare.proofs.Ids.{either-left, either-less, either-both, either-more}
+use Rattle.compare.proofs.Joining.{ascends-lower}
+use Rattle.compare.proofs.Listing.{reports-turn}
+use Rattle.compare.proofs.Running.{run-other, run-none, run-keyed}
 
 -- ---- words of one object, and words behind it
 
@@ -34,14 +34,11 @@ Later o (w ∷ L) = o < keyOf w
 
 -- how many words at the front are of object o
 run-later : (o : ℕ) (L : List ℕ) → Later o L → runOf o L ≡ 0
-unfolding runOf
-run-later o [] h = refl
-run-later o (w ∷ L) h = rw (ne-eqb (keyOf w) o (λ e. omega arith))
+run-later o [] h = run-none o
+run-later o (w ∷ L) h = run-other o w L (λ e. omega arith)
 
 run-own : (o : ℕ) (M L : List ℕ) → Keyed o M → Later o L → runOf o (M ++ L) ≡ length M
-unfolding runOf
-run-own o [] L k h = run-later o L h
-run-own o (w ∷ M) L k h = rw (eq-eqb (keyOf w) o (k .0)) (ap suc (run-own o M L (k .1) h))
+run-own o M L k h = run-keyed o M L k ∙ omega (arith, run-later o L h)
 
 -- the next object: that of the first list, of the second, or of both
 next-first : (o : ℕ) (M L L′ : List ℕ) → Keyed o M → (length M ≡ 0 → ⊥) → Later o L′ → nextOf (M ++ L) L′ ≡ o
@@ -63,28 +60,20 @@ next-both o (w ∷ M) L (v ∷ M′) L′ k s j t = omega (arith, k .0, j .0)
 -- ---- one turn
 
 module _ (g : Geometry) (dump : List ℕ) (g′ : Geometry) (dump′ : List ℕ) where
-  -- by the object that comes next, and how many words each list has of it
-  turn-by :
-      (k o i j : ℕ) (L C L′ C′ : List ℕ) →
-      eqb (length L) 0 && eqb (length L′) 0 ≡ false →
-      nextOf L L′ ≡ o → runOf o L ≡ i → runOf o L′ ≡ j →
-      reportsTo g dump g′ dump′ (suc k) L C L′ C′
-      ≡ sidesReport g dump g′ dump′ o (take i L) (take i C) (take j L′) (take j C′)
-      ++ reportsTo g dump g′ dump′ k (drop i L) (drop i C) (drop j L′) (drop j C′)
-  unfolding reportsTo
-  turn-by k o i j L C L′ C′ t e f h = rw (t, e, f, h)
-
   -- by its words, and what is behind them
   turn :
       (k o : ℕ) (M N L C M′ N′ L′ C′ : List ℕ) →
-      eqb (length (M ++ L)) 0 && eqb (length (M′ ++ L′)) 0 ≡ false →
+      0 < length (M ++ L) + length (M′ ++ L′) →
       nextOf (M ++ L) (M′ ++ L′) ≡ o → runOf o (M ++ L) ≡ length M → runOf o (M′ ++ L′) ≡ length M′ →
       length N ≡ length M → length N′ ≡ length M′ →
       reportsTo g dump g′ dump′ (suc k) (M ++ L) (N ++ C) (M′ ++ L′) (N′ ++ C′)
       ≡ sidesReport g dump g′ dump′ o M N M′ N′ ++ reportsTo g dump g′ dump′ k L C L′ C′
   turn k o M N L C M′ N′ L′ C′ t e f h n n′ =
-      turn-by k o (length M) (length M′) (M ++ L) (N ++ C) (M′ ++ L′) (N′ ++ C′) t e f h
+      reports-turn g dump g′ dump′ k (M ++ L) (N ++ C) (M′ ++ L′) (N′ ++ C′) t
       ∙ rw (
+        e,
+        f,
+        h,
         take-at M L (length M) refl,
         take-at N C (length M) n,
         take-at M′ L′ (length M′) refl,
@@ -110,7 +99,7 @@ joined-later : (f : ℕ → List ℕ) (o : ℕ) (A : List ℕ) → ((x : ℕ) �
 unfolding joined
 joined-later f o [] k a = tt
 joined-later f o (x ∷ A) k a =
-    go (f x) (k x (inl refl)) (joined-later f o A (λ y i. k y (inr i)) (ascends-from (suc o) (suc x) A (a .1) (λ y i. omega (arith, a .0, ascends-in (suc x) y A (a .1) i))))
+    go (f x) (k x (inl refl)) (joined-later f o A (λ y i. k y (inr i)) (ascends-lower (suc o) (suc x) A (omega (arith, a .0)) (a .1)))
   where
     go : (M : List ℕ) → Keyed x M → Later o (joined f A) → Later o (M ++ joined f A)
     go [] k h = h
@@ -121,14 +110,9 @@ none-long : (c : List ℕ) (M : List ℕ) → length c ≡ length M → M ≡ []
 none-long [] M e z = refl
 none-long (x ∷ c) M e z = absurd (let k : length M ≡ 0 = ap length z in omega arith)
 
-busy-first : (M L : List ℕ) (t : Bool) → (length M ≡ 0 → ⊥) → eqb (length (M ++ L)) 0 && t ≡ false
-busy-first [] L t s = absurd (s refl)
-busy-first (w ∷ M) L t s = rw (ne-eqb (length (w ∷ M ++ L)) 0 (λ e. omega arith))
-
-busy-second : (M L : List ℕ) (t : Bool) → (length M ≡ 0 → ⊥) → t && eqb (length (M ++ L)) 0 ≡ false
-busy-second [] L t s = absurd (s refl)
-busy-second (w ∷ M) L true s = ne-eqb (length (w ∷ M ++ L)) 0 (λ e. omega arith)
-busy-second (w ∷ M) L false s = refl
+-- some words
+some-words : (M L : List ℕ) → (length M ≡ 0 → ⊥) → 0 < length (M ++ L)
+some-words M L s = omega (arith, length-append M L)
 
 module _
     (g : Geometry) (dump : List ℕ) (g′ : Geometry) (dump′ : List ℕ) (ids ids′ : List ℕ) (f c f′ c′ : ℕ → List ℕ)
@@ -152,7 +136,7 @@ module _
       other-one : (x : ℕ) → In x B → In x ids → In x A
 
     lower : (x : ℕ) (A : List ℕ) → Ascends (suc x) A → Ascends 0 A
-    lower x A a = ascends-from 0 (suc x) A a (λ z i. zero-le)
+    lower x A a = ascends-lower 0 (suc x) A zero-le a
 
     -- what is left when the first id of the first list is done, which the second has not
     left-first : (x : ℕ) (A B : List ℕ) → Left (x ∷ A) B → Ascends (suc x) B → Left A B
@@ -206,7 +190,7 @@ module _
         let no : f′ x ≡ [] = w′ .none (λ j. let m = ascends-in (suc x) x B b (l .one-other x (inl refl) j) in omega arith) in
         let no′ : c′ x ≡ [] = none-long (c′ x) (f′ x) (w′ .long) no in
         turn g dump g′ dump′ k x (f x) (c x) (joined f A) (joined c A) [] [] (joined f′ B) (joined c′ B)
-        (busy-first (f x) (joined f A) _ (w .some i))
+        (omega (arith, some-words (f x) (joined f A) (w .some i)))
         (next-first x (f x) (joined f A) (joined f′ B) (w .keys) (w .some i) later′)
         (run-own x (f x) (joined f A) (w .keys) later)
         (run-later x (joined f′ B) later′) (w .long) refl
@@ -223,7 +207,7 @@ module _
         let no : f y ≡ [] = w .none (λ j. let m = ascends-in (suc y) y A a (l .other-one y (inl refl) j) in omega arith) in
         let no′ : c y ≡ [] = none-long (c y) (f y) (w .long) no in
         turn g dump g′ dump′ k y [] [] (joined f A) (joined c A) (f′ y) (c′ y) (joined f′ B) (joined c′ B)
-        (busy-second (f′ y) (joined f′ B) (eqb (length (joined f A)) 0) (w′ .some i))
+        (omega (arith, some-words (f′ y) (joined f′ B) (w′ .some i)))
         (next-second y (joined f A) (f′ y) (joined f′ B) (w′ .keys) (w′ .some i) later)
         (run-later y (joined f A) later)
         (run-own y (f′ y) (joined f′ B) (w′ .keys) later′) refl (w′ .long)
@@ -237,7 +221,7 @@ module _
         let w = words x (inl i) in
         let w′ = words′ x (inr i′) in
         turn g dump g′ dump′ k x (f x) (c x) (joined f A) (joined c A) (f′ x) (c′ x) (joined f′ B) (joined c′ B)
-        (busy-first (f x) (joined f A) _ (w .some i))
+        (omega (arith, some-words (f x) (joined f A) (w .some i)))
         (next-both x (f x) (joined f A) (f′ x) (joined f′ B) (w .keys) (w .some i) (w′ .keys) (w′ .some i′))
         (run-own x (f x) (joined f A) (w .keys) (behind x A (λ z j. l .in-one z (inr j)) (l .one .1)))
         (run-own x (f′ x) (joined f′ B) (w′ .keys) (behind′ x B (λ z j. l .in-other z (inr j)) (l .other .1))) (w .long) (w′ .long)

@@ -2,7 +2,6 @@
 use Prim.Native.Nat.{ℕ}
 use mathlib.Core.List.{List}
 use lib.Dec.{ltb}
-use lib.ListN.{length}
 use Rattle.page.specs.Choice.{pick}
 use Rattle.page.specs.Lengths.{openedOf}
 use Rattle.page.specs.Refusals.{refusalNumber}

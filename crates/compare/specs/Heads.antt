@@ -1,4 +1,5 @@
--- The newest header of an object by a list of its records, the newest first, with the largest end of the data above it.
+-- For the code alone: the newest header of an object by a list of its records, the newest first, with the largest end of the data above it. What it
+-- says of the object is in Sides.
 use Prim.Native.Nat.{ℕ, max}
 use mathlib.Core.List.{List, [], _∷_}
 use mathlib.Core.Option.{Option, none, some}

@@ -1,4 +1,4 @@
--- The lines of what differs, piece by piece, as they are put.
+-- For the code alone: the lines of what differs, piece by piece, as they are put. Those of document 02 are in Report.
 use Prim.Native.Nat.{ℕ}
 use mathlib.Core.Bool.{Bool, true, false}
 use mathlib.Core.List.{List, [], _++_, map}

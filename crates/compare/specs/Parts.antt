@@ -1,4 +1,5 @@
--- Parts of a dump as they are compared: how many bytes differ, and what part shows the bytes of a stretch.
+-- For the code alone: parts of a dump as they are compared, how many bytes differ, and what part shows the bytes of a stretch. What it means that a
+-- stretch differs is in Differences.
 use Prim.Native.Nat.{ℕ, _+_, _≤_, _<_, _/_}
 use mathlib.Core.Bool.{Bool, not}
 use mathlib.Core.List.{List, [], _∷_}

@@ -1,4 +1,4 @@
--- The rows of the copies that an object's words show, of any words, in as many words as those are.
+-- For the code alone: the rows of the copies that an object's words show, of any words, in as many words as those are. What they come to is in Prepared.
 use Prim.Native.Nat.{ℕ, _-_}
 use mathlib.Core.List.{List, [], _++_, map}
 use lib.ListN.{length, replicate}

@@ -1,7 +1,7 @@
 -- One object by the words that a dump was prepared to: its records, the newest first, and the rows of the copies that its file shows, ascending.
 -- Said of any words; of those that preparing leaves it comes to the same as the rules (proofs/Prepared.antt).
 use Prim.Native.Nat.{ℕ, _+_, _-_, _*_, _/_}
-use mathlib.Core.Bool.{Bool, not}
+use mathlib.Core.Bool.{not}
 use mathlib.Core.List.{List, [], _∷_, map}
 use mathlib.Core.Option.{Option, none, some}
 use lib.Dec.{eqb, leb}

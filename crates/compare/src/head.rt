@@ -5,18 +5,18 @@ ghost use Rattle.chunk.specs.Sizes.{endOf};
 ghost use Rattle.page.specs.Records.{recordAt};
 ghost use mathlib.Core.List.{map};
 ghost use Rattle.sort.specs.Packed.{valueOf};
-ghost use Rattle.compare.specs.Views.{isDeleted, bytesOn};
+ghost use Rattle.compare.specs.Views.{isDeleted};
 ghost use Rattle.compare.specs.Differences.{lacks};
 ghost use Rattle.chunk.specs.Records.{isGone, isFile};
 ghost use Rattle.compare.specs.Heads.{headFrom, pageOf, sizeBy, sizeAs, headBytes};
 use chunk::answer::Looked;
 use chunk::read::part_of;
 use chunk::record::FILE;
-use chunk::record::base_of;
 use chunk::record::file_size;
 use chunk::record::gone_under;
 use chunk::record::is_header;
 use chunk::record::larger;
+use index::walks::end_with;
 use page::geometry::Geometry;
 use page::layout::Layout;
 use page::number::PageNumber;
@@ -58,14 +58,14 @@ fn is_file(r: Record) -> bool
     }
 }
 
-// The largest end of data, with a page that is no header too.
-fn end_with(end: u64, data: u32, r: Record) -> u64
+// The largest end of data, with another page too.
+fn end_after(end: u64, data: u32, r: Record) -> u64
     ensures { λ n. ⌜ n ≡ max (endOf «data» r) end ⌝ }
 {
     match r {
         Record::Other => end,
         Record::Header(_) => end,
-        Record::Data(d) => larger(base_of(data, d.chunk) + (d.count as u64), end),
+        Record::Data(d) => end_with(end, data, d),
     }
 }
 
@@ -81,7 +81,7 @@ pub(crate) fn head_of(dump: &[u8], g: Geometry, order: &[u64]) -> Head
         if is_header(r) {
             return Head::At(p, end);
         }
-        end = end_with(end, g.layout.data, r);
+        end = end_after(end, g.layout.data, r);
         i += 1;
     }
     Head::Nothing

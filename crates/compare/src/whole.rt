@@ -13,9 +13,10 @@ ghost use Rattle.compare.specs.Differences.{differencesOf};
 ghost use Rattle.compare.specs.Heads.{sizeAs};
 ghost use Rattle.compare.specs.Report.{linesOf, joined};
 ghost use Rattle.compare.specs.Sides.{sideOf};
-ghost use Rattle.compare.specs.Lists.{runOf, nextOf, nextIn, sidesReport, listsReport};
+ghost use Rattle.compare.specs.Lists.{nextOf, nextIn, sidesReport, listsReport};
 use crate::answer::Both;
 use crate::answer::Compared;
+use crate::bytes::lesser;
 use crate::head::Size;
 use crate::head::head_of;
 use crate::object::put_differences;
@@ -41,13 +42,6 @@ pub struct Turn {
     pub object: u32,
     pub first: usize,
     pub second: usize,
-}
-
-// The lesser of two numbers.
-fn lesser(a: usize, b: usize) -> usize
-    ensures { λ r. ⌜ r ≡ min a b ⌝ }
-{
-    if a < b { a } else { b }
 }
 
 // The lesser of two objects.
@@ -143,7 +137,7 @@ fn put_reports(
     next
 }
 
-// Writes the whole report, if it fits.
+// Writes the whole report, if it fits. Where nothing differs there is nothing to write, and all bytes are gone over once.
 fn write_reports(
     dump: &[u8],
     g: Geometry,
@@ -172,6 +166,9 @@ fn write_reports(
     );
     if buf.len() < need {
         return Written::Short(need);
+    }
+    if need == 0 {
+        return Written::Bytes(0);
     }
     put_reports(dump, g, order, rows, dump2, g2, order2, rows2, buf, 0);
     Written::Bytes(need)

@@ -32,7 +32,7 @@ behind-same w v i k u h =
     rw e at (sym (getD-drop i w (k - i) 0) ∙ ap (λ (x : List ℕ). getD x (k - i) 0) u ∙ getD-drop i v (k - i) 0)
 
 -- what holds of each number of a list holds of the one at i
-every-get : (P : ℕ → Type 0) (L : List ℕ) (i : ℕ) → Every P L → i < length L → P (getD L i 0)
+pub every-get : (P : ℕ → Type 0) (L : List ℕ) (i : ℕ) → Every P L → i < length L → P (getD L i 0)
 every-get P [] i e h = absurd (not-suc-le-zero h)
 every-get P (x ∷ L) zero e h = e .0
 every-get P (x ∷ L) (suc i) e h = every-get P L i (e .1) (le-of-suc-le-suc h)

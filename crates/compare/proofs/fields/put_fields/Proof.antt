@@ -1,6 +1,5 @@
 -- Field by field. The loop's invariant: the lines of those of the first i fields that differ were put.
 use Prim.Native.Nat.{_≤_, _-_}
-use mathlib.Core.List.{map}
 use native.Mathlib.Nat.{le-antisymm}
 use native.Mathlib.Omega.{arith}
 use borrow.Author.Needs.{needs}

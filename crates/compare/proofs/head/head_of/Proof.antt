@@ -1,13 +1,11 @@
 -- What is found from the first record on is what is found from the next one on, with the largest end so far.
 use mathlib.Core.Path.{_≡_, refl, sym, ap, _∙_}
-use native.Mathlib.Omega.{arith}
-use Prim.Native.Nat.{ℕ, _≤_, _-_, max}
+use Prim.Native.Nat.{_-_}
 use mathlib.Core.List.{map}
-use lib.ListN.{length, drop, getD}
+use lib.ListN.{length, drop}
 use borrow.Author.Needs.{needs}
 use Rattle.page.specs.Records.{isHeader, recordAt}
 use Rattle.sort.specs.Packed.{valueOf}
-use Rattle.chunk.specs.Sizes.{endOf}
 use Rattle.compare.specs.Heads.{headFrom}
 use Rattle.compare.proofs.Heads.{head-none, head-here, head-on}
 use Rattle.compare.proofs.head.head_of.Statement.{statement}
@@ -44,7 +42,7 @@ loop-again c =
     let e = sym (h .is-header .ensures ∙ ap isHeader r) ∙ c .before .if1 .left in
     l .loop .inv
     ∙ head-on says (a .g .layout .«data») (l .loop .end) (a .order .now) (l .loop .i) (v .before .before .loop-test .taken) e
-    ∙ rw (c .end-with .ensures, r)
+    ∙ rw (c .end-after .ensures, r)
 
 returns-2 : tie.Need-returns-2 Inv-loop μ-loop
 returns-2 c =

@@ -1,7 +1,5 @@
 -- By which sides have the object.
-use native.Mathlib.Omega.{arith}
 use borrow.Author.Needs.{needs}
-use Rattle.text.proofs.Putting.{kept}
 use Rattle.compare.proofs.Lining.{lines-first, lines-second}
 use Rattle.compare.proofs.object.put_differences.Statement.{statement}
 use Rattle.compare.proofs.object.put_differences.Tie as tie

@@ -1,6 +1,6 @@
 -- The lines one after the other.
 use borrow.Author.Needs.{needs}
-use Rattle.text.proofs.Putting.{also, kept}
+use Rattle.text.proofs.Putting.{also}
 use Rattle.compare.specs.Lines.{headerLines}
 use Rattle.compare.proofs.object.put_headers.Statement.{statement}
 use Rattle.compare.proofs.object.put_headers.Tie as tie

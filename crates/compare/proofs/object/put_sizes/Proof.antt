@@ -1,7 +1,7 @@
 -- Two lines, if the sizes differ.
 use native.Mathlib.Omega.{arith}
 use borrow.Author.Needs.{needs}
-use Rattle.text.proofs.Putting.{nothing, also, kept}
+use Rattle.text.proofs.Putting.{nothing, also}
 use Rattle.compare.proofs.Lining.{sizes-same, sizes-other}
 use Rattle.compare.proofs.object.put_sizes.Statement.{statement}
 use Rattle.compare.proofs.object.put_sizes.Tie as tie
