@@ -421,7 +421,8 @@ lohenarr_next_answer lohenarr_compare_next(const uint64_t *order1, size_t order1
  * of each, none where a dump has none: the lines object=, only=, deleted= and noheader=
  * (1 or 2), field= (an offset), both size=, and stretch= (of 512 bytes, from 0 on), as
  * far as they apply; no line where nothing differs. Bytes past the text stay as they
- * were. */
+ * were. Where 1024 bytes are lent and 29 for each stretch of the smaller file, the text
+ * is written in one pass, and else measured first. */
 lohenarr_text_answer lohenarr_compare_object(const uint8_t *dump1, size_t dump1_len, lohenarr_geometry geometry1, const uint64_t *order1, size_t order1_len, const uint64_t *copies1, size_t copies1_len, const uint8_t *dump2, size_t dump2_len, lohenarr_geometry geometry2, const uint64_t *order2, size_t order2_len, const uint64_t *copies2, size_t copies2_len, uint32_t object, uint8_t *buf, size_t buf_len);
 
 /* The same of all objects of two prepared dumps, ascending. Of both dumps' refusals the
