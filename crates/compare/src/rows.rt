@@ -10,10 +10,11 @@ ghost use Rattle.page.specs.declared.geometry.Opened.the-variants as opened;
 ghost use Rattle.compare.specs.Prepared as prepared;
 ghost use Rattle.compare.specs.Prepared.{workFor};
 ghost use Rattle.compare.specs.Rows.{rowsIn, copiesIn};
+use crate::head::Size;
+use crate::head::head_of;
 use crate::runs::run_of;
-use chunk::answer::Sized;
+use file::along::Along;
 use file::along::copies_along;
-use file::along::size_along;
 use page::geometry::Geometry;
 use sort::room::clear;
 use sort::rows::key_of;
@@ -51,10 +52,16 @@ fn rows_of(dump: &[u8], g: Geometry, pages: u32, list: &[u64], work: &mut [u64])
     ensures { λ r. ⌜ r ≤ length (now (list .entry)) ⌝ }
     ensures { λ r. ⌜ take r (now (work .exit)) ≡ rowsIn (recordAt g (now (dump .entry))) (g .layout .«data») (now (list .entry)) ⌝ }
 {
-    let s = size_along(dump, g, list);
+    let s = head_of(dump, g, list).size(dump, g);
     match s {
-        Sized::Refused(_, _) => 0,
-        Sized::Size(z, _) => copies_along(dump, g, pages, list, z, work) as usize,
+        Size::Nothing => 0,
+        Size::Bytes(z) => {
+            let a = copies_along(dump, g, list, z, work);
+            match a {
+                Along::Refused(_, _) => 0,
+                Along::Rows(m) => m as usize,
+            }
+        }
     }
 }
 

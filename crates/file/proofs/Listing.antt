@@ -1,5 +1,5 @@
 -- A walk along the pages of a list of words, in place of a chain: word after word, and at the last one it is at its end.
-use Prim.Native.Nat.{ℕ, suc, _+_, _≤_, _<_, max, zero-le}
+use Prim.Native.Nat.{ℕ, suc, _+_, _≤_, _<_}
 use mathlib.Core.Bool.{Bool, true, false}
 use mathlib.Core.List.{List, [], _∷_, map}
 use mathlib.Core.Path.{_≡_, refl, sym, ap, _∙_}
@@ -8,7 +8,7 @@ use native.Mathlib.Omega.{arith}
 use lib.Dec.{eqb, ltb}
 use lib.ListN.{length, drop, getD, drop-of-length-le, length-map}
 use lib.Seq.{drop-cons}
-use borrow.Author.Tests.{ne-eqb, eqb-true, eqb-false, ltb-true, ltb-false}
+use borrow.Author.Tests.{eqb-true, eqb-false, ltb-true, ltb-false, lt-leb, le-ltb}
 use Rattle.page.specs.Lengths.{openedOf}
 use Rattle.page.specs.Numbers.{pageValues}
 use Rattle.page.specs.Records.{isHeader, isData, recordAt}
@@ -17,29 +17,24 @@ use Rattle.page.specs.declared.geometry.Opened.the-variants as opened
 use Rattle.page.specs.declared.record.Data.{Data}
 use Rattle.page.specs.declared.record.Record.{Record}
 use Rattle.page.specs.declared.record.Record.the-variants as said
-use Rattle.page.specs.declared.refusal.Refusal.the-variants.{NoObject, NoHeader}
 use Rattle.page.proofs.Lengths.{opened-pages}
 use Rattle.page.proofs.Searching.{by-test, clash}
 use Rattle.page.proofs.Within.{data-within, page-beyond}
 use Rattle.sort.specs.Packed.{valueOf}
 use Rattle.sort.specs.Room.{inRoom}
-use Rattle.chunk.specs.Lookups.{fileAt}
 use Rattle.chunk.specs.Records.{chunkOf}
-use Rattle.chunk.specs.Sizes.{endOf}
-use Rattle.chunk.specs.declared.answer.Sized.the-variants as sized
 use Rattle.chunk.specs.declared.cut.Cut.{Cut}
 use Rattle.chunk.specs.declared.cut.Cut.the-variants.{Nowhere}
 use Rattle.index.specs.Ahead.{stillNewest}
 use Rattle.index.specs.Chains.{Trace, clean, rec}
 use Rattle.index.specs.Held.{fromList}
-use Rattle.index.specs.Walks.{recordsIn, cutBy, sizeFile, sizeAt, sizeReached, metWith, reach, sizeWalk}
-use Rattle.index.specs.declared.walks.Met.the-variants.{Nothing}
-use Rattle.index.proofs.Chain.Turns.{reach-nothing, reach-headless, reach-here, reach-on}
+use Rattle.index.specs.Walks.{recordsIn, cutBy}
 use Rattle.index.proofs.Walk.Visits.{length-list}
-use Rattle.file.specs.Along.{copiesAlong, metAlong}
+use Rattle.file.specs.Along.{copiesAlong, metAlong, shownBy, alongOn, alongLeft}
 use Rattle.file.specs.Copies.{packedCopy, roomFor, met}
 use Rattle.file.specs.Shows.{isMet}
 use Rattle.file.specs.Table.{chunksIn}
+use Rattle.file.specs.declared.along.Along.the-variants.{Rows}
 use Rattle.file.specs.declared.copy.Copy.{Copy}
 use Rattle.file.proofs.Newest.{over, over-none, over-behind, over-same, over-before, newestOf}
 use Rattle.file.proofs.Shown.{met-shown}
@@ -72,46 +67,6 @@ module _ (list : List ℕ) where
 
   pub from-count : recordsIn (from 0) ≡ length list
   from-count = length-list (map valueOf list) ∙ length-map list valueOf
-
-  -- the size once i words are passed, whose data ends at most there
-  module _ (says : ℕ → Record) (P : ℕ) where
-    pub record Sizing (end i : ℕ) : Type 0 where
-      pub inside : i ≤ length list
-      pub same : sizeWalk says P (from 0) ≡ sizeReached says (reach says P 0 end Nothing i (from i))
-
-    pub size-start : Sizing 0 0
-    unfolding sizeWalk
-    size-start = record { inside = zero-le; same = refl }
-
-    module _ (end i : ℕ) (s : Sizing end i) where
-      abbrev page : ℕ
-      page = valueOf (getD list i 0)
-
-      pub size-nothing : length list ≤ i → i ≡ 0 → sized.Refused NoObject 0 ≡ sizeWalk says P (from 0)
-      unfolding sizeReached
-      size-nothing h z = sym (s .same ∙ ap (sizeReached says) (reach-nothing says P 0 end Nothing i (from i) (from-end i h) z))
-
-      pub size-headless : length list ≤ i → (i ≡ 0 → ⊥) → sized.Refused NoHeader i ≡ sizeWalk says P (from 0)
-      unfolding sizeReached
-      size-headless h z = sym (s .same ∙ ap (sizeReached says) (reach-headless says P 0 end Nothing i (from i) (from-end i h) z))
-
-      module _ (h : i < length list) where
-        pub size-header : isHeader (says page) ≡ true → sizeFile (sizeAt says page end) (fileAt (says page) page (i + 1)) ≡ sizeWalk says P (from 0)
-        unfolding sizeReached
-        size-header k = sym (s .same ∙ ap (sizeReached says) (reach-here says P 0 end Nothing i (from i) page (from (i + 1)) (from-on i h) k))
-
-        on : isHeader (says page) ≡ false → sizeWalk says P (from 0) ≡ sizeReached says (reach says P 0 (max (endOf P (says page)) end) (metWith says P 0 page Nothing) (i + 1) (from (i + 1)))
-        on k = s .same ∙ ap (sizeReached says) (reach-on says P 0 end Nothing i (from i) page (from (i + 1)) (from-on i h) k)
-
-        pub size-other : says page ≡ said.Other → Sizing end (i + 1)
-        size-other k =
-            let z : max (endOf P said.Other) end ≡ end = omega arith in
-            record { inside = omega arith; same = rw (k, z) at (on (rw k refl)) }
-
-        -- no page of data has the chunk number 0: nothing is noted as its copy
-        pub size-data : (d : Data) (e : ℕ) → says page ≡ said.Data d → 0 < d .chunk .0 → e ≡ max (endOf P (said.Data d)) end → Sizing e (i + 1)
-        size-data d e k c f =
-            record { inside = omega arith; same = rw f (rw (k, ne-eqb (d .chunk .0) 0 (λ z. absurd (omega arith))) at (on (rw k refl))) }
 
 -- what is gathered of all copies that are met along a list of pages
 pub along-gathered :
@@ -159,3 +114,19 @@ module _ (says : ℕ → Record) (P size : ℕ) where
       let m = chunksIn P size in
       rw (← met-shown says P m size (fromList pages) true Nowhere)
       (omega (arith, newest-few (met says P m size true Nowhere (fromList pages)), met-few m true Nowhere pages))
+
+-- an accepted dump, a list that is not too long, and room: nothing is refused
+module _
+    (g : Geometry) (dump list : List ℕ) (size n : ℕ) (words : List ℕ) (e : openedOf g (length dump) ≡ opened.Pages n)
+    (few : length list < pageValues)
+    (room : roomFor (length list) ≤ length words)
+  where
+    pub along-rows : alongOn g dump list size (length words) ≡ Rows (length (shownBy g dump list size))
+    unfolding alongOn
+    along-rows = rw (e, lt-leb pageValues (length list) few, le-ltb (length words) (roomFor (length list)) room)
+
+    pub along-left :
+        alongLeft g dump list size words
+        ≡ inRoom (map packedCopy (shownBy g dump list size)) (roomFor (metAlong (recordAt g dump) (g .layout .«data») size (map valueOf list))) words
+    unfolding alongLeft
+    along-left = rw (e, lt-leb pageValues (length list) few, le-ltb (length words) (roomFor (length list)) room)

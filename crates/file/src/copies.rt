@@ -62,7 +62,7 @@ struct Walked {
 }
 
 // How many words so many copies need: a key and a row for each.
-fn room_for(n: usize) -> usize
+pub(crate) fn room_for(n: usize) -> usize
     requires { ⌜ n < 2 ^ 63 ⌝ }
     ensures { λ r. ⌜ r ≡ roomFor n ⌝ }
 {

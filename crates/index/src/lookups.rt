@@ -42,7 +42,7 @@ use page::record::record_at;
 use page::refusal::Refusal;
 
 // The size of the file whose newest header is page h, with the largest end of the data above it.
-pub fn size_file(dump: &[u8], g: Geometry, h: PageNumber, end: u64, visits: u32) -> Sized
+fn size_file(dump: &[u8], g: Geometry, h: PageNumber, end: u64, visits: u32) -> Sized
     ensures { λ s. ⌜ s ≡ sizeFile (sizeAt (recordAt g (now (dump .entry))) (h .0) end) (fileAt (recordAt g (now (dump .entry)) (h .0)) (h .0) visits) ⌝ }
 {
     let r = record_at(dump, g, h);
