@@ -5,8 +5,8 @@ use mathlib.Core.Path.{_≡_, refl, sym, ap, _∙_}
 use native.Mathlib.Nat.{not-suc-le-zero, le-of-suc-le-suc}
 use native.Mathlib.Numerals.{add-one}
 use native.Mathlib.Omega.{arith}
-use lib.ListN.{length, take, drop, getD, set, replicate, getD-replicate, take-append-drop}
-use lib.Seq.{take-suc, drop-cons, append-snoc, set-at, length-take-le, take-at, take-all, take-append-le, take-append-add, drop-append-add, getD-append-add, drop-drop}
+use lib.ListN.{length, take, drop, getD, set, replicate, getD-replicate, take-append-drop, drop-of-length-le}
+use lib.Seq.{take-suc, drop-cons, append-snoc, set-at, getD-at, length-take-le, take-at, drop-at, take-all, take-append-le, take-append-add, drop-append-add, getD-append-add, drop-drop}
 use lib.Dec.{leb}
 use borrow.Author.Tests.{leb-true, leb-false}
 use Rattle.page.proofs.Searching.{by-test}
@@ -24,6 +24,19 @@ laid-more t d i hd ht =
     ∙ sym (append-snoc (take i t) (getD t i 0) (drop (suc i) d))
     ∙ ap (λ (r : List ℕ). r ++ drop (suc i) d) (sym (take-suc t i 0 ht))
     ∙ rw add-one
+
+-- the next is as it was
+pub laid-next : (t d : List ℕ) (i : ℕ) → i ≤ length t → i < length d → getD (laid t d i) i 0 ≡ getD d i 0
+laid-next t d i h k =
+    ap (λ (r : List ℕ). getD (take i t ++ r) i 0) (drop-cons d i 0 k) ∙ getD-at (take i t) (getD d i 0) (drop (suc i) d) 0 i (length-take-le i t h)
+
+-- and so are all behind those that are laid
+pub laid-rest : (t d : List ℕ) (i : ℕ) → i ≤ length t → drop i (laid t d i) ≡ drop i d
+laid-rest t d i h = drop-at (take i t) (drop i d) i (length-take-le i t h)
+
+-- once all are laid, they are the list
+pub laid-all : (t d : List ℕ) (i : ℕ) → length t ≤ i → length d ≤ i → laid t d i ≡ t
+laid-all t d i h k = rw (take-all i t h, drop-of-length-le d k) (append-nil t)
 
 -- a buffer's own front laid over it changes nothing, whatever stands behind it
 pub front-laid : (d t : List ℕ) (i : ℕ) → i ≤ length d → laid (take i d ++ t) d i ≡ d

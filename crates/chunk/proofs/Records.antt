@@ -6,13 +6,14 @@ use mathlib.Core.Path.{_≡_, refl, sym, _∙_}
 use native.Mathlib.Omega.{arith}
 use lib.Dec.{eqb, ltb}
 use borrow.Author.Tests.{eq-eqb, ne-eqb, eqb-true}
+use Rattle.page.specs.Numbers.{badObject}
 use Rattle.page.specs.Records.{recordAt}
 use Rattle.page.specs.Tags.{namesAt}
 use Rattle.page.specs.declared.geometry.Geometry.{Geometry}
 use Rattle.page.specs.declared.record.Record.{Record}
 use Rattle.page.specs.declared.record.Record.the-variants.{Other, Header, Data}
 use Rattle.page.proofs.Searching.{clash, by-test}
-use Rattle.page.proofs.Within.{header-within, data-within}
+use Rattle.page.proofs.Within.{object-good, header-within, data-within}
 use Rattle.chunk.specs.Records.{ageOf, objectOf, isOf}
 use Rattle.chunk.specs.Takes.{seenBy}
 use Rattle.chunk.specs.declared.takes.Takes.{Takes}
@@ -35,6 +36,15 @@ pub other-object : (o : ℕ) (r : Record) → eqb (objectOf r) o ≡ false → i
 other-object o Other e = refl
 other-object o (Header h) e = e
 other-object o (Data d) e = e
+
+-- the object of a record has an id
+pub record-good : (g : Geometry) (dump : List ℕ) (o p : ℕ) → isOf o (recordAt g dump p) ≡ true → badObject o ≡ false
+record-good g dump o p = go (recordAt g dump p) refl
+  where
+    go : (r : Record) → recordAt g dump p ≡ r → isOf o r ≡ true → badObject o ≡ false
+    go Other e t = clash (cc)
+    go (Header h) e t = rw (eqb-true (h .object .0) o t) at (object-good (h .object .0) (header-within g dump p h e .object))
+    go (Data d) e t = rw (eqb-true (d .object .0) o t) at (object-good (d .object .0) (data-within g dump p d e .object))
 
 -- a page whose tags do not name object o is no record of it, and so not where only some are taken
 module _ (g : Geometry) (dump : List ℕ) (p o : ℕ) (t : namesAt g dump p o ≡ false) where

@@ -2,9 +2,9 @@
 -- exactly what differs.
 use Prim.Native.Nat.{ℕ}
 use mathlib.Core.Bool.{Bool, true, false}
-use mathlib.Core.List.{List, [], _∷_, _++_}
+use mathlib.Core.List.{List, [], _∷_}
 use mathlib.Core.Logic.{inl, inr}
-use mathlib.Core.Path.{_≡_, refl, sym, ap, _∙_}
+use mathlib.Core.Path.{_≡_, refl, sym, _∙_}
 use lib.ListN.{length, take, length-append, length-map}
 use lib.Seq.{take-at}
 use Rattle.page.specs.Lengths.{openedOf}
@@ -12,13 +12,13 @@ use Rattle.page.specs.Records.{recordAt}
 use Rattle.page.specs.declared.geometry.Geometry.{Geometry}
 use Rattle.page.specs.declared.geometry.Opened.{Opened}
 use Rattle.page.specs.declared.geometry.Opened.the-variants as opened
-use Rattle.page.proofs.Searching.{by-test, clash}
+use Rattle.page.proofs.Searching.{clash}
 use Rattle.sort.specs.Packed.{packed}
 use Rattle.sort.proofs.Ascending.{In}
 use Rattle.chunk.proofs.Living.{objectIds}
 use Rattle.compare.specs.Lists.{listsReport}
 use Rattle.compare.specs.Prepared as prepared
-use Rattle.compare.specs.Prepared.{recordCount, recordsIn, recordsOf, orderOf, copiesOf, isRoom, preparedOn, orderLeft, copiesLeft}
+use Rattle.compare.specs.Prepared.{recordsIn, recordsOf, orderOf, copiesOf, isRoom, preparedOn, orderLeft, copiesLeft}
 use Rattle.compare.specs.Report.{joined, wholeReport}
 use Rattle.compare.specs.declared.prepare.Prepared.the-variants.{Records, Refused}
 use Rattle.compare.proofs.Filling.{copies-length}

@@ -1,15 +1,14 @@
 -- How long the report of an object is at most: a few lines, and one for each stretch. A line has its key, the digits of a number and its end.
 use Prim.Native.Nat.{ℕ, zero, suc, _+_, _*_, _^_, _≤_, _<_, min, zero-le}
 use mathlib.Core.Bool.{Bool, true, false, _&&_}
-use mathlib.Core.List.{List, [], _∷_, _++_, map}
+use mathlib.Core.List.{List, [], map}
 use mathlib.Core.Option.{Option, none, some}
-use mathlib.Core.Path.{_≡_, refl, sym, ap, _∙_}
+use mathlib.Core.Path.{_≡_, sym, ap, _∙_}
 use native.Mathlib.Nat.{suc-mul}
 use native.Mathlib.Numerals.{add-one}
 use native.Mathlib.Omega.{arith}
 use lib.Dec.{eqb}
 use lib.ListN.{length, length-append}
-use Rattle.page.specs.Choice.{pick}
 use Rattle.page.specs.Records.{recordAt}
 use Rattle.page.specs.declared.geometry.Geometry.{Geometry}
 use Rattle.page.proofs.Searching.{by-test}
@@ -18,8 +17,8 @@ use Rattle.text.specs.Lines.{lineOf}
 use Rattle.text.specs.Quoted.{bytesOf}
 use Rattle.text.proofs.Lines.{line-length}
 use Rattle.compare.specs.Bounds.{lineBytes, mostOf, Small}
-use Rattle.compare.specs.Differences.{Difference, Side, first, second, only, deleted, headless, field, sizes, stretch, onOne, lacks, fieldDiffers, fieldsOf, sizesOf, stretchDiffers, stretchesIn, stretchesTo, stretchesOf, differencesOf}
-use Rattle.compare.specs.Fields.{fields, placeOf, lengthOf}
+use Rattle.compare.specs.Differences.{Difference, Side, first, second, only, deleted, headless, field, stretch, onOne, lacks, fieldDiffers, fieldsOf, sizesOf, stretchDiffers, stretchesIn, stretchesTo, stretchesOf, differencesOf}
+use Rattle.compare.specs.Fields.{fields, placeOf}
 use Rattle.compare.specs.Heads.{headFrom, sizeBy, sizeAs}
 use Rattle.compare.specs.Report.{linesOf, joined, sideNumber}
 use Rattle.compare.specs.Sides.{sideOf}

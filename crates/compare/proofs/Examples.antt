@@ -1,7 +1,7 @@
 -- The shelf dump W compared, computed from the definitions, letter by letter: with a changed W, which has another size and another mode in its newest
 -- header, another byte in a copy, and a record of an object more; a W whose object is deleted with one whose object has no header; and W with itself.
 -- What the pages say is computed first, and the lookups from that, so that bytes are looked at only where they are compared.
-use Prim.Native.Nat.{ℕ, _+_}
+use Prim.Native.Nat.{ℕ}
 use mathlib.Core.Bool.{Bool, true, false, not}
 use mathlib.Core.List.{List, [], _∷_, _++_}
 use mathlib.Core.Option.{Option, none, some}

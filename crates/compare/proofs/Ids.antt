@@ -10,10 +10,9 @@ use borrow.Author.Tests.{eqb-true, eqb-false, eq-eqb}
 use lib.Dec.{eqb}
 use Rattle.page.proofs.Searching.{by-test}
 use Rattle.sort.specs.Arranged.{timesIn}
-use Rattle.sort.proofs.Ascending.{In, Ascends, ascends-in, same-members}
+use Rattle.sort.proofs.Ascending.{In, Ascends, ascends-in, ascends-lower, same-members}
 use Rattle.sort.proofs.Times.{Once, times-joined, in-times, times-in, times-out, joined-in, in-joined, ascends-once, in-arranged, arranged-in, once-ascends}
 use Rattle.compare.specs.Report.{others, inEither}
-use Rattle.compare.proofs.Joining.{ascends-lower}
 
 -- a list that ascends ascends from every number that is not above its members
 ascends-from : (b c : ℕ) (L : List ℕ) → Ascends c L → ((x : ℕ) → In x L → b ≤ x) → Ascends b L

@@ -2,11 +2,11 @@
 use Prim.Native.Nat.{ℕ, suc, _*_, _≤_, _<_}
 use mathlib.Core.List.{List, [], _∷_, _++_, map, map-append}
 use mathlib.Core.Logic.{_⊎_, inl, inr, ⊎-elim}
-use mathlib.Core.Path.{_≡_, refl, sym, ap, ap₂, _∙_}
+use mathlib.Core.Path.{_≡_, refl, ap₂, _∙_}
 use native.Mathlib.Nat.{mul-le-mul-right, suc-mul}
 use native.Mathlib.Omega.{arith}
 use lib.ListN.{length}
-use Rattle.sort.proofs.Ascending.{In, Ascends}
+use Rattle.sort.proofs.Ascending.{In, Ascends, ascends-lower}
 use Rattle.sort.proofs.Times as times
 use Rattle.compare.specs.Report.{joined}
 
@@ -17,40 +17,10 @@ pub length-none : {A : Type 0} (L : List A) → length L ≡ 0 → L ≡ []
 length-none [] e = refl
 length-none (x ∷ L) e = absurd (omega arith)
 
--- a list that ascends from a number ascends from a lower one
-pub ascends-lower : (a b : ℕ) (L : List ℕ) → a ≤ b → Ascends b L → Ascends a L
-ascends-lower a b [] h s = tt
-ascends-lower a b (x ∷ L) h s = (omega (arith, s .0), s .1)
-
 -- two lists that ascend, the second from where the first ends
 pub ascends-on : (a b : ℕ) (L M : List ℕ) → a ≤ b → Ascends a L → ((x : ℕ) → In x L → x < b) → Ascends b M → Ascends a (L ++ M)
 ascends-on a b [] M h s f t = ascends-lower a b M h t
 ascends-on a b (x ∷ L) M h s f t = (s .0, ascends-on (suc x) b L M (f x (inl refl)) (s .1) (λ y i. f y (inr i)) t)
-
--- ---- the numbers that a function makes of a list
-
--- a number that it makes of a member
-pub record Made (f : ℕ → ℕ) (L : List ℕ) (y : ℕ) : Type 0 where
-  pub from : ℕ
-  pub there : In from L
-  pub made : f from ≡ y
-
-module _ (f : ℕ → ℕ) where
-  pub in-map : (x : ℕ) (L : List ℕ) → In x L → In (f x) (map f L)
-  in-map x [] i = absurd i
-  in-map x (y ∷ L) (inl e) = inl (ap f e)
-  in-map x (y ∷ L) (inr i) = inr (in-map x L i)
-
-  pub map-in : (y : ℕ) (L : List ℕ) → In y (map f L) → Made f L y
-  map-in y [] i = absurd i
-  map-in y (x ∷ L) (inl e) = record { from = x; there = inl refl; made = sym e }
-  map-in y (x ∷ L) (inr i) = let m = map-in y L i in record { from = m .from; there = inr (m .there); made = m .made }
-
-  -- what another makes of those
-  pub map-made : (g h : ℕ → ℕ) (L : List ℕ) → ((x : ℕ) → In x L → g (f x) ≡ h x) → map g (map f L) ≡ map h L
-  map-made g h [] e = refl
-  map-made g h (x ∷ L) e =
-      ap₂ {C = List ℕ} (λ u v. u ∷ v) (e x (inl refl)) (map-made g h L (λ y i. e y (inr i)))
 
 -- ---- what each of a list gives
 

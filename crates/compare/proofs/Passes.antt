@@ -1,6 +1,6 @@
 -- Which numbers pass a test: some does exactly where the count is above 0; the ids of those that pass are exactly their ids, ascending where the ids
 -- rise.
-use Prim.Native.Nat.{ℕ, zero, suc, _+_, _≤_, _<_, zero-le}
+use Prim.Native.Nat.{ℕ, zero, suc, _≤_, _<_, zero-le}
 use mathlib.Core.Bool.{Bool, true, false}
 use mathlib.Core.List.{List, [], _∷_, _++_}
 use mathlib.Core.Logic.{inl, inr}

@@ -14,9 +14,8 @@ use Rattle.page.specs.Numbers.{badObject}
 use Rattle.page.specs.Records.{recordAt}
 use Rattle.page.specs.declared.geometry.Geometry.{Geometry}
 use Rattle.page.specs.declared.record.Record.{Record}
-use Rattle.page.specs.declared.record.Record.the-variants.{Other, Header, Data}
-use Rattle.page.proofs.Searching.{clash, by-test}
-use Rattle.page.proofs.Within.{object-within, object-good, header-within, data-within}
+use Rattle.page.proofs.Searching.{by-test}
+use Rattle.page.proofs.Within.{object-within}
 use Rattle.sort.specs.Arranged.{timesIn}
 use Rattle.sort.proofs.Ascending.{In, Ascends}
 use Rattle.sort.proofs.Times.{in-times, times-in}
@@ -24,7 +23,7 @@ use Rattle.chunk.specs.Newest.{records}
 use Rattle.chunk.specs.Records.{isOf}
 use Rattle.chunk.proofs.Gathering.{since-none, since-skip}
 use Rattle.chunk.proofs.Living.{objectIds, record-some, objects-ascend, objects-in, objects-of}
-use Rattle.chunk.proofs.Records.{of-object}
+use Rattle.chunk.proofs.Records.{of-object, record-good}
 use Rattle.compare.specs.Views.{View, viewOf}
 use Rattle.compare.specs.Differences.{differencesOf}
 use Rattle.compare.specs.Report.{joined, objectLines, idsIn, objectReport, wholeReport}
@@ -48,22 +47,13 @@ module _ (g : Geometry) (dump : List ℕ) (n o : ℕ) where
   abbrev ids : List ℕ
   ids = objectIds says n
 
-  -- the object of a record has an id
-  record-good : (p : ℕ) → isOf o (says p) ≡ true → badObject o ≡ false
-  record-good p t = go (says p) refl t
-    where
-      go : (r : Record) → says p ≡ r → isOf o r ≡ true → badObject o ≡ false
-      go Other e t = clash (cc)
-      go (Header h) e t = rw (eqb-true (h .object .0) o t) at (object-good (h .object .0) (header-within g dump p h e .object))
-      go (Data d) e t = rw (eqb-true (d .object .0) o t) at (object-good (d .object .0) (data-within g dump p d e .object))
-
-  -- which is not 0
+  -- the object of a record is not 0
   record-named : (p : ℕ) → isOf o (says p) ≡ true → o ≡ 0 → ⊥
-  record-named p t z = omega (arith, object-within o (record-good p t) .least)
+  record-named p t z = omega (arith, object-within o (record-good g dump o p t) .least)
 
   -- so every id that is listed is one
   pub listed-good : In o ids → badObject o ≡ false
-  listed-good i = let w = objects-of says n o i .1 in record-good (w .page) (w .passes)
+  listed-good i = let w = objects-of says n o i .1 in record-good g dump o (w .page) (w .passes)
 
   -- an object whose id is not listed has no record
   pub unlisted-none : (In o ids → ⊥) → records says o n ≡ 0

@@ -12,12 +12,11 @@ use lib.Seq.{take-at, drop-at}
 use Rattle.page.specs.declared.geometry.Geometry.{Geometry}
 use Rattle.sort.specs.Arranged.{Every}
 use Rattle.sort.specs.Packed.{keyOf}
-use Rattle.sort.proofs.Ascending.{In, Ascends, ascends-in}
+use Rattle.sort.proofs.Ascending.{In, Ascends, ascends-in, ascends-lower}
 use Rattle.text.proofs.Order.{le-or-lt}
 use Rattle.compare.specs.Report.{joined, inEither}
 use Rattle.compare.specs.Lists.{runOf, nextOf, sidesReport, reportsTo}
 use Rattle.compare.proofs.Ids.{either-left, either-less, either-both, either-more}
-use Rattle.compare.proofs.Joining.{ascends-lower}
 use Rattle.compare.proofs.Listing.{reports-turn}
 use Rattle.compare.proofs.Running.{run-other, run-none, run-keyed}
 

@@ -27,6 +27,11 @@ ascends-in b x [] a i = absurd i
 ascends-in b x (y ∷ L) a (inl e) = omega (arith, a .0)
 ascends-in b x (y ∷ L) a (inr i) = omega (arith, a .0, ascends-in (suc y) x L (a .1) i)
 
+-- it ascends from any lower number too
+pub ascends-lower : (b c : ℕ) (L : List ℕ) → b ≤ c → Ascends c L → Ascends b L
+ascends-lower b c [] h a = tt
+ascends-lower b c (x ∷ L) h a = (omega (arith, a .0), a .1)
+
 -- the first of two ascending lists with the same members is the same, and so are the rests
 pub same-members : (b : ℕ) (L M : List ℕ) → Ascends b L → Ascends b M → ((x : ℕ) → In x L → In x M) → ((x : ℕ) → In x M → In x L) → L ≡ M
 same-members b [] [] a c f g = refl

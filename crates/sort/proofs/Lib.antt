@@ -1,6 +1,9 @@
 pub mod Arranging
 pub mod Ascending
+pub mod Places
+pub mod Making
 pub mod Splitting
 pub mod Packing
 pub mod Clearing
 pub mod Times
+pub mod Searching

@@ -1,6 +1,6 @@
 -- The children's rows: a row for each place of an object that is live and not the root, and for no other. No two are the same, since each has its
 -- place as its value; so they ascend when they are sorted.
-use Prim.Native.Nat.{ℕ, _-_, _<_}
+use Prim.Native.Nat.{ℕ, _<_}
 use mathlib.Core.Bool.{Bool, true, false, not, _&&_}
 use mathlib.Core.List.{List}
 use mathlib.Core.Path.{_≡_, refl, sym, ap, _∙_}
@@ -17,14 +17,14 @@ use Rattle.page.proofs.Layouts.{and-left, and-right}
 use Rattle.sort.specs.Packed.{wordValues, packed, keyOf, valueOf}
 use Rattle.sort.proofs.Ascending.{Ascends}
 use Rattle.sort.proofs.Packing.{packed-key, packed-value}
+use Rattle.sort.proofs.Places.{at-in, arranged-sorted}
 use Rattle.chunk.specs.Live.{passed, idsOf}
 use Rattle.chunk.specs.Records.{isGone}
 use Rattle.chunk.proofs.Living.{ids-of, ids-ascend-below}
 use Rattle.tree.specs.Children.{isChild, childRow, childRows}
 use Rattle.tree.specs.Heads.{Heads, objectAt, saidAt}
 use Rattle.tree.specs.Objects.{root, parentIn}
-use Rattle.tree.specs.Search.{Sorted}
-use Rattle.tree.proofs.Places.{at-in, arranged-sorted}
+use Rattle.sort.specs.Search.{Sorted}
 
 module _ (says : ℕ → Record) (heads : List ℕ) (j : ℕ) where
   -- the root is passed over

@@ -12,15 +12,16 @@ use lib.ListN.{length, getD, length-map}
 use Rattle.page.specs.declared.record.Record.{Record}
 use Rattle.sort.specs.Packed.{wordValues, packed, keyOf, valueOf}
 use Rattle.sort.proofs.Ascending.{In}
+use Rattle.sort.proofs.Making.{map-at}
 use Rattle.sort.proofs.Packing.{packed-key, packed-value}
+use Rattle.sort.proofs.Places.{in-at, at-in, ascends-at}
 use Rattle.chunk.specs.Live.{liveIds}
 use Rattle.chunk.specs.Records.{isGone}
 use Rattle.chunk.proofs.Living.{live-in}
 use Rattle.text.proofs.Order.{le-or-lt}
 use Rattle.tree.specs.Heads.{objectAt, saidAt, Heads}
 use Rattle.tree.specs.Objects.{headOf, pageOf, parentOf, standOf, standBy, parentIn}
-use Rattle.tree.specs.Search.{Sorted}
-use Rattle.tree.proofs.Places.{in-at, at-in, map-at, ascends-at}
+use Rattle.sort.specs.Search.{Sorted}
 use Rattle.tree.proofs.Standing.{head-below, parent-head, stand-head}
 
 module _ (says : ℕ → Record) (n : ℕ) (heads : List ℕ) (w : Heads says n heads) where

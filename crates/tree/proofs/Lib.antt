@@ -1,5 +1,4 @@
 -- lists of numbers, by their members and by their places
-pub mod Places
 pub mod Lists
 pub mod Positions
 pub mod Fronts

@@ -1,16 +1,16 @@
 -- Laws of `keep`, `map` and `each`. What is kept of a list is its members that pass, in their order, so that a kept part of an ascending list
--- ascends. What each of a list is made, or gives, has exactly the members that one of them is made or gives. All go through joined lists part by part.
+-- ascends. What each of a list gives has exactly the members that one of them gives. All go through joined lists part by part.
 use Prim.Native.Nat.{ℕ, suc, _+_, _≤_, _<_, zero-le}
 use mathlib.Core.Bool.{Bool, true, false, _&&_}
-use mathlib.Core.List.{List, [], _∷_, _++_, map, append-nil}
+use mathlib.Core.List.{List, [], _∷_, _++_, map, append-nil, map-append}
 use mathlib.Core.Logic.{_⊎_, inl, inr, ⊎-elim}
-use mathlib.Core.Path.{_≡_, refl, sym, ap, _∙_}
+use mathlib.Core.Path.{_≡_, refl, ap, _∙_}
 use native.Mathlib.Numerals.{add-one}
 use native.Mathlib.Omega.{arith}
 use lib.ListN.{length, getD, take}
 use lib.Seq.{take-suc}
 use Rattle.page.proofs.Searching.{by-test}
-use Rattle.sort.proofs.Ascending.{In, Ascends}
+use Rattle.sort.proofs.Ascending.{In, Ascends, ascends-lower}
 use Rattle.tree.specs.Paths.{keep, each}
 
 -- x is in a list of anything
@@ -61,11 +61,6 @@ module _ {A : Type 0} where
 
 -- ---- what is kept of numbers
 
--- a list that ascends from above b ascends from b
-pub ascends-lower : (b c : ℕ) (L : List ℕ) → b ≤ c → Ascends c L → Ascends b L
-ascends-lower b c [] h a = tt
-ascends-lower b c (x ∷ L) h a = (omega (arith, a .0), a .1)
-
 module _ (t : ℕ → Bool) where
   -- a member that passes is kept
   pub keep-in : (x : ℕ) (L : List ℕ) → In x L → t x ≡ true → In x (keep t L)
@@ -97,24 +92,7 @@ module _ (t : ℕ → Bool) where
 
 -- ---- what each of a list is made
 
--- of two lists, one behind the other
-pub map-join : {A B : Type 0} (f : A → B) (L M : List A) → map f (L ++ M) ≡ map f L ++ map f M
-map-join f [] M = refl
-map-join f (x ∷ L) M = ap (λ r. f x ∷ r) (map-join f L M)
-
 module _ (f : ℕ → ℕ) where
-  -- what a member is made is there
-  pub map-in : (x : ℕ) (L : List ℕ) → In x L → In (f x) (map f L)
-  map-in x [] i = absurd i
-  map-in x (y ∷ L) (inl e) = inl (ap f e)
-  map-in x (y ∷ L) (inr i) = inr (map-in x L i)
-
-  -- and nothing else is
-  pub map-of : (y : ℕ) (L : List ℕ) → In y (map f L) → (x : ℕ) × In x L × (f x ≡ y)
-  map-of y [] i = absurd i
-  map-of y (x ∷ L) (inl e) = (x, inl refl, sym e)
-  map-of y (x ∷ L) (inr i) = let w = map-of y L i in (w .0, inr (w .1), w .2)
-
   -- what is kept of it is what is made of those that are kept
   pub map-keep : (t : ℕ → Bool) (L : List ℕ) → keep t (map f L) ≡ map f (keep (λ x. t (f x)) L)
   unfolding keep
@@ -129,11 +107,6 @@ module _ (f : ℕ → ℕ) where
       let r : Ascends (suc (f x)) (map f (keep t L)) = kept-ascends t (suc (f x)) L (a .1) in
       by-test (t x) _ (λ u. rw u (a .0, r)) (λ u. rw u (ascends-lower b (suc (f x)) (map f (keep t L)) (omega (arith, a .0)) r))
 
-  -- two ways to make it that agree on the members
-  pub map-same : (g h : ℕ → ℕ) (L : List ℕ) → ((x : ℕ) → In x L → g (f x) ≡ h x) → map g (map f L) ≡ map h L
-  map-same g h [] e = refl
-  map-same g h (x ∷ L) e = rw (e x (inl refl)) (ap (λ (r : List ℕ). h x ∷ r) (map-same g h L (λ y i. e y (inr i))))
-
 -- what is made of the first of a list, where some are kept
 module _ (f : ℕ → ℕ) (t : ℕ → Bool) (L : List ℕ) (i : ℕ) (h : i < length L) where
   -- what the first i give
@@ -143,7 +116,7 @@ module _ (f : ℕ → ℕ) (t : ℕ → Bool) (L : List ℕ) (i : ℕ) (h : i < 
   -- one more gives what it gives by itself
   made-step : made (i + 1) ≡ made i ++ map f (keep t (getD L i 0 ∷ []))
   made-step =
-      rw (add-one, take-suc L i 0 h, keep-join t (take i L) (getD L i 0 ∷ [])) (map-join f (keep t (take i L)) (keep t (getD L i 0 ∷ [])))
+      rw (add-one, take-suc L i 0 h, keep-join t (take i L) (getD L i 0 ∷ [])) (map-append f (keep t (take i L)) (keep t (getD L i 0 ∷ [])))
 
   -- nothing, if it is not kept
   pub made-pass : t (getD L i 0) ≡ false → made (i + 1) ≡ made i

@@ -13,7 +13,9 @@ use Rattle.page.specs.declared.record.Record.{Record}
 use Rattle.page.proofs.Searching.{by-test}
 use Rattle.sort.specs.Packed.{wordValues, packed, keyOf, valueOf}
 use Rattle.sort.proofs.Ascending.{same-members}
+use Rattle.sort.proofs.Making.{in-map, map-in, map-made}
 use Rattle.sort.proofs.Packing.{packed-key, packed-value}
+use Rattle.sort.proofs.Places.{at-in}
 use Rattle.chunk.specs.Live.{liveIds}
 use Rattle.chunk.specs.Records.{isGone}
 use Rattle.chunk.proofs.Living.{live-of, live-ids-ascend}
@@ -26,8 +28,7 @@ use Rattle.tree.specs.Rows.{numberOf, otherRows}
 use Rattle.tree.specs.Tree.{isIn, others}
 use Rattle.tree.specs.Ways.{reasonOf}
 use Rattle.tree.proofs.HeadRows.{row-live}
-use Rattle.tree.proofs.Lists.{keep-twice, keep-in, keep-of, map-in, map-of, map-keep, kept-ascends, map-same, made-pass, made-more}
-use Rattle.tree.proofs.Places.{at-in}
+use Rattle.tree.proofs.Lists.{keep-twice, keep-in, keep-of, map-keep, kept-ascends, made-pass, made-more}
 use Rattle.tree.proofs.Settled.{settled-reason}
 use Rattle.tree.proofs.Standing.{head-below}
 
@@ -45,9 +46,9 @@ module _ (says : ℕ → Record) (n : ℕ) (heads : List ℕ) (w : Headed says n
       (kept-ascends keyOf here 0 heads (w .right .ascend))
       (live-ids-ascend says n)
       (λ x i.
-      let r = map-of keyOf x (keep here heads) i in
-      let k = keep-of here (r .0) heads (r .1) in
-      rw (r .2) at (row-live says n heads (w .right) (r .0) (k .0) (not-true _ (k .1))))
+      let r = map-in keyOf x (keep here heads) i in
+      let k = keep-of here (r .from) heads (r .there) in
+      rw (r .made) at (row-live says n heads (w .right) (r .from) (k .0) (not-true _ (k .1))))
       (λ x i.
       let l = live-of says n x i in
       let p = l .header in
@@ -55,7 +56,7 @@ module _ (says : ℕ → Record) (n : ℕ) (heads : List ℕ) (w : Headed says n
       let e : keyOf (packed x p) ≡ x = packed-key x p b in
       let v : valueOf (packed x p) ≡ p = packed-value x p b in
       rw e at
-      (map-in keyOf (packed x p) (keep here heads)
+      (in-map keyOf (packed x p) (keep here heads)
       (keep-in here (packed x p) heads (w .right .all x p (l .newest-header)) (rw (v, l .kept)))))
 
   module _ (names : ℕ → List ℕ) where
@@ -74,7 +75,7 @@ module _ (says : ℕ → Record) (n : ℕ) (heads : List ℕ) (w : Headed says n
     rows-kept =
         let g : ℕ → ℕ = λ o. packed (numberOf (reasonOf says n o)) (pageOf says n o) in
         ap (map g) others-kept
-        ∙ map-same keyOf g (otherRow says names n) (keep (isOther says names n) heads)
+        ∙ map-made keyOf g (otherRow says names n) (keep (isOther says names n) heads)
         (λ row i. rw (w .right .right row (keep-of (isOther says names n) row heads i .0)))
 
 -- ---- whether an object is in it

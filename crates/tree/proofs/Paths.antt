@@ -6,7 +6,7 @@
 -- depth, so that an object's way passes one of them at most, and a child is not below itself.
 use Prim.Native.Nat.{ℕ, zero, suc, _+_, _≤_, _<_, zero-le}
 use mathlib.Core.Bool.{true, false, not}
-use mathlib.Core.List.{List, [], _∷_, _++_, map, append-assoc, append-nil}
+use mathlib.Core.List.{List, [], _∷_, _++_, map, append-assoc, append-nil, map-append}
 use mathlib.Core.Logic.{_⊎_, inl, inr, ⊎-elim}
 use mathlib.Core.Option.{none}
 use mathlib.Core.Path.{_≡_, refl, sym, ap, _∙_}
@@ -25,7 +25,7 @@ use Rattle.tree.specs.Objects.{root, parentOf, standOf, isStanding}
 use Rattle.tree.specs.Paths.{Entry, each, mostDepth, childrenOf, stepTo, entryOf, under, listed}
 use Rattle.tree.specs.Ways.{goesOn, up}
 use Rattle.tree.specs.Tree.{isIn}
-use Rattle.tree.proofs.Lists.{Has, keep-in, keep-of, keep-ascends, each-in, each-of, map-join}
+use Rattle.tree.proofs.Lists.{Has, keep-in, keep-of, keep-ascends, each-in, each-of}
 use Rattle.tree.proofs.Standing.{standing-live, goes-on, on-goes}
 use Rattle.sort.proofs.Times.{times-joined, times-out}
 use Rattle.tree.proofs.Ways.{up-first}
@@ -263,7 +263,7 @@ module _ (o : ℕ) where
 
   -- in a list joined of two as often as in both
   times-join : (L M : List Entry) → timesListed o (L ++ M) ≡ timesListed o L + timesListed o M
-  times-join L M = ap (timesIn o) (map-join (λ e. e .object) L M) ∙ times-joined o (objectsOf L) (objectsOf M)
+  times-join L M = ap (timesIn o) (map-append (λ e. e .object) L M) ∙ times-joined o (objectsOf L) (objectsOf M)
 
   -- not once where it is not in the list
   times-none : (L : List Entry) → isIn o L ≡ false → timesListed o L ≡ 0

@@ -13,7 +13,9 @@ use Rattle.page.specs.declared.record.Record.{Record}
 use Rattle.page.proofs.Layouts.{and-right}
 use Rattle.sort.specs.Packed.{wordValues, packed, keyOf, valueOf}
 use Rattle.sort.proofs.Ascending.{In, Ascends, same-members}
+use Rattle.sort.proofs.Making.{map-at}
 use Rattle.sort.proofs.Packing.{packed-value}
+use Rattle.sort.proofs.Places.{in-at, at-in, ascends-at, at-ascends}
 use Rattle.text.proofs.Order.{le-or-lt}
 use Rattle.chunk.specs.Live.{liveIds}
 use Rattle.chunk.specs.Records.{isGone, isOf}
@@ -23,12 +25,11 @@ use Rattle.tree.specs.Heads.{Heads, objectAt, saidAt}
 use Rattle.tree.specs.Objects.{parentOf, parentIn}
 use Rattle.tree.specs.Paths.{childrenOf}
 use Rattle.tree.specs.Rows.{mostKey}
-use Rattle.tree.specs.Search.{Sorted, Parted}
+use Rattle.sort.specs.Search.{Sorted, Parted}
 use Rattle.tree.proofs.Entries.{children-sorted, children-ascend, child-at, is-child, child-is}
 use Rattle.tree.proofs.HeadRows.{parent-at, objects-rise, head-stands, row-live}
 use Rattle.tree.proofs.Lists.{keep-ascends}
 use Rattle.tree.proofs.Paths.{child-of, child-in}
-use Rattle.tree.proofs.Places.{in-at, at-in, map-at, ascends-at, at-ascends}
 use Rattle.tree.proofs.Standing.{head-below, head-of, parent-head}
 
 -- where the rows of a directory's entries begin and end, and which they are

@@ -6,7 +6,7 @@ ghost use Rattle.sort.specs.Packed.{valueOf};
 ghost use Rattle.tree.specs.Climbs.{kindBy, codePlaces, IsCode, FirstWays, SomeWays, Raised, Doubled, Ways, TellsListed, reasonIn};
 ghost use Rattle.tree.specs.Heads.{Heads};
 ghost use Rattle.tree.specs.Objects.{standBy, saysBy};
-ghost use Rattle.tree.specs.Search.{Sorted};
+ghost use Rattle.sort.specs.Search.{Sorted};
 use crate::objects::MOST_DEPTH;
 use crate::objects::ROOT;
 use crate::objects::is_gone;

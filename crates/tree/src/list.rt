@@ -13,7 +13,6 @@ use crate::objects::is_standing;
 use crate::row::MOST_KEY;
 use crate::row::key_behind;
 use crate::row::put_row;
-use crate::search::first_from;
 use chunk::takes::Takes;
 use chunk::takes::seen_at;
 use page::geometry::Geometry;
@@ -21,6 +20,7 @@ use page::number::PageNumber;
 use sort::rows::key_of;
 use sort::rows::pack;
 use sort::rows::value_of;
+use sort::search::first_from;
 
 // Puts the rows of the entries of a directory, whose rows have this key, so many steps deep.
 pub(crate) fn list_directory(

@@ -1,6 +1,6 @@
 -- By the size that the records give. There is room, so that the copies are not refused.
 use Prim.Native.Nat.{ℕ, zero-le}
-use mathlib.Core.List.{List, map}
+use mathlib.Core.List.{map}
 use mathlib.Core.Path.{_≡_, refl, sym, ap, _∙_}
 use native.Mathlib.Omega.{arith}
 use lib.ListN.{length, take, length-map}

@@ -23,10 +23,10 @@ use Rattle.chunk.proofs.takes.seen_at.Reads as seen-at-reads
 use Rattle.sort.proofs.rows.key_of.Reads as key-of-reads
 use Rattle.sort.proofs.rows.pack.Reads as pack-reads
 use Rattle.sort.proofs.rows.value_of.Reads as value-of-reads
+use Rattle.sort.proofs.search.first_from.Reads as first-from-reads
 use Rattle.tree.proofs.objects.is_standing.Reads as is-standing-reads
 use Rattle.tree.proofs.row.key_behind.Reads as key-behind-reads
 use Rattle.tree.proofs.row.put_row.Reads as put-row-reads
-use Rattle.tree.proofs.search.first_from.Reads as first-from-reads
 use Rattle.tree.proofs.list.+list_directory+list_entry.{statement}
 use Rattle.tree.proofs.list.+list_directory+list_entry.Tie.{close}
 
@@ -78,17 +78,6 @@ module _ (t : ℕ) where
   none-left : list-directory-lts.Need-returns (directory-claims t) (list-directory-at t) list-directory.Post Inv-loop μ-loop
   none-left c = rw (no-level _ _ _ _ _ _ _ (c .if1 .taken)) (nothing _ _ (omega arith) (omega arith))
 
-  -- the children's rows are in order, for both searches
-  first-sorted : list-directory-lts.Need-first-from-requires (directory-claims t) (list-directory-at t) list-directory.Post Inv-loop μ-loop
-  first-sorted c κs =
-      let s = c .before .before .before .before .before .before in
-      rows-sorted _ (namesOf (s .args .g) (s .args .dump .now)) _ (omega arith) _ (s .pre .1 .0) _ (s .pre .1 .1)
-
-  end-sorted : list-directory-lts.Need-first-from-requires-2 (directory-claims t) (list-directory-at t) list-directory.Post Inv-loop μ-loop
-  end-sorted c κs =
-      let s = c .before .before .before .before .before .before .before .before in
-      rows-sorted _ (namesOf (s .args .g) (s .args .dump .now)) _ (omega arith) _ (s .pre .1 .0) _ (s .pre .1 .1)
-
   -- between the two places stand the rows of the directory's entries, of which none was put yet
   loop-holds : list-directory-lts.Need-loop-holds (directory-claims t) (list-directory-at t) list-directory.Post Inv-loop μ-loop
   loop-holds c =
@@ -100,10 +89,11 @@ module _ (t : ℕ) where
       let says = saysBy (a .g) (a .dump .now) (a .t) in
       let names = namesOf (a .g) (a .dump .now) in
       let e = s .pre .1 in
+      let sorted = rows-sorted says names _ (omega (arith, s .fits)) _ (e .0) _ (e .1) in
       let between : Segment (a .children .now) (childrenOf says names (a .pages) (a .directory)) (objectAt (a .heads .now)) _ _ =
       row-segment says names (a .pages) (omega (arith, s .fits)) (a .heads .now) (e .0) (a .children .now) (a .directory) (f .first-from .result)
-      (c .first-from2 .result) (p .pack .result) (l .pack2 .result) (e .1) (p .pack .ensures) (l .pack2 .ensures) (f .first-from .ensures)
-      (c .first-from2 .ensures) in
+      (c .first-from2 .result) (p .pack .result) (l .pack2 .result) (e .1) (p .pack .ensures) (l .pack2 .ensures)
+      (f .first-from .ensures .1 sorted) (c .first-from2 .ensures .1 sorted) in
       done-none says names (a .pages) (a .heads .now) (a .children .now) (a .depth) (a .key) (a .directory) (a .at) (a .rows .now) _ _ between
       (omega (arith, s .good .1 .1 .1 .1 .1 .1 .1 .1 .1 .0)) (omega (arith, s .fits))
 
@@ -220,9 +210,9 @@ pub +list-directory+list-entry-spec : {M : Type 1} → statement M
     μ-loop
     (none-left t)
     (search needs)
-    (first-sorted t)
     (search needs)
-    (end-sorted t)
+    (search needs)
+    (search needs)
     (loop-holds t)
     (search needs)
     (entry-requires t)

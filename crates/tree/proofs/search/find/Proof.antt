@@ -3,7 +3,7 @@ use mathlib.Core.Path.{_∙_}
 use native.Mathlib.Omega.{arith}
 use borrow.Author.Needs.{needs}
 use Rattle.sort.specs.Packed.{packed}
-use Rattle.tree.specs.Search.{Parted}
+use Rattle.sort.specs.Search.{Parted}
 use Rattle.tree.proofs.Searching.{nowhere}
 use Rattle.tree.proofs.search.find.Statement.{statement}
 use Rattle.tree.proofs.search.find.Tie as tie
@@ -13,7 +13,7 @@ parted :
     (c : tie.After-first-from) →
     let a = c .before .before .before .args in
     Parted (packed (a .key) 0) (a .rows .now) (c .first-from .result)
-parted c = rw (← c .before .pack .ensures) (c .first-from .ensures)
+parted c = rw (← c .before .pack .ensures) (c .first-from .ensures .1 (c .before .before .before .pre))
 
 returns : tie.Need-returns
 returns c =
@@ -31,7 +31,7 @@ find-spec =
     tie.close
     (tie.spec
     (search needs)
-    (λ c κs. c .before .before .pre)
+    (search needs)
     returns
     (search needs)
     (search needs)
