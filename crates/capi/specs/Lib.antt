@@ -5,5 +5,6 @@ pub mod Headers
 pub mod Lookups
 pub mod Moments
 pub mod Reasons
+pub mod Recording
 pub mod Trees
 pub mod Comparing

@@ -10,5 +10,6 @@ pub mod kind;
 pub mod layout;
 mod moment;
 pub mod reasons;
+pub mod recording;
 pub mod text;
 pub mod trees;

@@ -1,0 +1,23 @@
+pub mod Writing
+pub mod Placing
+pub mod Last
+pub mod Seen
+pub mod Rowing
+pub mod Lowering
+pub mod Hiding
+pub mod InSight
+pub mod Inside
+pub mod Meaning
+mod Holding
+mod Steps
+mod Growing
+mod Following
+pub mod Accepted
+mod Histories
+mod Answering
+pub mod Recounting
+pub mod Told
+pub mod ShelfHistory
+pub mod ShelfStandings
+pub mod ShelfAnswers
+pub mod Example

@@ -1,0 +1,9 @@
+pub mod Written
+pub mod Standings
+pub mod Histories
+pub mod Rows
+pub mod Answers
+pub mod Lows
+pub mod Held
+pub mod Copies
+pub mod Steps
