@@ -209,6 +209,36 @@ typedef struct {
     uint32_t byte;
 } lohenarr_span_answer;
 
+/* How many records an object has. Beside ShortBuffer, need is how many words each of
+ * the slices needs. */
+typedef struct {
+    uint32_t refusal;
+    uint32_t need;
+    uint32_t count;
+} lohenarr_records_answer;
+
+/* How the record on a page stands: 1 the newest header, 2 an older header, 3 data
+ * superseded by the newest copy of its chunk, 4 data cut by a later header, 5 data that
+ * holds bytes of the file, 6 data of what is no live file. by is the page of that copy,
+ * or of the newest of the later headers that cut at or below the begin of its chunk;
+ * from and until are the bytes that it holds, the last not included. What does not apply
+ * is 0. */
+typedef struct {
+    uint64_t from;
+    uint64_t until;
+    uint32_t page;
+    uint32_t stands;
+    uint32_t by;
+} lohenarr_standing_answer;
+
+/* What a size lookup answers with an object's records up to the one on a page: the size,
+ * or beside it the number of the refusal, with size 0. */
+typedef struct {
+    uint64_t size;
+    uint32_t page;
+    uint32_t refusal;
+} lohenarr_history_answer;
+
 /* The tree: how many of the live objects other than 1 have a path from the root,
  * and how many have none. Beside ShortBuffer need is how many words each of the
  * slices needs. */
@@ -385,6 +415,23 @@ lohenarr_spans_answer lohenarr_dump_spans(const uint8_t *dump, size_t len, lohen
 
 /* The run that a row tells. */
 lohenarr_span_answer lohenarr_span(lohenarr_geometry geometry, uint64_t row);
+
+/* How each record of an object stands, from the dump alone, as it stood before a record
+ * or with 0xFFFFFFFF as it stands: a row and a second word for each, in the order in
+ * which they were written. work is working memory, of which the words that are needed
+ * are cleared; words past them stay, as do those behind the rows. Each slice takes a
+ * word for each record. */
+lohenarr_records_answer lohenarr_dump_stands(const uint8_t *dump, size_t len, lohenarr_geometry geometry, uint32_t before, uint32_t object, uint64_t *rows, size_t rows_len, uint64_t *details, size_t details_len, uint64_t *work, size_t work_len);
+
+/* What a row of standings tells, with its second word. */
+lohenarr_standing_answer lohenarr_standing(lohenarr_geometry geometry, uint64_t row, uint64_t detail);
+
+/* What a size lookup answers after each record of an object, with its records up to that
+ * one alone: in the same order a row and a size for each. Words behind them stay. */
+lohenarr_records_answer lohenarr_dump_history(const uint8_t *dump, size_t len, lohenarr_geometry geometry, uint32_t before, uint32_t object, uint64_t *rows, size_t rows_len, uint64_t *sizes, size_t sizes_len);
+
+/* What a row of a history tells, with its size. */
+lohenarr_history_answer lohenarr_history_row(uint64_t row, uint64_t size);
 
 /* The live objects other than 1, from the dump alone, as it stood before a record or
  * with 0xFFFFFFFF as it stands: a row for each. Those that have a path from object 1

@@ -74,6 +74,9 @@ pub enum Command {
         on: Past,
         #[command(flatten)]
         of: Object,
+        /// The page of the newest header, and the one that sets the size, too
+        #[arg(long)]
+        long: bool,
     },
     /// Where a chunk of a file stands
     Chunk {
@@ -104,6 +107,20 @@ pub enum Command {
         #[arg(value_parser = Named::parser(), allow_negative_numbers = true)]
         object: Option<Named>,
     },
+    /// Every record of an object, the newest first, and how it stands
+    Records {
+        #[command(flatten)]
+        on: Past,
+        #[command(flatten)]
+        of: Object,
+    },
+    /// What a file was after each of its records, the oldest first
+    History {
+        #[command(flatten)]
+        on: On,
+        #[command(flatten)]
+        of: Object,
+    },
     /// Why a byte of a file is what it is, or by runs all of its bytes
     Why {
         #[command(flatten)]
@@ -113,6 +130,37 @@ pub enum Command {
         /// The byte's position in the file, from 0 on; all of them if left out
         #[arg(value_parser = typed::position, allow_negative_numbers = true)]
         position: Option<u64>,
+    },
+    /// The certificate of a file: what it holds, and which pages say so
+    Certify {
+        #[command(flatten)]
+        on: Past,
+        #[command(flatten)]
+        of: Object,
+        /// A new file for the certificate, of which size and SHA-256 are printed.
+        /// - is standard output
+        #[arg(short, long, value_name = "FILE")]
+        out: Option<OsString>,
+    },
+    /// Every live file and directory, in a new folder
+    Export {
+        #[command(flatten)]
+        on: On,
+        /// The new folder, with manifest.txt and SHA256SUMS in it
+        dir: OsString,
+    },
+    /// A picture of the pages, as SVG
+    Map {
+        #[command(flatten)]
+        on: On,
+        /// The object, by its id or its path from /, whose pages are shown by how they
+        /// stand; pages are shown by their kinds if left out
+        #[arg(long, value_parser = Named::parser(), allow_negative_numbers = true)]
+        object: Option<Named>,
+        /// A new file for the picture, of which size and SHA-256 are printed. - is
+        /// standard output
+        #[arg(short, long, value_name = "FILE")]
+        out: OsString,
     },
     /// What differs between two dumps, object by object
     Compare {
@@ -237,16 +285,21 @@ impl Arguments {
     pub fn json(&self) -> bool {
         match &self.command {
             Command::Find { form, .. } => form.json,
-            Command::Report { on } | Command::Pages { on } | Command::Header { on, .. } => {
-                on.form.json
-            }
+            Command::Report { on }
+            | Command::Pages { on }
+            | Command::Header { on, .. }
+            | Command::History { on, .. }
+            | Command::Export { on, .. }
+            | Command::Map { on, .. } => on.form.json,
             Command::List { on, .. }
             | Command::Tree { on }
             | Command::Size { on, .. }
             | Command::Chunk { on, .. }
             | Command::Read { on, .. }
             | Command::Extract { on, .. }
-            | Command::Why { on, .. } => on.on.form.json,
+            | Command::Records { on, .. }
+            | Command::Why { on, .. }
+            | Command::Certify { on, .. } => on.on.form.json,
             Command::Compare { on } => on.form.json,
             Command::Script { .. } | Command::Completions { .. } => false,
         }

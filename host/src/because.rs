@@ -8,23 +8,20 @@ use crate::reasons::Reasons;
 use crate::refusal::BAD_CHUNK;
 
 /// Under which parents a header says that its object is gone.
-const UNLINKED: u32 = 3;
-const DELETED: u32 = 4;
+pub const UNLINKED: u32 = 3;
+pub const DELETED: u32 = 4;
 
 impl Reasons<'_> {
     /// Why the byte at a position is what it is, by the library's answer.
     pub fn because(self, object: u32, position: u64, answer: WhyAnswer) -> String {
         let n = position / self.data() + 1;
-        let page = Page {
-            number: answer.page,
-            says: ffi::kind(self.dump, self.on, answer.page),
-        };
+        let page = self.told(answer.page);
         let reason = match answer.reason {
             WhyAnswer::HELD => held(&page, n, answer.byte),
             WhyAnswer::NO_COPY => self.no_copy(object, n),
             WhyAnswer::CUT => cut(&page, n),
             WhyAnswer::COUNT => count(&page, n),
-            WhyAnswer::PAST_END => self.past_end(&page),
+            WhyAnswer::PAST_END => self.sets_size(answer.page),
             _ => "the reason is unknown".to_string(),
         };
         let byte = match answer.reason {
@@ -36,6 +33,12 @@ impl Reasons<'_> {
             None => String::new(),
         };
         format!("byte {position} of object {object} {byte}: {reason}{stood}.")
+    }
+
+    /// A page with what it says.
+    pub fn told(self, number: u32) -> Page {
+        let says = ffi::kind(self.dump, self.on, number);
+        Page { number, says }
     }
 
     /// The data bytes of a page, which are those of a chunk.
@@ -53,8 +56,9 @@ impl Reasons<'_> {
         format!("it is in chunk {n}, and {none}")
     }
 
-    /// The page that sets the size is the newest header, or newer data.
-    fn past_end(self, page: &Page) -> String {
+    /// How a page sets the size: it is the newest header, or newer data.
+    pub fn sets_size(self, page: u32) -> String {
+        let page = self.told(page);
         let KindAnswer { chunk, count, .. } = page.says;
         if page.says.kind == KindAnswer::HEADER {
             let size = page.says.size;
@@ -73,9 +77,9 @@ impl Reasons<'_> {
 }
 
 /// A page with what the library says of it.
-struct Page {
-    number: u32,
-    says: KindAnswer,
+pub struct Page {
+    pub number: u32,
+    pub says: KindAnswer,
 }
 
 impl fmt::Display for Page {

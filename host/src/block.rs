@@ -33,14 +33,18 @@ impl Fitting {
     pub fn taken(&self) -> u32 {
         self.0.first().copied().unwrap_or(1)
     }
+
+    /// The others that fit as well, largest first.
+    pub fn others(&self) -> &[u32] {
+        self.0.get(1..).unwrap_or_default()
+    }
 }
 
 impl Fitting {
     /// Which K is taken, which others would fit as well, and that an option names it.
     pub fn sentence(&self, option: &str) -> String {
         let taken = self.taken();
-        let others = self.0.iter().skip(1).map(u32::to_string);
-        let others: Vec<String> = others.collect();
+        let others: Vec<String> = self.others().iter().map(u32::to_string).collect();
         let why = match &others[..] {
             [] if self.0.is_empty() => "as too few tags make sense under the layout".to_string(),
             [] => "as no larger power of two fits".to_string(),

@@ -56,6 +56,11 @@ impl Dump {
         Ok(Dump { name, bytes })
     }
 
+    /// The name under which it was opened.
+    pub fn name(&self) -> &OsStr {
+        &self.name
+    }
+
     /// Does work on the dump, and beside it other work where the dump is long,
     /// mapped and in memory.
     pub fn beside<T, U: Send>(

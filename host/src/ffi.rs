@@ -35,7 +35,7 @@ macro_rules! answers {
 answers! {
     LayoutAnswer PagesAnswer CountsAnswer KindAnswer HeaderAnswer PartAnswer SizeAnswer ChunkAnswer
     ListAnswer TallyAnswer TableAnswer CopiesAnswer RunAnswer WhyAnswer SpansAnswer TreeAnswer
-    TextAnswer PreparedAnswer
+    TextAnswer PreparedAnswer RecordsAnswer
 }
 
 /// How a dump is cut into pages and blocks: a layout by its number in the table,
@@ -371,6 +371,47 @@ pub struct Side<'a> {
     pub copies: &'a [u64],
 }
 
+/// How many records an object has. Beside ShortBuffer `need` is how many words each of
+/// the slices needs.
+#[repr(C)]
+#[derive(Clone, Copy, Debug, PartialEq, Eq)]
+pub struct RecordsAnswer {
+    pub refusal: u32,
+    pub need: u32,
+    pub count: u32,
+}
+
+/// How the record on a page stands, with the page that supersedes or cuts it, or the
+/// bytes of the file that it holds. What does not apply is 0.
+#[repr(C)]
+#[derive(Clone, Copy, Debug, PartialEq, Eq)]
+pub struct StandingAnswer {
+    pub from: u64,
+    pub until: u64,
+    pub page: u32,
+    pub stands: u32,
+    pub by: u32,
+}
+
+impl StandingAnswer {
+    pub const NEWEST_HEADER: u32 = 1;
+    pub const OLDER_HEADER: u32 = 2;
+    pub const SUPERSEDED: u32 = 3;
+    pub const CUT: u32 = 4;
+    pub const HOLDS: u32 = 5;
+    pub const NO_FILE: u32 = 6;
+}
+
+/// What a size lookup answers with an object's records up to the one on a page: the
+/// size, or 0 beside the number of the refusal.
+#[repr(C)]
+#[derive(Clone, Copy, Debug, PartialEq, Eq)]
+pub struct HistoryAnswer {
+    pub size: u64,
+    pub page: u32,
+    pub refusal: u32,
+}
+
 /// Stands for the page before which a dump is read, where it is read as it stands.
 pub const AS_IT_STANDS: u32 = u32::MAX;
 
@@ -414,6 +455,10 @@ extern "C" {
     fn lohenarr_dump_why(dump: *const u8, len: usize, geometry: Geometry, before: u32, object: u32, position: u64, rows: *mut u64, rows_len: usize) -> WhyAnswer;
     fn lohenarr_dump_spans(dump: *const u8, len: usize, geometry: Geometry, before: u32, object: u32, rows: *mut u64, rows_len: usize) -> SpansAnswer;
     fn lohenarr_span(geometry: Geometry, row: u64) -> SpanAnswer;
+    fn lohenarr_dump_stands(dump: *const u8, len: usize, geometry: Geometry, before: u32, object: u32, rows: *mut u64, rows_len: usize, details: *mut u64, details_len: usize, work: *mut u64, work_len: usize) -> RecordsAnswer;
+    fn lohenarr_standing(geometry: Geometry, row: u64, detail: u64) -> StandingAnswer;
+    fn lohenarr_dump_history(dump: *const u8, len: usize, geometry: Geometry, before: u32, object: u32, rows: *mut u64, rows_len: usize, sizes: *mut u64, sizes_len: usize) -> RecordsAnswer;
+    fn lohenarr_history_row(row: u64, size: u64) -> HistoryAnswer;
     fn lohenarr_dump_tree(dump: *const u8, len: usize, geometry: Geometry, before: u32, rows: *mut u64, rows_len: usize, heads: *mut u64, heads_len: usize, work: *mut u64, work_len: usize) -> TreeAnswer;
     fn lohenarr_tree_row(row: u64) -> RowAnswer;
     fn lohenarr_tree_text(dump: *const u8, len: usize, geometry: Geometry, rows: *const u64, rows_len: usize, listed: u32, buf: *mut u8, buf_len: usize) -> TextAnswer;
@@ -663,6 +708,37 @@ pub fn dump_spans(dump: &[u8], on: Geometry, before: u32, object: u32, rows: &mu
 /// The run that a row tells.
 pub fn span(on: Geometry, row: u64) -> SpanAnswer {
     unsafe { lohenarr_span(on, row) }
+}
+
+/// How each record of an object stands, the oldest first, a row and a second word for
+/// each, from the dump alone, as it stood before the record on page `before` was
+/// written. `work` is working memory: as many words as are needed are cleared.
+#[rustfmt::skip]
+pub fn dump_stands(dump: &[u8], on: Geometry, before: u32, object: u32, rows: &mut [u64], details: &mut [u64], work: &mut [u64]) -> RecordsAnswer {
+    let (to, room) = (rows.as_mut_ptr(), rows.len());
+    let (detail, details) = (details.as_mut_ptr(), details.len());
+    let (working, words) = (work.as_mut_ptr(), work.len());
+    unsafe { lohenarr_dump_stands(dump.as_ptr(), dump.len(), on, before, object, to, room, detail, details, working, words) }
+}
+
+/// What a row of standings tells, with its second word.
+pub fn standing(on: Geometry, row: u64, detail: u64) -> StandingAnswer {
+    unsafe { lohenarr_standing(on, row, detail) }
+}
+
+/// What a size lookup answers after each record of an object, the oldest first, a row
+/// and a size for each, from the dump alone, as it stood before the record on page
+/// `before` was written.
+#[rustfmt::skip]
+pub fn dump_history(dump: &[u8], on: Geometry, before: u32, object: u32, rows: &mut [u64], sizes: &mut [u64]) -> RecordsAnswer {
+    let (to, room) = (rows.as_mut_ptr(), rows.len());
+    let (size, sizes) = (sizes.as_mut_ptr(), sizes.len());
+    unsafe { lohenarr_dump_history(dump.as_ptr(), dump.len(), on, before, object, to, room, size, sizes) }
+}
+
+/// What a row of a history tells, with its size.
+pub fn history_row(row: u64, size: u64) -> HistoryAnswer {
+    unsafe { lohenarr_history_row(row, size) }
 }
 
 /// The live objects other than 1, a row for each: those that have a path in the order

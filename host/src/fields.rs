@@ -86,6 +86,11 @@ impl<'w> Printer<'w> {
     }
 }
 
+/// Fields as a JSON object.
+pub fn object(fields: &[Field<'_>]) -> String {
+    serde_json::to_string(&Object(fields)).expect("keys are strings")
+}
+
 /// Fields on one line.
 pub fn line(fields: &[Field<'_>]) -> String {
     let words: Vec<String> = fields.iter().map(|field| word(field, " ")).collect();
@@ -93,7 +98,7 @@ pub fn line(fields: &[Field<'_>]) -> String {
 }
 
 /// A field; where it is several numbers, these stand apart in this way.
-fn word((name, value): &Field<'_>, apart: &str) -> String {
+pub fn word((name, value): &Field<'_>, apart: &str) -> String {
     match value {
         Value::Number(number) => format!("{name}={number}"),
         Value::Word(word) => format!("{name}={word}"),
@@ -131,7 +136,7 @@ impl Serialize for Object<'_> {
 }
 
 /// Bytes up to the first zero.
-fn before_zero(bytes: &[u8]) -> &[u8] {
+pub fn before_zero(bytes: &[u8]) -> &[u8] {
     bytes.split(|&byte| byte == 0).next().unwrap_or_default()
 }
 

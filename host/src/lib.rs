@@ -16,14 +16,20 @@
 //! - `tree`: the live objects with their paths.
 //! - `compare`: two dumps, object by object.
 //! - `reasons`, `because`: why bytes of a file are what they are.
+//! - `records`: how the records of an object stand.
+//! - `rules`: the rules of the paper by their numbers.
+//! - `sums`: SHA-256.
+//! - `export`: a folder with the live files and directories.
 //! - `fields`: answers as lines or as JSON.
 //! - `commands`: a file for each command.
 //! - `script`: the requests of a script and their answers.
-//! - `new_file`: a file that appears under its name once it is whole.
+//! - `writing`: the bytes of a file, written.
+//! - `new_file`, `new_folder`: what appears under its name once it is whole.
+//! - `folder`: a folder by its handle.
 //! - `progress`: how far a command is.
 //! - `signals`, `standard`: signals, and standard input and output.
 //!
-//! `unsafe` is in `ffi`, `dump`, `second`, `signals` and `standard` alone.
+//! `unsafe` is in `ffi`, `dump`, `folder`, `second`, `signals` and `standard` alone.
 
 pub mod arguments;
 mod because;
@@ -31,21 +37,28 @@ pub mod block;
 pub mod commands;
 pub mod compare;
 pub mod dump;
+mod export;
 pub mod failure;
 pub mod ffi;
 pub mod fields;
+mod folder;
 mod looks;
 mod new_file;
+mod new_folder;
 pub mod objects;
 pub mod paths;
 mod progress;
 pub mod reasons;
+pub mod records;
 pub mod refusal;
+mod rules;
 pub mod script;
 mod second;
 pub mod signals;
 pub mod standard;
+mod sums;
 pub mod table;
 pub mod tree;
 mod typed;
 mod usage;
+mod writing;

@@ -22,7 +22,7 @@ impl NewFile {
         if path.symlink_metadata().is_ok() {
             return Err(io::Error::from_raw_os_error(libc::EEXIST));
         }
-        let beside = path.with_file_name(format!(".lohenarr-{}.part", process::id()));
+        let beside = beside(path);
         let _unfinished = Unfinished::new(&beside);
         Ok(NewFile {
             file: File::create_new(&beside)?,
@@ -42,16 +42,26 @@ impl NewFile {
             }
             linked => linked?,
         }
-        // the name is on the disk once its folder is; some cannot be synced
-        let folder = self.path.parent().filter(|folder| *folder != Path::new(""));
-        if let Ok(folder) = File::open(folder.unwrap_or(Path::new("."))) {
-            let _ = folder.sync_all();
-        }
+        sync_folder_of(&self.path);
         Ok(())
     }
 }
 
-fn is_unsupported(error: &io::Error) -> bool {
+/// Where something stands until it is whole.
+pub fn beside(path: &Path) -> PathBuf {
+    path.with_file_name(format!(".lohenarr-{}.part", process::id()))
+}
+
+/// A name is on the disk once its folder is; some cannot be synced.
+pub fn sync_folder_of(path: &Path) {
+    let folder = path.parent().filter(|folder| *folder != Path::new(""));
+    if let Ok(folder) = File::open(folder.unwrap_or(Path::new("."))) {
+        let _ = folder.sync_all();
+    }
+}
+
+/// Whether a file system has no such thing.
+pub fn is_unsupported(error: &io::Error) -> bool {
     let codes = [libc::EPERM, libc::EOPNOTSUPP, libc::ENOSYS, libc::EINVAL];
     error
         .raw_os_error()

@@ -1,7 +1,7 @@
 //! Why bytes of a file are what they are: the library's reasons, with the memory
-//! that it is lent for them.
+//! that it is lent for them. `records` has how the records of an object stand.
 
-use crate::ffi::{self, Geometry, SpanAnswer, SpansAnswer, WhyAnswer, AS_IT_STANDS};
+use crate::ffi::{self, Answer as _, Geometry, SpanAnswer, SpansAnswer, WhyAnswer, AS_IT_STANDS};
 use crate::fields::Field;
 use crate::refusal::SHORT_BUFFER;
 
@@ -44,9 +44,27 @@ impl Reasons<'_> {
         (answer, rows)
     }
 
-    fn page(self) -> u32 {
+    /// The page that sets the size of a file: it is named past the end, where the last
+    /// of all positions lies whatever the size.
+    pub fn setter(self, object: u32) -> Result<u32, u32> {
+        Ok(self.why(object, u64::MAX).given()?.page)
+    }
+
+    /// The page before which the dump is read, as the library takes it.
+    pub fn page(self) -> u32 {
         self.before.unwrap_or(AS_IT_STANDS)
     }
+}
+
+/// The runs that rows tell, each with where it ends: where the next one begins, and the
+/// last one at the size.
+pub fn runs(on: Geometry, rows: &[u64], size: u64) -> impl Iterator<Item = (SpanAnswer, u64)> + '_ {
+    let mut runs = rows.iter().map(move |&row| ffi::span(on, row)).peekable();
+    std::iter::from_fn(move || {
+        let run = runs.next()?;
+        let until = runs.peek().map_or(size, |next| next.from);
+        Some((run, until))
+    })
 }
 
 /// A reason: its number, and what it names where it does.

@@ -1,15 +1,17 @@
 //! What signals do. A byte of a mapped dump that cannot be read is a sentence
-//! and status 2; a file that is not whole yet goes with the process; a closed
+//! and status 2; what is not whole yet goes with the process; a closed
 //! pipe ends it quietly.
 //!
 //! Handlers do nothing but what POSIX allows them: they read atomics, write to
-//! standard error, remove a file and end.
+//! standard error, remove a file or a folder and end.
 
-use std::ffi::{c_char, c_int, c_void, CString, OsStr};
+use std::ffi::{c_char, c_int, c_void, CStr, CString, OsStr};
 use std::os::unix::ffi::OsStrExt;
 use std::path::Path;
 use std::ptr;
 use std::sync::atomic::{AtomicBool, AtomicPtr, Ordering::SeqCst};
+
+use crate::folder;
 
 /// Sets what signals do, for the whole process.
 pub fn set() {
@@ -122,14 +124,15 @@ fn say_number(mut number: usize) {
     }
 }
 
-/// The name of a file that goes with the process, unless it is kept.
+/// The name of a file or a folder that goes with the process, unless it is kept.
 static UNFINISHED: AtomicPtr<c_char> = AtomicPtr::new(ptr::null_mut());
 
-/// While this is held, a signal that ends the process removes the file first.
+/// While this is held, a signal that ends the process removes the file or the folder
+/// first.
 pub struct Unfinished(*mut c_char);
 
 impl Unfinished {
-    /// Of one file at a time; nothing where its name is none for the system.
+    /// Of one at a time; nothing where its name is none for the system.
     pub fn new(path: &Path) -> Option<Unfinished> {
         let name = CString::new(path.as_os_str().as_bytes()).ok()?.into_raw();
         UNFINISHED.store(name, SeqCst);
@@ -149,7 +152,11 @@ fn remove_unfinished() {
     let name = UNFINISHED.load(SeqCst);
     if !name.is_null() {
         // Safety: a name that ends with a zero byte.
-        unsafe { libc::unlink(name) };
+        let name = unsafe { CStr::from_ptr(name) };
+        // Safety: as above.
+        if unsafe { libc::unlink(name.as_ptr()) } == -1 {
+            folder::remove(name);
+        }
     }
 }
 

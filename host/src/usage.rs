@@ -35,11 +35,11 @@ fn wrong(error: &Error, all: &Command, command: &str) -> String {
     match error.kind() {
         ErrorKind::InvalidSubcommand => {
             let none = value(ContextKind::InvalidSubcommand);
-            let nearest = context(error, ContextKind::SuggestedSubcommand);
+            let nearest = nearest(error, ContextKind::SuggestedSubcommand);
             with_nearest(format!("there is no command {none}"), nearest)
         }
         ErrorKind::UnknownArgument if argument.starts_with('-') => {
-            let nearest = context(error, ContextKind::SuggestedArg);
+            let nearest = nearest(error, ContextKind::SuggestedArg);
             no_option(all, command, name, nearest)
         }
         ErrorKind::InvalidValue if typed.is_empty() => format!("{name} wants a value behind it"),
@@ -61,6 +61,14 @@ fn wrong(error: &Error, all: &Command, command: &str) -> String {
 fn context(error: &Error, kind: ContextKind) -> Option<String> {
     match error.get(kind)? {
         ContextValue::Strings(all) => Some(all.join(", ")),
+        one => Some(one.to_string()),
+    }
+}
+
+/// The nearest of what clap suggests: it has that last.
+fn nearest(error: &Error, kind: ContextKind) -> Option<String> {
+    match error.get(kind)? {
+        ContextValue::Strings(all) => all.last().cloned(),
         one => Some(one.to_string()),
     }
 }
@@ -114,5 +122,17 @@ fn form(all: &Command, name: &str) -> String {
             false => format!(" [{name}]"),
         }
     });
-    format!("{name} is typed as: {name}{}", words.collect::<String>())
+    let options = command.into_iter().flat_map(Command::get_opts);
+    let options = options.filter(|option| option.is_required_set());
+    let options = options.map(|option| {
+        let value = option.get_value_names().and_then(<[_]>::first);
+        let (long, value) = (option.get_long(), value.map(|value| value.as_str()));
+        format!(
+            " --{} {}",
+            long.unwrap_or_default(),
+            value.unwrap_or_default()
+        )
+    });
+    let words: String = words.chain(options).collect();
+    format!("{name} is typed as: {name}{words}")
 }

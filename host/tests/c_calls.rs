@@ -61,6 +61,11 @@ fn places() -> String {
         ("spans_answer.size", offset_of!(SpansAnswer, size)),
         ("spans_answer.count", offset_of!(SpansAnswer, count)),
         ("span_answer.byte", offset_of!(SpanAnswer, byte)),
+        ("records_answer.count", offset_of!(RecordsAnswer, count)),
+        ("standing_answer.until", offset_of!(StandingAnswer, until)),
+        ("standing_answer.by", offset_of!(StandingAnswer, by)),
+        ("history_answer.page", offset_of!(HistoryAnswer, page)),
+        ("history_answer.refusal", offset_of!(HistoryAnswer, refusal)),
         ("tree_answer.others", offset_of!(TreeAnswer, others)),
         ("row_answer.page", offset_of!(RowAnswer, page)),
         ("text_answer.need", offset_of!(TextAnswer, need)),
@@ -92,6 +97,9 @@ fn places() -> String {
         size_of::<WhyAnswer>(),
         size_of::<SpansAnswer>(),
         size_of::<SpanAnswer>(),
+        size_of::<RecordsAnswer>(),
+        size_of::<StandingAnswer>(),
+        size_of::<HistoryAnswer>(),
         size_of::<TreeAnswer>(),
         size_of::<RowAnswer>(),
         size_of::<TextAnswer>(),
@@ -139,6 +147,9 @@ why 0: reason 5 page 5 byte 0 value 0 until 18446744073709551615
 why 14: reason 0 page 0 byte 0 value 0 until 0
 spans 11: enough 1, 7
 spans 0: size 1034: 0/1/5/0 300/4/5/0 512/3/4/0 1024/1/6/0
+stands 11: need 7, 7
+stands 0: 0/2/0/0-0 1/3/5/0-0 2/4/4/0-0 3/2/0/0-0 4/1/0/0-0 5/5/0/0-300 6/5/0/1024-1034 7 7 0 7
+history 0: 0/0/0 1/0/512 2/0/612 3/0/612
 tree 11: need 3, 7
 tree 0: 1 and 0, 7, 0 7
 row 0 of page 4

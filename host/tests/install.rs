@@ -52,7 +52,8 @@ fn what_is_installed_works() {
     for name in completions {
         let completions = fs::read_to_string(usr.join(name)).unwrap();
         for word in [
-            "extract", "why", "tree", "compare", "block2", "json", "long",
+            "extract", "why", "tree", "compare", "block2", "json", "long", "records", "history",
+            "certify", "export", "map",
         ] {
             assert!(completions.contains(word), "{name}: {word}");
         }

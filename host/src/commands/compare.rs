@@ -58,18 +58,17 @@ fn opened(on: &Both) -> Result<[Opened; 2], Failure> {
         .map(|(own, both)| own.as_ref().or(both.as_ref()));
     let first = Opened::tried(&sources[0], on.layout.as_ref(), on.block.as_ref());
     let second = Opened::tried(&sources[1], layout2, block2);
-    let ((first, one), (second, other)) = match (first, second) {
-        (Ok(first), Ok(second)) => (first, second),
+    let opened = match (first, second) {
+        (Ok(first), Ok(second)) => [first, second],
         (first, second) => return Err(foremost(&sources, [first.err(), second.err()])),
     };
-    let fitting = [(one, "--block"), (other, "--block2")];
-    for (source, (fitting, option)) in sources.iter().zip(fitting) {
-        if let Some(fitting) = fitting {
-            let (name, sentence) = (source.dump.display(), fitting.sentence(option));
+    for (opened, option) in opened.iter().zip(["--block", "--block2"]) {
+        if let Some(fitting) = &opened.fitting {
+            let (name, sentence) = (opened.dump.name().display(), fitting.sentence(option));
             say(&format!("lohenarr: {name}: {sentence}"));
         }
     }
-    Ok([first, second])
+    Ok(opened)
 }
 
 /// A file that cannot be read, or else the refusal that comes first in the table's order,

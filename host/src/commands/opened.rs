@@ -24,9 +24,12 @@ pub struct Opened {
     pub layout: LayoutAnswer,
     pub block: Typed,
     pub pages: u32,
+    /// Which K fit, where none was named.
+    pub fitting: Option<Fitting>,
+    /// The layout, where it was named.
+    pub named: Option<Typed>,
     /// The page of the record before which the dump is read.
     before: Option<Typed>,
-    named: Option<Typed>,
     started: Cell<Option<Started>>,
 }
 
@@ -47,20 +50,19 @@ impl Opened {
 
     /// What was taken as K is said once nothing is refused.
     pub fn open(source: &Source, named: Option<&Typed>, block: &Block) -> Result<Opened, Failure> {
-        let (opened, fitting) = Opened::tried(source, named, block.block.as_ref())?;
-        if let Some(fitting) = fitting {
+        let opened = Opened::tried(source, named, block.block.as_ref())?;
+        if let Some(fitting) = &opened.fitting {
             say(&format!("lohenarr: {fitting}"));
         }
         Ok(opened)
     }
 
-    /// Where K is not named, the layout is found with K = 1, and then K: which fit is
-    /// given too.
+    /// Where K is not named, the layout is found with K = 1, and then K.
     pub fn tried(
         source: &Source,
         named: Option<&Typed>,
         block: Option<&Typed>,
-    ) -> Result<(Opened, Option<Fitting>), Failure> {
+    ) -> Result<Opened, Failure> {
         let dump = Dump::open(&source.dump, source.copy).map_err(Failure::File)?;
         let first = block.cloned().unwrap_or_else(|| Typed::from(1));
         let k = block.map(|typed| typed.number);
@@ -78,13 +80,14 @@ impl Opened {
             layout,
             block: fitting.as_ref().map_or(first, |f| f.taken().into()),
             pages: 0,
-            before: None,
+            fitting,
             named: named.cloned(),
+            before: None,
             started: Cell::new(started),
         };
         let pages = ffi::pages(&opened.dump, opened.geometry());
         opened.pages = opened.given(pages, opened.asked())?.pages;
-        Ok((opened, fitting))
+        Ok(opened)
     }
 
     /// The layout with K.
@@ -157,7 +160,7 @@ impl Opened {
     }
 
     /// The page of the record before which the dump is read.
-    fn before(&self) -> Option<u32> {
+    pub fn before(&self) -> Option<u32> {
         self.before.as_ref().map(|page| page.number)
     }
 

@@ -2,7 +2,7 @@
 
 use super::Opened;
 use crate::failure::Failure;
-use crate::ffi::{self, KindAnswer};
+use crate::ffi::{self, Geometry, KindAnswer};
 use crate::fields::{Field, Printer};
 use crate::progress::Progress;
 use crate::refusal::kind_name;
@@ -11,13 +11,18 @@ pub fn pages(opened: &Opened, out: &mut Printer<'_>) -> Result<(), Failure> {
     let on = opened.geometry();
     let progress = Progress::beside_output("printing pages", opened.pages.into());
     for page in 0..opened.pages {
-        let kind = ffi::kind(&opened.dump, on, page);
-        let mut fields = vec![("page", page.into()), ("kind", kind_name(kind.kind).into())];
-        fields.extend(kind.fields());
-        out.line(&fields)?;
+        out.line(&line(&opened.dump, on, page))?;
         progress.add(1);
     }
     opened.check_length()
+}
+
+/// The line of a page.
+pub fn line(dump: &[u8], on: Geometry, page: u32) -> Vec<Field<'static>> {
+    let kind = ffi::kind(dump, on, page);
+    let mut fields = vec![("page", page.into()), ("kind", kind_name(kind.kind).into())];
+    fields.extend(kind.fields());
+    fields
 }
 
 impl KindAnswer {

@@ -3,11 +3,11 @@
 
 use super::Opened;
 use crate::failure::Failure;
-use crate::ffi::{self, WhyAnswer};
-use crate::fields::Printer;
+use crate::ffi::{SpanAnswer, WhyAnswer};
+use crate::fields::{Field, Printer};
 use crate::paths::Named;
 use crate::progress::Progress;
-use crate::reasons::Reason;
+use crate::reasons::{self, Reason};
 use crate::typed::Typed;
 
 pub fn why(
@@ -53,14 +53,16 @@ fn runs(opened: &Opened, object: &Typed, out: &mut Printer<'_>) -> Result<(), Fa
     let size = opened.given(answer, opened.asked().of(object))?.size;
     drop(progress);
     let progress = Progress::beside_output("printing runs", rows.len() as u64);
-    let on = opened.geometry();
-    let mut runs = rows.iter().map(|&row| ffi::span(on, row)).peekable();
-    while let Some(run) = runs.next() {
-        let until = runs.peek().map_or(size, |next| next.from);
-        let mut fields = vec![("from", run.from.into()), ("until", until.into())];
-        fields.extend(Reason::from(run).fields());
-        out.line(&fields)?;
+    for (run, until) in reasons::runs(opened.geometry(), &rows, size) {
+        out.line(&line(run, until))?;
         progress.add(1);
     }
     Ok(())
+}
+
+/// The line of a run.
+pub fn line(run: SpanAnswer, until: u64) -> Vec<Field<'static>> {
+    let mut fields = vec![("from", run.from.into()), ("until", until.into())];
+    fields.extend(Reason::from(run).fields());
+    fields
 }

@@ -3,11 +3,13 @@
 use crc32fast::hash as crc32;
 
 use crate::ffi::{
-    self, ChunkAnswer, CopiesAnswer, CopyAnswer, CountsAnswer, KindAnswer, ListAnswer, PlaceAnswer,
-    RunAnswer, SizeAnswer, SpanAnswer, SpansAnswer, TableAnswer, TallyAnswer, WhyAnswer,
+    self, ChunkAnswer, CopiesAnswer, CopyAnswer, CountsAnswer, HistoryAnswer, KindAnswer,
+    ListAnswer, PlaceAnswer, RunAnswer, SizeAnswer, SpanAnswer, SpansAnswer, StandingAnswer,
+    TableAnswer, TallyAnswer, WhyAnswer,
 };
 use crate::fields;
 use crate::reasons::Reason;
+use crate::records::standing_name;
 use crate::refusal::{kind_name, SHORT_BUFFER};
 use crate::tree::Tree;
 
@@ -146,10 +148,15 @@ pub fn copy(copy: CopyAnswer) -> String {
     format!("chunk={chunk} page={page} valid={valid}")
 }
 
-/// Why a byte is what it is, or the number of the refusal alone.
+/// The number of a refusal alone.
+pub fn number(refusal: u32) -> String {
+    format!("refusal={refusal}")
+}
+
+/// Why a byte is what it is, or the number of the refusal.
 pub fn why(answer: WhyAnswer) -> String {
     if answer.refusal != 0 {
-        return format!("refusal={}", answer.refusal);
+        return number(answer.refusal);
     }
     let mut fields = Reason::from(answer).fields();
     fields.push(("until", answer.until.into()));
@@ -159,7 +166,7 @@ pub fn why(answer: WhyAnswer) -> String {
 /// The runs of a file: where each begins, its reason, and its page if it has one.
 pub fn spans(answer: SpansAnswer, runs: &[SpanAnswer]) -> String {
     if answer.refusal != 0 {
-        return format!("refusal={}", answer.refusal);
+        return number(answer.refusal);
     }
     let runs = runs.iter().map(|&run| {
         let reason = Reason::from(run);
@@ -168,6 +175,34 @@ pub fn spans(answer: SpansAnswer, runs: &[SpanAnswer]) -> String {
     });
     let runs: Vec<String> = runs.collect();
     format!("size={} spans={}", answer.size, runs.join(","))
+}
+
+/// How each record of an object stands, and the page or the bytes that this names.
+pub fn stands(records: &[StandingAnswer]) -> String {
+    let records = records.iter().map(|record| {
+        let (page, name) = (record.page, standing_name(record.stands));
+        match record.stands {
+            StandingAnswer::SUPERSEDED | StandingAnswer::CUT => {
+                format!("{page}:{name}:{}", record.by)
+            }
+            StandingAnswer::HOLDS => {
+                format!("{page}:{name}:{}:{}", record.from, record.until)
+            }
+            _ => format!("{page}:{name}"),
+        }
+    });
+    let records: Vec<String> = records.collect();
+    format!("stands={}", records.join(","))
+}
+
+/// The size after each record of an object, or the refusal.
+pub fn history(records: &[HistoryAnswer]) -> String {
+    let records = records.iter().map(|record| match record.refusal {
+        0 => format!("{}:size:{}", record.page, record.size),
+        number => format!("{}:refusal:{number}", record.page),
+    });
+    let records: Vec<String> = records.collect();
+    format!("history={}", records.join(","))
 }
 
 /// How many objects of a tree have a path and how many have none, and its text.

@@ -11,7 +11,7 @@ The requests of a script, one a line; # starts a comment:
   header L K PAGE   dsize L K OBJ     dchunk L K OBJ N  dpart L K OBJ N
   dlist L K WORDS   dobjects L K      copy ROW          dread L K OBJ N BUFLEN
   row L PLACE VALID                   dspans L K OBJ    dwhy L K OBJ POS
-  dtree L K
+  dtree L K         dstands L K OBJ   dhistory L K OBJ
 
   start L K WORDS   add PAGE          size OBJ          chunk OBJ N
   part OBJ N        list WORDS        objects           read OBJ N BUFLEN
@@ -22,7 +22,8 @@ L is P/S/T or a layout's number. The first ask the dump alone, the others an
 index: under the layout and K of the last accepted start, with as many words.
 k=, words= and layout= behind the arguments of such a call give it others, and
 seed= behind those of a start gives it a seed, which is 0 if left out. before=PAGE
-behind those of dwhy, dspans and dtree asks the dump as it stood before that record.
+behind those of dwhy, dspans, dstands, dhistory and dtree asks the dump as it stood
+before that record.
 ";
 
 /// What a call on the index is given by options of its own: layout, K and how
@@ -66,6 +67,8 @@ pub enum Request {
     Copy { row: u64 },
     Why { on: Geometry, before: Option<u32>, object: u32, position: u64 },
     Spans { on: Geometry, before: Option<u32>, object: u32 },
+    Stands { on: Geometry, before: Option<u32>, object: u32 },
+    History { on: Geometry, before: Option<u32>, object: u32 },
     Tree { on: Geometry, before: Option<u32> },
     Fill { word: u32 },
     Poke { at: usize, word: u32 },
@@ -192,6 +195,16 @@ impl Words<'_> {
                 position: self.next("POS", exact)?,
             },
             "dspans" => Request::Spans {
+                before: self.before()?,
+                on: self.on()?,
+                object: self.number("OBJ")?,
+            },
+            "dstands" => Request::Stands {
+                before: self.before()?,
+                on: self.on()?,
+                object: self.number("OBJ")?,
+            },
+            "dhistory" => Request::History {
                 before: self.before()?,
                 on: self.on()?,
                 object: self.number("OBJ")?,
@@ -398,6 +411,22 @@ mod tests {
                     object: 257,
                 },
             ),
+            (
+                "dstands 6 4 257 before=5",
+                Request::Stands {
+                    on,
+                    before: Some(5),
+                    object: 257,
+                },
+            ),
+            (
+                "dhistory 512/16/0 4 257",
+                Request::History {
+                    on,
+                    before: None,
+                    object: 257,
+                },
+            ),
             ("dtree 6 4", Request::Tree { on, before: None }),
             (
                 "dtree 512/16/0 4 before=0x7",
@@ -475,7 +504,7 @@ mod tests {
             assert!(request(&format!("{line} 1")).is_err(), "{form}");
             count += 1;
         }
-        assert_eq!(count, 31);
+        assert_eq!(count, 33);
     }
 
     #[test]
@@ -505,6 +534,8 @@ mod tests {
             ("dwhy 6 4 257 0 before=", "before cannot be "),
             ("dwhy 6 4 257 0 k=4", "dwhy does not take k=4"),
             ("dspans 6 4 257 0", "dspans does not take 0"),
+            ("dstands 6 4", "OBJ is missing"),
+            ("dhistory 6 4 257 k=4", "dhistory does not take k=4"),
             ("dtree 6", "K is missing"),
             ("dtree 6 4 257", "dtree does not take 257"),
         ];

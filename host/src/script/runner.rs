@@ -5,7 +5,7 @@ use super::line;
 use super::request::{Lent, Over, Request};
 use crate::commands::header::Header;
 use crate::failure::Failure;
-use crate::ffi::{self, Answer as _, Geometry};
+use crate::ffi::{self, Answer as _, Geometry, StandingAnswer};
 use crate::reasons::Reasons;
 use crate::tree::{Place, Tree};
 
@@ -23,7 +23,8 @@ pub struct Runner<'d> {
 
 /// An answer: its line, and the lent buffer as the call left it. What a line leaves
 /// out stands there too: the byte of a position, the data byte with which each run
-/// of a file begins, and of a tree its text and two words for each object.
+/// of a file begins, of each record the three numbers that say how it stands or the
+/// size after it, and of a tree its text and two words for each object.
 #[derive(Debug, Default, PartialEq, Eq)]
 pub struct Answer {
     pub line: String,
@@ -131,6 +132,17 @@ impl<'d> Runner<'d> {
                 let runs: Vec<_> = rows.iter().map(|&row| ffi::span(on, row)).collect();
                 answer.words = runs.iter().map(|run| run.byte).collect();
                 line::spans(spans, &runs)
+            }
+            Request::Stands { on, before, object } => {
+                let records = self.reasons(on, before).stands(object);
+                let row = |r: &StandingAnswer| [r.by.into(), r.from, r.until];
+                answer.rows = records.iter().flatten().flat_map(row).collect();
+                records.map_or_else(line::number, |records| line::stands(&records))
+            }
+            Request::History { on, before, object } => {
+                let records = self.reasons(on, before).history(object);
+                answer.rows = records.iter().flatten().map(|r| r.size).collect();
+                records.map_or_else(line::number, |records| line::history(&records))
             }
             Request::Tree { on, before } => match Tree::of(self.dump, on, before) {
                 Ok(tree) => {

@@ -103,6 +103,26 @@ int main(void) {
         printf(" %llu/%u/%u/%u", (unsigned long long)span.from, span.reason, span.page, span.byte);
     }
     printf("\n");
+    lohenarr_records_answer records = lohenarr_dump_stands(dump, len, geometry, 0xFFFFFFFF, 257, order, 6, pieces, 8, words, 8);
+    printf("stands %u: need %u, %llu\n", records.refusal, records.need, (unsigned long long)order[0]);
+    order[7] = pieces[7] = words[7] = 7;
+    records = lohenarr_dump_stands(dump, len, geometry, 0xFFFFFFFF, 257, order, 8, pieces, 8, words, 8);
+    printf("stands %u:", records.refusal);
+    for (uint32_t i = 0; i < records.count; i++) {
+        lohenarr_standing_answer standing = lohenarr_standing(geometry, order[i], pieces[i]);
+        printf(" %u/%u/%u/%llu-%llu", standing.page, standing.stands, standing.by, (unsigned long long)standing.from,
+               (unsigned long long)standing.until);
+    }
+    printf(" %llu %llu %llu %llu\n", (unsigned long long)order[7], (unsigned long long)pieces[7], (unsigned long long)words[6],
+           (unsigned long long)words[7]);
+    records = lohenarr_dump_history(dump, len, geometry, 4, 257, order, 8, pieces, 8);
+    printf("history %u:", records.refusal);
+    for (uint32_t i = 0; i < records.count; i++) {
+        lohenarr_history_answer after = lohenarr_history_row(order[i], pieces[i]);
+        printf(" %u/%u/%llu", after.page, after.refusal, (unsigned long long)after.size);
+    }
+    printf("\n");
+    order[0] = 7;
     lohenarr_tree_answer tree = lohenarr_dump_tree(dump, len, geometry, 0xFFFFFFFF, branches, 4, heads, 2, work, 4);
     printf("tree %u: need %u, %llu\n", tree.refusal, tree.need, (unsigned long long)heads[0]);
     tree = lohenarr_dump_tree(dump, len, geometry, 0xFFFFFFFF, branches, 4, heads, 4, work, 4);
@@ -154,6 +174,11 @@ int main(void) {
     FIELD(lohenarr_spans_answer, size);
     FIELD(lohenarr_spans_answer, count);
     FIELD(lohenarr_span_answer, byte);
+    FIELD(lohenarr_records_answer, count);
+    FIELD(lohenarr_standing_answer, until);
+    FIELD(lohenarr_standing_answer, by);
+    FIELD(lohenarr_history_answer, page);
+    FIELD(lohenarr_history_answer, refusal);
     FIELD(lohenarr_tree_answer, others);
     FIELD(lohenarr_row_answer, page);
     FIELD(lohenarr_text_answer, need);
@@ -161,13 +186,14 @@ int main(void) {
     FIELD(lohenarr_prepared_answer, records);
     FIELD(lohenarr_next_answer, first);
     FIELD(lohenarr_next_answer, second);
-    printf("sizes %zu %zu %zu %zu %zu %zu %zu %zu %zu %zu %zu %zu %zu %zu %zu %zu %zu %zu %zu %zu %zu %zu %zu\n", sizeof(lohenarr_layout_answer), sizeof(lohenarr_pages_answer),
+    printf("sizes %zu %zu %zu %zu %zu %zu %zu %zu %zu %zu %zu %zu %zu %zu %zu %zu %zu %zu %zu %zu %zu %zu %zu %zu %zu %zu\n", sizeof(lohenarr_layout_answer), sizeof(lohenarr_pages_answer),
            sizeof(lohenarr_counts_answer), sizeof(lohenarr_kind_answer), sizeof(lohenarr_header_answer),
            sizeof(lohenarr_part_answer), sizeof(lohenarr_size_answer), sizeof(lohenarr_chunk_answer),
            sizeof(lohenarr_place_answer), sizeof(lohenarr_list_answer), sizeof(lohenarr_tally_answer),
            sizeof(lohenarr_table_answer), sizeof(lohenarr_copies_answer), sizeof(lohenarr_copy_answer),
            sizeof(lohenarr_run_answer), sizeof(lohenarr_why_answer), sizeof(lohenarr_spans_answer),
-           sizeof(lohenarr_span_answer), sizeof(lohenarr_tree_answer), sizeof(lohenarr_row_answer),
+           sizeof(lohenarr_span_answer), sizeof(lohenarr_records_answer), sizeof(lohenarr_standing_answer),
+           sizeof(lohenarr_history_answer), sizeof(lohenarr_tree_answer), sizeof(lohenarr_row_answer),
            sizeof(lohenarr_text_answer), sizeof(lohenarr_prepared_answer), sizeof(lohenarr_next_answer));
     return 0;
 }

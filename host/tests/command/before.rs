@@ -37,6 +37,7 @@ fn answers_alike(folder: &Path, dump: &[u8], record: impl Fn(usize) -> bool) {
             &["tree"],
             &["tree", "--json"],
             &["size", "257"],
+            &["size", "257", "--long"],
             &["size", "/none"],
             &["chunk", "257", "1"],
             &["chunk", "257", "2"],
@@ -44,6 +45,9 @@ fn answers_alike(folder: &Path, dump: &[u8], record: impl Fn(usize) -> bool) {
             &["read", "257"],
             &["extract"],
             &["extract", "257"],
+            &["records", "257"],
+            &["records", "257", "--json"],
+            &["certify", "257"],
             &["why", "257"],
             &["why", "257", "0"],
             &["why", "257", "400"],
@@ -67,6 +71,12 @@ fn answers_alike(folder: &Path, dump: &[u8], record: impl Fn(usize) -> bool) {
                 "why" => assert_eq!(
                     printed(&past).replace(&stood, ""),
                     printed(&older),
+                    "{what}"
+                ),
+                // the evidence is another
+                "certify" if past.status.success() => assert_eq!(
+                    printed(&past).split_once("\n2. ").unwrap().1,
+                    printed(&older).split_once("\n2. ").unwrap().1,
                     "{what}"
                 ),
                 _ => assert!(past.stdout == older.stdout, "{what}"),

@@ -10,7 +10,7 @@ const DATA: usize = 512;
 
 /// Where a header has its name, its size and its alias, and the word behind that.
 const NAME: usize = 0xA;
-const SIZE: usize = 0x124;
+pub const SIZE: usize = 0x124;
 const ALIAS: usize = 0x12C;
 const RDEV: usize = 0x1CC;
 
@@ -53,7 +53,7 @@ fn page(number: usize) -> &'static [u8] {
 }
 
 /// A page with one of its words changed.
-fn with(page: &[u8], at: usize, word: u32) -> Vec<u8> {
+pub fn with(page: &[u8], at: usize, word: u32) -> Vec<u8> {
     let mut page = page.to_vec();
     page[at..at + 4].copy_from_slice(&word.to_le_bytes());
     page
@@ -121,6 +121,19 @@ fn anew(parent: u32) -> Vec<u8> {
 pub fn header(id: u32, file_type: u32, parent: u32, name: &[u8]) -> Vec<u8> {
     let page = with(&with(&named(name), 0, file_type), 4, parent);
     with(&page, DATA + 4, file_type << 28 | id)
+}
+
+/// A header page of a symbolic link.
+pub fn symbolic(id: u32, parent: u32, name: &[u8], target: &[u8]) -> Vec<u8> {
+    let mut page = header(id, 2, parent, name);
+    page[ALIAS..RDEV].fill(0);
+    page[ALIAS..ALIAS + target.len()].copy_from_slice(target);
+    page
+}
+
+/// A data page with the first chunk of an object, so many bytes.
+pub fn first_chunk(id: u32, count: u32) -> Vec<u8> {
+    with(&with(page(1), DATA + 4, id), DATA + 12, count)
 }
 
 /// 24 pages: directories, files of one name, names that are no words of a path, an

@@ -7,8 +7,8 @@ use super::{run, said};
 
 const OF_W: &str = "lohenarr: K is 4, and 2 and 1 would fit as well; --block names it\n";
 
-/// Every command that takes K, on W.
-const COMMANDS: [&[&str]; 9] = [
+/// The commands that take K, on W, but for a certificate: it says whether K was named.
+const COMMANDS: [&[&str]; 12] = [
     &["report", "W"],
     &["find", "W"],
     &["pages", "W"],
@@ -18,6 +18,9 @@ const COMMANDS: [&[&str]; 9] = [
     &["chunk", "W", "257", "3"],
     &["read", "W", "257"],
     &["extract", "W", "257"],
+    &["records", "W", "257"],
+    &["history", "W", "257"],
+    &["why", "W", "257"],
 ];
 
 /// Beside what is said, a command answers as with the K that was found.

@@ -92,6 +92,8 @@ fn a_dump_stays_as_it_was() {
         let output = run(folder.path(), &[command, "W", "--block", "4"], b"");
         assert_eq!(output.status.code(), Some(0), "{command}");
     }
+    let output = run(folder.path(), &["certify", "W", "257"], b"");
+    assert_eq!(output.status.code(), Some(0));
     assert_eq!(fs::read(&dump).unwrap(), W);
     assert_eq!(fs::metadata(&dump).unwrap().modified().unwrap(), written);
 }

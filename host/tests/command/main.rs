@@ -3,9 +3,12 @@
 //! - `dumps`: W, and dumps made of it.
 //! - `transcript`: every command on W, every refusal and every habit, with stored output.
 //! - `before`: dumps as they once stood.
+//! - `certify`: certificates.
 //! - `compare`: two dumps.
 //! - `crowded`: trees of very many objects.
+//! - `export`: folders that `export` writes.
 //! - `found`: K where it is not named.
+//! - `map`: pictures that `map` draws.
 //! - `inputs`: dumps and scripts that are no plain files.
 //! - `spread`: dumps that are long enough for a second thread.
 //! - `shortened`: dumps that lose bytes while they are read.
@@ -16,11 +19,14 @@
 //! - `terminal`: a terminal for some of these.
 
 mod before;
+mod certify;
 mod compare;
 mod crowded;
 mod dumps;
+mod export;
 mod found;
 mod inputs;
+mod map;
 mod out;
 mod outputs;
 mod progress;

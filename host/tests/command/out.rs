@@ -4,7 +4,7 @@ use std::fs::{self, File};
 use std::os::unix::fs::{FileExt, MetadataExt};
 use std::os::unix::process::{CommandExt, ExitStatusExt};
 use std::path::Path;
-use std::process::{Child, Stdio};
+use std::process::{Child, Output, Stdio};
 use std::thread::sleep;
 use std::time::Duration;
 
@@ -23,7 +23,7 @@ const OF_FILE: &str = "size=1034\n\
     sha256=054278936172af82c9b165e053052272ba798e66ab2f0f22b91af07999b9aa8d\n";
 
 /// The names in a folder.
-fn names(folder: &Path) -> Vec<String> {
+pub fn names(folder: &Path) -> Vec<String> {
     let entries = fs::read_dir(folder).unwrap();
     let name = |entry: fs::DirEntry| entry.file_name().into_string().unwrap();
     let mut names: Vec<String> = entries.map(|entry| name(entry.unwrap())).collect();
@@ -111,24 +111,29 @@ fn sum(zeros: usize, end: &[u8]) -> String {
     format!("{:x}", sum.finalize())
 }
 
-/// A limit of the file's length stands for a disk that is full.
+/// A command on a disk that is full, for which a limit of a file's length stands.
+pub fn on_full_disk(folder: &Path, typed: &[&str], limit: u64) -> Output {
+    let mut command = lohenarr(folder);
+    command.args(typed);
+    // Safety: sets a limit of the new process, and nothing else.
+    unsafe {
+        command.pre_exec(move || {
+            let (rlim_cur, rlim_max) = (limit, limit);
+            let limit = libc::rlimit { rlim_cur, rlim_max };
+            libc::setrlimit(libc::RLIMIT_FSIZE, &limit);
+            Ok(())
+        });
+    }
+    command.output().unwrap()
+}
+
 #[test]
 fn a_full_disk_leaves_nothing() {
     let folder = dumps::folder();
     let before = names(folder.path());
     for (dump, block) in [("W", "4"), ("half-gib", "1")] {
-        let mut command = lohenarr(folder.path());
-        command.args(["read", dump, "257", "--block", block, "--out", "new"]);
-        // Safety: sets a limit of the new process, and nothing else.
-        unsafe {
-            command.pre_exec(|| {
-                let (rlim_cur, rlim_max) = (1000, 1000);
-                let limit = libc::rlimit { rlim_cur, rlim_max };
-                libc::setrlimit(libc::RLIMIT_FSIZE, &limit);
-                Ok(())
-            });
-        }
-        let output = command.output().unwrap();
+        let typed = ["read", dump, "257", "--block", block, "--out", "new"];
+        let output = on_full_disk(folder.path(), &typed, 1000);
         assert_eq!(
             said(&output),
             "lohenarr: cannot write new: File too large (os error 27)\n"
@@ -138,11 +143,17 @@ fn a_full_disk_leaves_nothing() {
     }
 }
 
-/// Begins to read a long file, which takes a while, and waits until it stands
-/// beside its name. Signals do as they are told, whatever they do in this process.
+/// Begins to read a long file, which takes a while.
 fn begun(folder: &Path, dump: &str, signals: libc::sighandler_t) -> Child {
+    let typed = ["read", dump, "257", "--block", "1", "--out", "new"];
+    begun_to_write(folder, &typed, signals)
+}
+
+/// Begins a command that writes a file or a folder, and waits until that stands beside
+/// its name. Signals do as they are told, whatever they do in this process.
+pub fn begun_to_write(folder: &Path, typed: &[&str], signals: libc::sighandler_t) -> Child {
     let mut command = lohenarr(folder);
-    command.args(["read", dump, "257", "--block", "1", "--out", "new"]);
+    command.args(typed);
     command.stdout(Stdio::null()).stderr(Stdio::piped());
     // Safety: sets what signals do in the new process, and nothing else.
     unsafe {
@@ -162,9 +173,9 @@ fn begun(folder: &Path, dump: &str, signals: libc::sighandler_t) -> Child {
     child
 }
 
-const SIGNALS: [i32; 3] = [libc::SIGINT, libc::SIGTERM, libc::SIGHUP];
+pub const SIGNALS: [i32; 3] = [libc::SIGINT, libc::SIGTERM, libc::SIGHUP];
 
-fn send(child: &Child, signal: i32) {
+pub fn send(child: &Child, signal: i32) {
     // Safety: a signal to a process that has not been waited for.
     unsafe { libc::kill(child.id() as i32, signal) };
 }

@@ -13,7 +13,12 @@ use super::{lohenarr, said};
 #[test]
 fn a_closed_pipe_ends_by_its_signal() {
     let folder = dumps::folder();
-    for typed in [&["pages", "-"][..], &["read", "-", "257"], &["tree", "-"]] {
+    for typed in [
+        &["pages", "-"][..],
+        &["read", "-", "257"],
+        &["tree", "-"],
+        &["certify", "-", "257"],
+    ] {
         let mut command = lohenarr(folder.path());
         command.args(typed).args(["--block", "4"]);
         command.stdin(Stdio::piped()).stdout(Stdio::piped());
@@ -33,8 +38,13 @@ fn an_output_that_is_full() {
         (&["pages", "W", "-b4"][..], false),
         (&["pages", "empty", "-b4"], true),
         (&["tree", "forest", "-b8"], false),
+        (&["records", "W", "257", "-b4"], false),
+        (&["certify", "W", "257", "-b4"], false),
         (&["tree", "forest", "-b8", "--json"], false),
         (&["compare", "W", "morning", "-b4"], false),
+        (&["export", "W", "new", "-b4"], false),
+        (&["map", "W", "-o-", "-b4"], false),
+        (&["map", "empty", "-o-", "-b4"], true),
         (&["completions", "bash"], false),
         (&["help", "size"], false),
     ];

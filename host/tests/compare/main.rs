@@ -4,8 +4,8 @@
 //! - `second`: the second reader, written from the documents alone.
 //! - `generator`: dumps and requests from a seed.
 //! - `library`: the library's answers to the same requests.
-//! - `lent`, `lent_tree`: what reasons and trees leave in the memory that they are
-//!   lent.
+//! - `lent`, `lent_records`, `lent_tree`: what reasons, records and trees leave in the
+//!   memory that they are lent.
 //! - `corpus`: dumps that the YAFFS2 driver wrote.
 //! - `pairs`: two dumps compared.
 //! - `paths`: objects by their paths.
@@ -20,6 +20,8 @@ mod corpus;
 mod generator;
 #[cfg(test)]
 mod lent;
+#[cfg(test)]
+mod lent_records;
 #[cfg(test)]
 mod lent_tree;
 mod library;

@@ -20,7 +20,8 @@
 //! `long` the long one, each by its table, and both sides copy each piece of the
 //! dump to the same buffer. `spans` is why each byte of the long file is what it
 //! is, and `spans short` of a short one, from the dump alone: plain Rust goes over
-//! it once, and keeps the object's records. `tree` is the text of the tree, and
+//! it once, and keeps the object's records. `records` is how each record of the long
+//! file stands, and `history` what the file was after each, in the same way. `tree` is the text of the tree, and
 //! `tree full` the same on a dump in which every page is the header of an object of
 //! its own: plain Rust sorts what the library does. `compare` is what differs between
 //! the dump and the same with a few pages in a hundred changed, object by object: plain
@@ -37,6 +38,7 @@ mod forest;
 mod hostile;
 mod index;
 mod plain;
+mod records;
 mod sleuthkit;
 mod spans;
 mod timing;
@@ -222,18 +224,50 @@ fn pages(dump: &[u8], rounds: usize) {
             || spans::spans(dump, on.layout, object),
         );
     }
+    timing::compare(
+        "records",
+        rounds,
+        || stands(dump, on, LONG),
+        || Ok(records::stands(dump, on.layout, LONG)),
+    );
+    timing::compare(
+        "history",
+        rounds,
+        || history(dump, on, LONG),
+        || Ok(records::history(dump, on.layout, LONG)),
+    );
     tree("tree", dump, on, rounds);
     lookups(dump, on, rounds);
 }
 
+/// What is asked of the dump alone, as it stands.
+fn as_it_stands(dump: &[u8], on: Geometry) -> Reasons<'_> {
+    let before = None;
+    Reasons { dump, on, before }
+}
+
+/// How the records of an object stand, by the library.
+fn stands(dump: &[u8], on: Geometry, object: u32) -> Result<Vec<records::Standing>, u32> {
+    let rows = as_it_stands(dump, on).stands(object)?;
+    let rows = rows.iter();
+    Ok(rows
+        .map(|row| (row.page, row.stands, row.by, row.from, row.until))
+        .collect())
+}
+
+/// What a file was after each of its records, by the library.
+fn history(dump: &[u8], on: Geometry, object: u32) -> Result<Vec<records::After>, u32> {
+    let told = |row: &ffi::HistoryAnswer| match row.refusal {
+        0 => (row.page, Ok(row.size)),
+        refusal => (row.page, Err(refusal)),
+    };
+    let rows = as_it_stands(dump, on).history(object)?;
+    Ok(rows.iter().map(told).collect())
+}
+
 /// The runs of a live file, by the library.
 fn reasons(dump: &[u8], on: Geometry, object: u32) -> Option<Vec<spans::Span>> {
-    let reasons = Reasons {
-        dump,
-        on,
-        before: None,
-    };
-    let (answer, rows) = reasons.spans(object);
+    let (answer, rows) = as_it_stands(dump, on).spans(object);
     let spans = rows.into_iter().map(|row| ffi::span(on, row));
     (answer.refusal == 0).then(|| spans.map(|s| (s.from, s.reason, s.page)).collect())
 }

@@ -13,14 +13,14 @@ const COUNT: u32 = 4;
 pub type Span = (u64, u32, u32);
 
 /// A record: its place in the order, its page, and what it says.
-struct Record {
-    age: u64,
-    page: u32,
-    says: Says,
+pub struct Record {
+    pub age: u64,
+    pub page: u32,
+    pub says: Says,
 }
 
 #[derive(Clone, Copy)]
-enum Says {
+pub enum Says {
     Header {
         gone: bool,
         file: bool,
@@ -122,7 +122,7 @@ fn reason(cut: Option<&Record>, copy: Option<(u64, &Record)>, place: u64, data: 
 }
 
 /// The records of an object, by page.
-fn records(dump: &[u8], layout: u32, object: u32) -> Vec<Record> {
+pub fn records(dump: &[u8], layout: u32, object: u32) -> Vec<Record> {
     let (data, spare, tag) = LAYOUTS[layout as usize];
     let mut records = Vec::new();
     for (page, bytes) in dump.chunks_exact(data + spare).enumerate() {

@@ -1,13 +1,19 @@
 //! Dumps that a YAFFS2 driver wrote, and what the driver shows of them.
 //!
 //! - `command`: what the command reads of them.
+//! - `certify`: the certificates of their files.
+//! - `records`: how the records of their files stand.
 //! - `tree`: their paths.
 //! - `compare`: an evening's beside the morning's.
+//! - `export`: what is exported of them.
 //!
 //! What the second reader makes of them is among its own tests.
 
+mod certify;
 mod command;
 mod compare;
+mod export;
+mod records;
 mod tree;
 
 use std::fs;

@@ -6,6 +6,7 @@
 //! - `shelf`: the shelf dump W.
 //! - `dump`: dumps that crowd the edges of the rules.
 //! - `rewritten`: dumps of files that are cut and grow again.
+//! - `shrunk`: dumps of a file that is cut inside its chunks.
 //! - `trees`: dumps of directories, loops and what has no path.
 //! - `pairs`: two dumps to be compared.
 //! - `controller`, `night`: a controller that writes pages, and what it does.
@@ -28,6 +29,7 @@ pub mod requests;
 mod rewritten;
 pub mod rng;
 pub mod shelf;
+mod shrunk;
 mod trees;
 
 #[cfg(test)]
@@ -48,16 +50,17 @@ pub struct Case {
     pub requests: Vec<Request>,
 }
 
-/// Of so many seeds one makes a dump of files that are written over and over, and
-/// one a tree.
-const SORTS: u64 = 6;
+/// Of so many seeds two make a dump of files that are written over and over, two a
+/// tree, and one a file that is cut inside its chunks.
+const SORTS: u64 = 12;
 
 /// The case of a seed.
 pub fn case(seed: u64) -> Case {
     let mut rng = Rng::new(seed);
     let dump = match seed % SORTS {
-        0 => rewritten::dump(&mut rng),
-        3 => trees::dump(&mut rng),
+        0 | 6 => rewritten::dump(&mut rng),
+        3 | 9 => trees::dump(&mut rng),
+        4 => shrunk::dump(&mut rng),
         _ => dump::dump(&mut rng),
     };
     let requests = requests::requests(&mut rng, &dump);

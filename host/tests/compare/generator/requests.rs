@@ -10,7 +10,7 @@ use crate::second::script::Request;
 
 /// Requests to this dump: about it as a whole, lookups on it alone, one or two
 /// lists of additions and lookups on an index, calls on other cells, why bytes are
-/// what they are, and trees.
+/// what they are, trees, and how records stand.
 pub fn requests(rng: &mut Rng, dump: &Dump) -> Vec<Request> {
     let list = Vec::new();
     let mut asker = Asker {
@@ -37,6 +37,9 @@ pub fn requests(rng: &mut Rng, dump: &Dump) -> Vec<Request> {
     for _ in 0..asker.rng.between(1, 4) {
         let on = asker.past();
         asker.list.push(Request::Tree { on });
+    }
+    for _ in 0..asker.rng.between(6, 10) {
+        asker.records_alone();
     }
     asker.list
 }
@@ -109,6 +112,15 @@ impl Asker<'_> {
                 object,
                 position,
             },
+        });
+    }
+
+    /// How the records of an object stand, or what its file was after each.
+    fn records_alone(&mut self) {
+        let (on, object) = (self.past(), self.object());
+        self.list.push(match self.rng.chance(60) {
+            true => Request::Stands { on, object },
+            false => Request::History { on, object },
         });
     }
 

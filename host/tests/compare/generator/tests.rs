@@ -2,27 +2,31 @@
 
 use std::collections::BTreeMap;
 
-use super::case;
-use super::pairs::pair;
+use super::pairs::{pair, Pair};
+use super::{case, Case};
 use crate::second::compare::text;
 use crate::second::find::find;
+use crate::second::script::{answer, Request};
 use crate::second::wrong::{Wrong, WRONG_COMPARING, WRONG_RULES};
 use crate::SEEDS;
 
 /// Dumps that every wrong rule must be noticed within.
 const DUMPS: u64 = 1000;
 
-#[test]
-fn every_wrong_rule_is_noticed() {
-    let mut left: Vec<Wrong> = WRONG_RULES.to_vec();
-    let mut noticed = Vec::new();
+/// Every one of these rules must be noticed: by what is made of some seed, beside what
+/// the right rules make of it.
+fn all_noticed<C, R>(
+    rules: &[Wrong],
+    made: impl Fn(u64) -> (C, R),
+    differs: impl Fn(&C, &R, Wrong) -> bool,
+) {
+    let mut left = rules.to_vec();
     for seed in 1..=DUMPS {
-        let case = case(seed);
-        let right: Vec<_> = case.answers(Wrong::None).collect();
+        let (case, right) = made(seed);
         left.retain(|&wrong| {
-            let differs = case.answers(wrong).zip(&right).any(|(a, r)| a != *r);
+            let differs = differs(&case, &right, wrong);
             if differs {
-                noticed.push((wrong, seed));
+                println!("{wrong:?}: {seed}");
             }
             !differs
         });
@@ -30,10 +34,98 @@ fn every_wrong_rule_is_noticed() {
             break;
         }
     }
-    for (wrong, dumps) in &noticed {
-        println!("{wrong:?}: {dumps}");
-    }
     assert!(left.is_empty(), "not noticed: {left:?}");
+}
+
+#[test]
+fn every_wrong_rule_is_noticed() {
+    let made = |seed| {
+        let case = case(seed);
+        let right: Vec<_> = case.answers(Wrong::None).collect();
+        (case, right)
+    };
+    all_noticed(WRONG_RULES, made, |case, right, wrong| {
+        case.answers(wrong).zip(right).any(|(a, r)| a != *r)
+    });
+}
+
+/// Rules that how records stand must show by itself, and those that histories must.
+const SHOWN_BY_STANDS: [Wrong; 31] = [
+    Wrong::BlockIgnored,
+    Wrong::LowestSequenceForeign,
+    Wrong::IdMasked,
+    Wrong::CountAbovePageTaken,
+    Wrong::TagTypeNotCompared,
+    Wrong::ShrinkMarkOnlyOne,
+    Wrong::EveryObjectsRecords,
+    Wrong::OrderByPageAlone,
+    Wrong::LowerPageNewer,
+    Wrong::SequenceSigned,
+    Wrong::OldBytesComeBack,
+    Wrong::EveryHeaderCuts,
+    Wrong::NewestHeaderNoCut,
+    Wrong::NewestOfFilesCuts,
+    Wrong::MarkCutsEveryType,
+    Wrong::EarlierCutsCount,
+    Wrong::DirectoryDeletionNoCut,
+    Wrong::OldDeletionNoCut,
+    Wrong::ParentFourLive,
+    Wrong::OldestCopyWins,
+    Wrong::ValidNotCut,
+    Wrong::ValidToNewestCut,
+    Wrong::OlderWithItself,
+    Wrong::OlderThanNoRecord,
+    Wrong::WhyOldestCuts,
+    Wrong::WhyLowestCuts,
+    Wrong::WhyNewestHeaderCuts,
+    Wrong::WhyHighestPageCuts,
+    Wrong::WhyCutOnlyBelow,
+    Wrong::WhyEarlierCuts,
+    Wrong::BadObjectBeforeBadPage,
+];
+const SHOWN_BY_HISTORIES: [Wrong; 16] = [
+    Wrong::BlockIgnored,
+    Wrong::HighestSequenceForeign,
+    Wrong::FullCountDamaged,
+    Wrong::TypeOfOneByte,
+    Wrong::EveryObjectsRecords,
+    Wrong::OrderByPageAlone,
+    Wrong::LowerSequenceNewer,
+    Wrong::SequenceSigned,
+    Wrong::SizeOfHeaderAlone,
+    Wrong::SizeOfAllData,
+    Wrong::SizeWraps,
+    Wrong::ParentThreeLive,
+    Wrong::OlderBySequenceAlone,
+    Wrong::OlderThanNoRecord,
+    Wrong::BadObjectBeforeBadPage,
+    Wrong::NotAFileBeforeDeleted,
+];
+
+#[test]
+fn records_alone_show_what_they_rest_on() {
+    let asks_stands = |request: &Request| matches!(request, Request::Stands { .. });
+    let asks_history = |request: &Request| matches!(request, Request::History { .. });
+    noticed_by(&SHOWN_BY_STANDS, asks_stands);
+    noticed_by(&SHOWN_BY_HISTORIES, asks_history);
+}
+
+/// Every one of these rules must be noticed by such requests alone.
+fn noticed_by(rules: &[Wrong], asks: impl Fn(&Request) -> bool) {
+    let answers = |case: &Case, wrong| {
+        let mut reader = case.reader(wrong);
+        let requests = case.requests.iter().filter(|request| asks(request));
+        let answers = requests.map(|request| answer(&mut reader, request));
+        answers.collect::<Vec<_>>()
+    };
+    let made = |seed| {
+        let case = case(seed);
+        let right = answers(&case, Wrong::None);
+        (case, right)
+    };
+    all_noticed(rules, made, |case, right, wrong| {
+        answers(case, wrong) != *right
+    });
 }
 
 /// Rules about one dump that two dumps compared must show as well: of page kinds, newest,
@@ -61,27 +153,16 @@ const SHOWN_BY_PAIRS: [Wrong; 18] = [
 
 #[test]
 fn every_wrong_rule_of_comparing_is_noticed() {
-    let mut left = [WRONG_COMPARING, &SHOWN_BY_PAIRS].concat();
-    let mut noticed = Vec::new();
-    for seed in 1..=DUMPS {
+    let rules = [WRONG_COMPARING, &SHOWN_BY_PAIRS].concat();
+    let answer = |pair: &Pair, wrong| pair.answer(wrong).map(|found| text(&found));
+    let made = |seed| {
         let pair = pair(seed);
-        let answer = |wrong| pair.answer(wrong).map(|found| text(&found));
-        let right = answer(Wrong::None);
-        left.retain(|&wrong| {
-            let differs = answer(wrong) != right;
-            if differs {
-                noticed.push((wrong, seed));
-            }
-            !differs
-        });
-        if left.is_empty() {
-            break;
-        }
-    }
-    for (wrong, pairs) in &noticed {
-        println!("{wrong:?}: {pairs}");
-    }
-    assert!(left.is_empty(), "not noticed: {left:?}");
+        let right = answer(&pair, Wrong::None);
+        (pair, right)
+    };
+    all_noticed(&rules, made, |pair, right, wrong| {
+        answer(pair, wrong) != *right
+    });
 }
 
 #[test]
@@ -115,37 +196,61 @@ fn every_difference_and_refusal_occurs() {
 }
 
 /// What an answer line begins with: its word, or for a refusal its number and for
-/// a reason its name.
-fn shape(line: &str) -> &str {
+/// a reason its name. Of records, how each stands or what was told after it.
+fn shapes(line: &str) -> Vec<String> {
     let reason = || line.split(" until=").next()?.split(" page=").next();
-    match line.split('=').next() {
-        Some("refusal") => line.split(' ').next().unwrap_or(line),
-        Some("reason") => reason().unwrap_or(line),
+    let shape = match line.split_once('=') {
+        Some(("refusal", _)) => line.split(' ').next().unwrap_or(line),
+        Some(("reason", _)) => reason().unwrap_or(line),
+        Some((word @ "stands", records)) => return told(word, records, 1),
+        Some((word @ "history", records)) => return told(word, records, 2),
         _ => line.split(['=', ' ']).next().unwrap_or(line),
-    }
+    };
+    vec![shape.to_string()]
+}
+
+/// What is told of each record behind its page: so many words of it, but for sizes.
+fn told(word: &str, records: &str, words: usize) -> Vec<String> {
+    let records = records.split(',').map(|record| {
+        let told: Vec<&str> = record.split(':').skip(1).take(words).collect();
+        match told[0] {
+            "size" => format!("{word}=size"),
+            _ => format!("{word}={}", told.join(":")),
+        }
+    });
+    records.collect()
 }
 
 #[test]
 fn every_answer_and_refusal_occurs() {
-    let mut shapes: BTreeMap<String, usize> = BTreeMap::new();
+    let mut seen: BTreeMap<String, usize> = BTreeMap::new();
     for seed in 1..=300 {
         for (answer, _) in case(seed).answers(Wrong::None) {
-            *shapes.entry(shape(&answer.line).to_string()).or_default() += 1;
+            for shape in shapes(&answer.line) {
+                *seen.entry(shape).or_default() += 1;
+            }
         }
     }
-    println!("{shapes:#?}");
+    println!("{seen:#?}");
     for number in 1..=16 {
-        assert!(
-            shapes.contains_key(&format!("refusal={number}")),
-            "{number}"
-        );
+        assert!(seen.contains_key(&format!("refusal={number}")), "{number}");
     }
     let others =
         "done size page hole part ids layout pages blank foreign damaged header data type objects listed";
-    let reasons = ["held", "no copy", "cut", "count", "past end"];
-    let reasons = reasons.map(|reason| format!("reason={reason}"));
-    for word in others.split(' ').chain(reasons.iter().map(String::as_str)) {
-        assert!(shapes.contains_key(word), "{word}");
+    let lists = [
+        ("reason", "held,no copy,cut,count,past end"),
+        (
+            "stands",
+            "newest header,older header,superseded,cut,holds,no file",
+        ),
+        ("history", "size,refusal:7,refusal:8,refusal:9"),
+    ];
+    let listed = lists.iter().flat_map(|(word, names)| {
+        let names = names.split(',');
+        names.map(move |name| format!("{word}={name}"))
+    });
+    for shape in others.split(' ').map(String::from).chain(listed) {
+        assert!(seen.contains_key(&shape), "{shape}");
     }
 }
 

@@ -159,7 +159,7 @@ impl<'d> Reader<'d> {
             _ => None,
         };
         let Some(before) = sees(before) else {
-            return vec![false; pages];
+            return vec![self.wrong == Wrong::OlderThanNoRecord; pages];
         };
         let older = |record: Record| {
             let (one, other) = (age(&record, self.wrong), age(&before, self.wrong));

@@ -19,6 +19,8 @@
 //! - `tree`: paths from the root, and what has none.
 //! - `compare`: two dumps, and what differs between them.
 //! - `why`: why a byte of a file is what it is.
+//! - `stands`: how each record of an object stands.
+//! - `history`: what a file was after each of its records.
 //! - `script`: requests and their answer lines.
 //! - `report`: the ten lines of the report.
 //! - `wrong`: rules made wrong on purpose, one at a time.
@@ -27,6 +29,7 @@ pub mod cells;
 pub mod compare;
 pub mod copies;
 pub mod find;
+pub mod history;
 pub mod index;
 pub mod layout;
 pub mod lookup;
@@ -37,6 +40,7 @@ pub mod refusal;
 pub mod report;
 pub mod rules;
 pub mod script;
+pub mod stands;
 pub mod table;
 pub mod tree;
 pub mod whole;

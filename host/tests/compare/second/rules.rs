@@ -21,7 +21,9 @@ impl Object {
     /// The records of one id among all.
     pub fn among(records: &[Record], id: u32, layout: Layout, wrong: Wrong) -> Object {
         let mut records = records.to_vec();
-        records.retain(|record| record.object == id);
+        if wrong != Wrong::EveryObjectsRecords {
+            records.retain(|record| record.object == id);
+        }
         Object {
             id,
             records,
@@ -62,6 +64,12 @@ impl Object {
             .rposition(|r| matches!(r.body, Body::Header { .. }))
     }
 
+    /// Whether the record at this place is a header of a file.
+    pub(super) fn is_file(&self, place: usize) -> bool {
+        let body = self.records[place].body;
+        matches!(body, Body::Header { file_type: 1, .. })
+    }
+
     /// The type, which the newest header alone gives.
     pub fn file_type(&self) -> Option<u32> {
         match self.records[self.newest_header()?].body {
@@ -76,7 +84,7 @@ impl Object {
             .is_some_and(|place| self.deletes(place))
     }
 
-    fn deletes(&self, place: usize) -> bool {
+    pub(super) fn deletes(&self, place: usize) -> bool {
         match self.records[place].body {
             Body::Header { parent, .. } => match self.wrong {
                 Wrong::ParentFourLive => parent == 3,
@@ -98,7 +106,11 @@ impl Object {
         else {
             return None;
         };
-        let newest = self.newest_header() == Some(place);
+        let newest = match self.wrong {
+            Wrong::NewestOfFilesCuts => (0..self.records.len()).rfind(|&later| self.is_file(later)),
+            _ => self.newest_header(),
+        };
+        let newest = newest == Some(place);
         if self.deletes(place) {
             let cuts = match self.wrong {
                 Wrong::DirectoryDeletionNoCut => file_type != 3,
@@ -161,12 +173,20 @@ impl Object {
         Some(end.max(size as u64))
     }
 
+    /// The places of the data records with number n, from oldest to newest.
+    pub(super) fn data_of(&self, n: u64) -> impl DoubleEndedIterator<Item = usize> + '_ {
+        let is_n = move |place: &usize| match self.records[*place].body {
+            Body::Data { chunk, .. } => u64::from(chunk) == n,
+            Body::Header { .. } => false,
+        };
+        (0..self.records.len()).filter(is_n)
+    }
+
     /// The place of the copy of chunk n: its newest data record, hidden or not.
     pub fn newest_data(&self, n: u64) -> Option<usize> {
-        let is_n = |r: &Record| matches!(r.body, Body::Data { chunk, .. } if chunk as u64 == n);
         match self.wrong {
-            Wrong::OldestCopyWins => self.records.iter().position(is_n),
-            _ => self.records.iter().rposition(is_n),
+            Wrong::OldestCopyWins => self.data_of(n).next(),
+            _ => self.data_of(n).next_back(),
         }
     }
 
@@ -199,13 +219,15 @@ impl Object {
         let Body::Data { count, .. } = self.records[place].body else {
             return 0;
         };
-        let mut valid = self.shown(n).min(count as u64);
-        if self.wrong != Wrong::ValidNotCut {
-            for cut in self.later_cuts(place) {
-                valid = valid.min(cut.saturating_sub(self.start(n)));
-            }
-        }
-        valid
+        let whole = self.shown(n).min(count as u64);
+        let cuts = self.later_cuts(place);
+        let mut ends = cuts.iter().map(|cut| cut.saturating_sub(self.start(n)));
+        let end = match self.wrong {
+            Wrong::ValidNotCut => None,
+            Wrong::ValidToNewestCut => ends.rfind(|&end| end < u64::from(count)),
+            _ => ends.min(),
+        };
+        end.map_or(whole, |end| end.min(whole))
     }
 
     /// Visits from the newest record down to the one at this place.
@@ -248,10 +270,7 @@ impl Object {
         if self.wrong != Wrong::OlderCopyFillsIn {
             return None;
         }
-        let older = self.records[..place].iter().rev();
-        let mut copies = older
-            .filter(|r| matches!(r.body, Body::Data { chunk, .. } if chunk as u64 == n))
-            .copied();
-        copies.next()
+        let older = self.data_of(n).rfind(|&older| older < place);
+        older.map(|older| self.records[older])
     }
 }

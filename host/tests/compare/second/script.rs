@@ -5,11 +5,13 @@ use std::fmt;
 use crc32fast::hash as crc32;
 
 use super::copies::{unpacked, Copies, Copy};
+use super::history::Told;
 use super::index::{Lent, Over, Reader, Refused};
 use super::layout::{Layout, Named};
 use super::lookup::Chunk;
 use super::page::{Body, Field, Kind};
 use super::refusal::Refusal;
+use super::stands::Standing;
 use super::tree::Tree;
 use super::why::{Past, Spans, Why};
 
@@ -112,6 +114,14 @@ pub enum Request {
         on: Past,
         object: u64,
     },
+    Stands {
+        on: Past,
+        object: u64,
+    },
+    History {
+        on: Past,
+        object: u64,
+    },
     Tree {
         on: Past,
     },
@@ -126,7 +136,8 @@ pub enum Request {
 
 /// An answer: its line, and the lent buffer as the call left it. What a line leaves
 /// out stands there too: the byte of a position, the data byte with which each run
-/// of a file begins, and of a tree its text and two words for each object.
+/// of a file begins, of each record the three numbers that say how it stands or the
+/// size after it, and of a tree its text and two words for each object.
 #[derive(Clone, Debug, Default, PartialEq, Eq)]
 pub struct Answer {
     pub line: String,
@@ -276,6 +287,8 @@ impl fmt::Display for Request {
                 position,
             } => past(f, "dwhy", on, &format!("{object} {position}")),
             Request::Spans { on, object } => past(f, "dspans", on, &object.to_string()),
+            Request::Stands { on, object } => past(f, "dstands", on, &object.to_string()),
+            Request::History { on, object } => past(f, "dhistory", on, &object.to_string()),
             Request::Tree { on } => past(f, "dtree", on, ""),
             Request::Fill { word } => write!(f, "fill {word:#x}"),
             Request::Poke { at, word } => write!(f, "poke {at} {word:#x}"),
@@ -392,6 +405,20 @@ pub fn answer(reader: &mut Reader<'_>, request: &Request) -> Answer {
             }
             Ok(spans.map_or_else(number_line, spans_line))
         }
+        Request::Stands { on, object } => {
+            let stands = reader.stands(on, object);
+            if let Ok(stands) = &stands {
+                answer.rows = stands.iter().flat_map(|(_, s)| s.row()).collect();
+            }
+            Ok(stands.map_or_else(number_line, stands_line))
+        }
+        Request::History { on, object } => {
+            let history = reader.history(on, object);
+            if let Ok(history) = &history {
+                answer.rows = history.iter().map(|(_, told)| told.unwrap_or(0)).collect();
+            }
+            Ok(history.map_or_else(number_line, history_line))
+        }
         Request::Tree { on } => {
             let tree = reader.tree(on);
             if let Ok(tree) = &tree {
@@ -460,6 +487,30 @@ fn spans_line(spans: Spans) -> String {
     });
     let runs: Vec<String> = runs.collect();
     format!("size={} spans={}", spans.size, runs.join(","))
+}
+
+/// Records with how they stand, and what that names.
+fn stands_line(stands: Vec<(usize, Standing)>) -> String {
+    let records = stands.iter().map(|(page, standing)| {
+        let name = standing.name();
+        match standing {
+            Standing::Superseded { by } | Standing::Cut { by } => format!("{page}:{name}:{by}"),
+            Standing::Holds { from, until } => format!("{page}:{name}:{from}:{until}"),
+            _ => format!("{page}:{name}"),
+        }
+    });
+    let records: Vec<String> = records.collect();
+    format!("stands={}", records.join(","))
+}
+
+/// Records with the size or the refusal after each.
+fn history_line(history: Vec<(usize, Told)>) -> String {
+    let records = history.iter().map(|(page, told)| match told {
+        Ok(size) => format!("{page}:size:{size}"),
+        Err(refusal) => format!("{page}:refusal:{}", *refusal as u8),
+    });
+    let records: Vec<String> = records.collect();
+    format!("history={}", records.join(","))
 }
 
 fn tree_line(tree: &Tree, text: &[u8]) -> String {

@@ -140,7 +140,7 @@ impl Object {
 
     /// The place of the newest header that is newer than a copy and cuts at or
     /// below a position.
-    fn cutter(&self, copy: usize, position: u64) -> Option<usize> {
+    pub(super) fn cutter(&self, copy: usize, position: u64) -> Option<usize> {
         let from = match self.wrong {
             Wrong::WhyEarlierCuts => 0,
             _ => copy + 1,
@@ -155,6 +155,7 @@ impl Object {
             Wrong::WhyOldestCuts => cutting.next(),
             Wrong::WhyLowestCuts => cutting.min_by_key(|&place| self.cut(place)),
             Wrong::WhyNewestHeaderCuts => cutting.next().and(self.newest_header()),
+            Wrong::WhyHighestPageCuts => cutting.max_by_key(|&place| self.records[place].page),
             _ => cutting.next_back(),
         }
     }
@@ -240,7 +241,7 @@ impl Object {
 impl Reader<'_> {
     /// An object on the dump alone, after the tests that come before those of
     /// its records.
-    fn alone(&self, on: Past, object: u64) -> Result<(Layout, Object), Refusal> {
+    pub(super) fn alone(&self, on: Past, object: u64) -> Result<(Layout, Object), Refusal> {
         let (layout, pages) = self.opened(on.layout, on.k)?;
         let bad_page = on.before.is_some_and(|page| page >= pages as u64);
         let tests = [(Refusal::BadPage, bad_page), Self::bad_object(object)];

@@ -106,6 +106,8 @@ wrong_rules! {
     LastBlockNotCounted,
 
     // Newest, size and cuts.
+    /// A record is of every object.
+    EveryObjectsRecords,
     /// Records are ordered by page number alone.
     OrderByPageAlone,
     /// A lower sequence is newer.
@@ -126,6 +128,8 @@ wrong_rules! {
     EveryHeaderCuts,
     /// The newest header cuts only if it is shrink-marked.
     NewestHeaderNoCut,
+    /// The newest header of a file cuts, whatever header is newer.
+    NewestOfFilesCuts,
     /// A header that is no file cuts if shrink-marked.
     MarkCutsEveryType,
     /// Headers older than a copy cut it.
@@ -146,6 +150,8 @@ wrong_rules! {
     HiddenOnlyBelow,
     /// A later cut does not shorten the valid length.
     ValidNotCut,
+    /// Of the later cuts inside a copy the newest shortens it, not the lowest.
+    ValidToNewestCut,
     /// The shown length is P everywhere.
     ShownNotLimited,
     /// A read clears its buffer to the end.
@@ -195,6 +201,8 @@ wrong_rules! {
     EveryPageOlder,
     /// A run of older records takes pages that are none.
     OlderWithoutRecords,
+    /// Every record is older than a page that is none.
+    OlderThanNoRecord,
     /// A refused addition does not end a run.
     RunPassesRefused,
 
@@ -331,6 +339,8 @@ wrong_rules! {
     WhyLowestCuts,
     /// Where some header cuts, the newest header is named.
     WhyNewestHeaderCuts,
+    /// Of the headers that cut, the one on the highest page is named.
+    WhyHighestPageCuts,
     /// The byte count is asked before the cuts.
     WhyCountBeforeCut,
     /// A header that cuts at the position itself does not cut.
@@ -379,6 +389,108 @@ wrong_rules! {
     SpansWithEnd,
     /// The runs of a file come in the order of their pages.
     SpansByPage,
+
+    // How records stand.
+    /// The next newer copy supersedes, not the newest.
+    StandsByNextCopy,
+    /// The copy on the highest page supersedes.
+    StandsByCopyOnPage,
+    /// A copy that is cut supersedes none.
+    StandsCutSupersedesNot,
+    /// A copy that ends sooner supersedes none.
+    StandsShorterSupersedesNot,
+    /// Whether it is cut is asked before whether it is superseded.
+    StandsCutFirst,
+    /// Whether the object is a file is asked first.
+    StandsNoFileFirst,
+    /// Whether the object is a file is asked before whether it is cut.
+    StandsNoFileBeforeCut,
+    /// A header that cuts at or below its chunk's end cuts it.
+    StandsCutAtEnd,
+    /// A header that cuts inside its bytes cuts it.
+    StandsCutInside,
+    /// What a deletion cuts is not cut.
+    StandsDeletionNoCut,
+    /// What the newest header cuts is not cut.
+    StandsNewestNoCut,
+    /// It holds the rest of its page.
+    StandsHoldsPage,
+    /// It holds what its chunk shows.
+    StandsHoldsShown,
+    /// The newest header does not shorten what it holds.
+    StandsHoldsPastSize,
+    /// What it holds is told in 32 bits.
+    StandsHoldsWraps,
+    /// What it holds is told by its length.
+    StandsHoldsLength,
+    /// What it holds is told by places in its page.
+    StandsHoldsInPage,
+    /// What it holds is told up to its last byte.
+    StandsHoldsToLast,
+    /// The header on the highest page stands as the newest.
+    StandsTopByPage,
+    /// The newest header of a file stands as the newest.
+    StandsTopOfFiles,
+    /// The newest header that does not delete stands as the newest.
+    StandsTopLive,
+    /// No header with newer data stands as the newest.
+    StandsTopOfRecords,
+    /// Data of a deleted file holds.
+    StandsDeletedHolds,
+    /// Data without a header holds.
+    StandsHeaderlessHolds,
+    /// Data of what is no file holds.
+    StandsOtherTypesHold,
+    /// Data of what was once a file holds.
+    StandsOnceAFile,
+    /// Records stand in the order of their pages.
+    StandsByPage,
+    /// Records stand from the newest on.
+    StandsNewestFirst,
+    /// Records below the newest header are left out.
+    StandsFromHeader,
+    /// Records stand, and have the history, of the dump as it stands, before every record.
+    StandsAsItStands,
+    /// Where a size is refused, so is how records stand.
+    StandsRefusedAsSize,
+
+    // Histories.
+    /// A size never falls.
+    HistoryNeverFalls,
+    /// A header without the mark lowers no size.
+    HistoryUnmarkedKeeps,
+    /// After data the file ends where that does.
+    HistoryOwnEnd,
+    /// Data before the first header is no object.
+    HistoryHeaderlessAbsent,
+    /// Data before the first header makes a file.
+    HistoryHeaderlessSized,
+    /// A deleted file has the size 0.
+    HistoryDeletedEmpty,
+    /// A deleted file keeps its size.
+    HistoryDeletedSized,
+    /// What was deleted once stays so.
+    HistoryDeletedStays,
+    /// Data after a deletion makes a file again, and data of what is no file does.
+    HistoryDataRevives,
+    /// What is no file has a size.
+    HistoryTypesSized,
+    /// The newest header of all decides what the object was.
+    HistoryTypeOfNewest,
+    /// What is told of a record is what was before it.
+    HistoryBeforeEach,
+    /// Records on lower pages were there before.
+    HistorySeesLowerPages,
+    /// The history is in the order of pages.
+    HistoryByPage,
+    /// The history goes from the newest record on.
+    HistoryNewestFirst,
+    /// The history is that of headers alone.
+    HistoryOfHeaders,
+    /// The history has the records that change something.
+    HistoryOfChanges,
+    /// Where a size is refused, so is the history.
+    HistoryRefusedAsSize,
 
     // The tree.
     /// An object of depth 33 is listed.

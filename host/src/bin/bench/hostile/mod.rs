@@ -38,7 +38,7 @@ const NOISE: f64 = 1.5;
 /// The commands, with what stands behind the dump: `OBJECT` is that of its last
 /// page, which is `LAST`; `ITSELF` is the dump again, and `OTHER` the same with a byte
 /// of every page changed.
-const COMMANDS: [&[&str]; 15] = [
+const COMMANDS: [&[&str]; 19] = [
     &["report"],
     &["find"],
     &["pages"],
@@ -52,6 +52,10 @@ const COMMANDS: [&[&str]; 15] = [
     &["extract"],
     &["why", "OBJECT"],
     &["why", "OBJECT", "1"],
+    &["records", "OBJECT"],
+    &["history", "OBJECT"],
+    &["certify", "OBJECT"],
+    &["map", "--out", "-", "--object", "OBJECT"],
     &["compare", "ITSELF"],
     &["compare", "OTHER"],
 ];

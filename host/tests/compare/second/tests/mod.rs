@@ -4,5 +4,6 @@ mod length;
 mod marked;
 mod nights;
 mod script;
+mod stands;
 mod tree;
 mod why;

@@ -43,6 +43,20 @@ fn requests_as_lines() {
             },
             "dspans 512/16/0 4 257 before=3",
         ),
+        (
+            Request::Stands {
+                on: on(None),
+                object,
+            },
+            "dstands 512/16/0 4 257",
+        ),
+        (
+            Request::History {
+                on: on(Some(8)),
+                object,
+            },
+            "dhistory 512/16/0 4 257 before=8",
+        ),
         (Request::Counts { layout, k }, "counts 512/16/0 4"),
         (Request::Kind { layout, k, page }, "kind 512/16/0 4 3"),
         (Request::Start { lent, seed: 0 }, "start 6 4 48"),

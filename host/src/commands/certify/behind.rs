@@ -1,0 +1,29 @@
+//! The fifth part: the rules, and where they are proved.
+
+use std::io;
+
+use super::document::Document;
+use super::gathered::Gathered;
+use crate::rules::RULES;
+
+impl Gathered<'_> {
+    pub fn behind(&self, to: &mut Document<'_>) -> io::Result<()> {
+        to.part("behind", "What stands behind this?")?;
+        to.list("rules")?;
+        for rule in RULES {
+            let fields = vec![
+                ("rule", rule.number.into()),
+                ("crate", rule.proved_in.into()),
+                ("theorem", rule.theorem.into()),
+                ("says", rule.says.into()),
+            ];
+            to.row(fields, None)?;
+        }
+        to.note(
+            "docs/RULES.md has the rules by these numbers; what the library answered is proved to \
+             follow them, whatever the dump; a K that was found, the sums and this text are the \
+             command's own"
+                .to_string(),
+        )
+    }
+}
