@@ -27,12 +27,13 @@ use Rattle.page.specs.declared.record.Header as header
 use Rattle.page.proofs.Layouts.{and-left, and-right}
 use Rattle.page.proofs.Searching.{clash, by-test, count-none, count-step}
 use Rattle.sort.specs.Arranged.{ascend, arranged}
+use Rattle.sort.specs.Ascending.{In, Ascends}
 use Rattle.sort.proofs.Arranging.{arranged-none, arranged-behind, arranged-length}
-use Rattle.sort.proofs.Ascending.{In, Ascends, ascend-new, ascend-kept, ascend-back, ascend-ascends}
+use Rattle.sort.proofs.Ascending.{ascend-new, ascend-kept, ascend-back, ascend-ascends}
 use Rattle.chunk.specs.Gather.{gather}
 use Rattle.chunk.specs.Records.{isOf, headerOf, isGone}
 use Rattle.chunk.specs.Newest.{newestHeader, records}
-use Rattle.chunk.specs.Live.{passed, idsOf, isAt, objectAt, livePage, liveIds, liveCount, objectPage, objectCount}
+use Rattle.chunk.specs.Live.{passed, idsOf, isAt, objectAt, livePage, liveIds, liveCount, objectPage, objectIds, objectCount}
 use Rattle.chunk.proofs.Records.{of-object, object-of}
 use Rattle.chunk.proofs.Gathering.{gather-step, since-none, since-skip, since-one}
 use Rattle.chunk.proofs.Meaning.{newest-found}
@@ -266,22 +267,18 @@ module _ (says : ℕ → Record) where
       (λ k. absurd (none-behind q p (ltb-true _ _ k) (sym e) t))
       (λ k. omega (arith, ltb-false p q h, ltb-false q p k)))
 
-  -- the ids of the first records
-  abbrev pub objectIds : ℕ → List ℕ
-  objectIds n = idsOf (objectPage says) (objectAt says) n
-
   -- they ascend, each once; they are as many as the count says; and they are exactly the ids of records
-  pub objects-ascend : (n : ℕ) → Ascends 0 (objectIds n)
+  pub objects-ascend : (n : ℕ) → Ascends 0 (objectIds says n)
   objects-ascend n = ids-ascend (objectPage says) (objectAt says) object-apart n
 
-  pub objects-length : (n : ℕ) → length (objectIds n) ≡ objectCount says n
+  pub objects-length : (n : ℕ) → length (objectIds says n) ≡ objectCount says n
   unfolding objectCount
   objects-length n = ids-length (objectPage says) (objectAt says) n
 
-  pub objects-in : (n p : ℕ) → p < n → (objectAt says p ≡ 0 → ⊥) → In (objectAt says p) (objectIds n)
+  pub objects-in : (n p : ℕ) → p < n → (objectAt says p ≡ 0 → ⊥) → In (objectAt says p) (objectIds says n)
   objects-in n p h z = ids-in (objectPage says) (objectAt says) (objectAt says p) n (first-record (objectAt says p) n p h z refl)
 
-  pub objects-of : (n o : ℕ) → In o (objectIds n) → (o ≡ 0 → ⊥) × Bears (λ p. isOf o (says p)) (objectAt says) n o
+  pub objects-of : (n o : ℕ) → In o (objectIds says n) → (o ≡ 0 → ⊥) × Bears (λ p. isOf o (says p)) (objectAt says) n o
   objects-of n o i =
       let w = ids-of (objectPage says) (objectAt says) o n i in
       let some : o ≡ 0 → ⊥ = rw (w .bears) at (object-page (w .page) (w .passes) .0) in (

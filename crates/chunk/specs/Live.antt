@@ -36,7 +36,10 @@ module _ (says : ℕ → Record) where
   objectPage p = not (eqb (objectAt p) 0) && eqb (records says (objectAt p) (pagesBefore p)) 0
 
   module _ (n : ℕ) where
-    -- how many distinct ids the records have
+    -- the distinct ids of the records, ascending, and how many they are
+    abbrev pub objectIds : List ℕ
+    objectIds = idsOf objectPage objectAt n
+
     unfoldable pub objectCount : ℕ
     objectCount = count objectPage n
 

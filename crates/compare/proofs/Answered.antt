@@ -13,9 +13,9 @@ use Rattle.page.specs.declared.geometry.Geometry.{Geometry}
 use Rattle.page.specs.declared.geometry.Opened.{Opened}
 use Rattle.page.specs.declared.geometry.Opened.the-variants as opened
 use Rattle.page.proofs.Searching.{clash}
+use Rattle.sort.specs.Ascending.{In}
 use Rattle.sort.specs.Packed.{packed}
-use Rattle.sort.proofs.Ascending.{In}
-use Rattle.chunk.proofs.Living.{objectIds}
+use Rattle.chunk.specs.Live.{objectIds}
 use Rattle.compare.specs.Lists.{listsReport}
 use Rattle.compare.specs.Prepared as prepared
 use Rattle.compare.specs.Prepared.{recordsIn, recordsOf, orderOf, copiesOf, isRoom, preparedOn, orderLeft, copiesLeft}

@@ -16,14 +16,14 @@ use Rattle.page.specs.declared.record.Record.{Record}
 use Rattle.page.specs.declared.refusal.Refusal.{Refusal}
 use Rattle.page.specs.declared.refusal.Refusal.the-variants.{NoObject}
 use Rattle.page.proofs.Within.{object-within}
-use Rattle.sort.proofs.Ascending.{In}
+use Rattle.sort.specs.Ascending.{In}
 use Rattle.chunk.specs.Lookups.{sizedOf, lookedOf}
-use Rattle.chunk.specs.Live.{objectAt}
+use Rattle.chunk.specs.Live.{objectAt, objectIds}
 use Rattle.chunk.specs.Records.{ageOf}
 use Rattle.chunk.specs.declared.answer.Sized.{Sized}
 use Rattle.chunk.specs.declared.answer.Sized.the-variants as sized
 use Rattle.chunk.proofs.Cases.{size-by-file, chunk-by-file}
-use Rattle.chunk.proofs.Living.{objectIds, objects-in, objects-of}
+use Rattle.chunk.proofs.Living.{objects-in, objects-of}
 use Rattle.index.specs.Ahead.{unvisited}
 use Rattle.index.specs.Chains.{objects}
 use Rattle.index.specs.Held.{fromList}

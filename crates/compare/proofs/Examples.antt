@@ -29,7 +29,7 @@ use Rattle.sort.specs.Arranged.{ascend, arranged, timesIn}
 use Rattle.chunk.specs.Answers.{validPart, partBy}
 use Rattle.chunk.specs.Cuts.{cutOf, lowestCut}
 use Rattle.chunk.specs.Gather.{gather}
-use Rattle.chunk.specs.Live.{passed, idsOf}
+use Rattle.chunk.specs.Live.{passed, idsOf, objectIds}
 use Rattle.chunk.specs.Lookups.{fileAt, fileBy, fileOf, sizedBy, sizedOf, copyAt, copyBy, chunkBy, lookedBy, lookedOf}
 use Rattle.chunk.specs.Newest.{newestWhere, newestHeader, since, records}
 use Rattle.chunk.specs.Sizes.{dataEnd, sizeOf}
@@ -37,7 +37,6 @@ use Rattle.chunk.specs.declared.answer.Looked.{Looked}
 use Rattle.chunk.specs.declared.answer.Looked.the-variants as looked
 use Rattle.chunk.specs.declared.answer.Sized.{Sized}
 use Rattle.chunk.specs.declared.answer.Sized.the-variants as sized
-use Rattle.chunk.proofs.Living.{objectIds}
 use Rattle.text.specs.Decimal.{digits, decimal}
 use Rattle.text.specs.Lines.{fieldOf, lineOf}
 use Rattle.text.specs.Quoted.{bytesOf}

@@ -17,16 +17,18 @@ use Rattle.page.specs.declared.geometry.Opened.the-variants as opened
 use Rattle.page.specs.declared.record.Record.{Record}
 use Rattle.page.proofs.Lengths.{opened-pages}
 use Rattle.page.proofs.Searching.{by-test}
+use Rattle.sort.specs.Ascending.{In, Ascends}
 use Rattle.sort.specs.Packed.{wordValues, packed, keyOf}
 use Rattle.sort.specs.Room.{inRoom, clearedIn}
-use Rattle.sort.proofs.Ascending.{In, Ascends, ascends-in}
+use Rattle.sort.proofs.Ascending.{ascends-in}
 use Rattle.sort.proofs.Clearing.{clear-inside}
 use Rattle.sort.proofs.Packing.{packed-key}
+use Rattle.chunk.specs.Live.{objectIds}
 use Rattle.chunk.specs.Lookups.{sizedOf}
 use Rattle.chunk.specs.Records.{ageOf}
 use Rattle.chunk.specs.declared.answer.Sized.{Sized}
 use Rattle.chunk.specs.declared.answer.Sized.the-variants as sized
-use Rattle.chunk.proofs.Living.{objectIds, objects-ascend}
+use Rattle.chunk.proofs.Living.{objects-ascend}
 use Rattle.index.specs.Chains.{objects}
 use Rattle.index.specs.Held.{recs}
 use Rattle.index.proofs.Sorted.Records.{recs-of}

@@ -10,7 +10,8 @@ use borrow.Author.Tests.{eqb-true, eqb-false, eq-eqb}
 use lib.Dec.{eqb}
 use Rattle.page.proofs.Searching.{by-test}
 use Rattle.sort.specs.Arranged.{timesIn}
-use Rattle.sort.proofs.Ascending.{In, Ascends, ascends-in, ascends-lower, same-members}
+use Rattle.sort.specs.Ascending.{In, Ascends}
+use Rattle.sort.proofs.Ascending.{ascends-in, ascends-lower, same-members}
 use Rattle.sort.proofs.Times.{Once, times-joined, in-times, times-in, times-out, joined-in, in-joined, ascends-once, in-arranged, arranged-in, once-ascends}
 use Rattle.compare.specs.Report.{others, inEither}
 

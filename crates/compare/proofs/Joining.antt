@@ -6,7 +6,8 @@ use mathlib.Core.Path.{_≡_, refl, ap₂, _∙_}
 use native.Mathlib.Nat.{mul-le-mul-right, suc-mul}
 use native.Mathlib.Omega.{arith}
 use lib.ListN.{length}
-use Rattle.sort.proofs.Ascending.{In, Ascends, ascends-lower}
+use Rattle.sort.specs.Ascending.{In, Ascends}
+use Rattle.sort.proofs.Ascending.{ascends-lower}
 use Rattle.sort.proofs.Times as times
 use Rattle.compare.specs.Report.{joined}
 

@@ -13,7 +13,7 @@ use Rattle.page.specs.Choice.{pick}
 use Rattle.page.specs.Search.{count}
 use Rattle.page.proofs.Layouts.{and-left, and-right}
 use Rattle.page.proofs.Searching.{clash, by-test}
-use Rattle.sort.proofs.Ascending.{In, Ascends}
+use Rattle.sort.specs.Ascending.{In, Ascends}
 use Rattle.compare.specs.Views.{byteOf}
 use Rattle.compare.specs.Fields.{fields, fieldPlaces, fieldLengths, placeOf, lengthOf}
 use Rattle.compare.specs.Differences.{differIn, fieldDiffers, fieldsOf, stretchBytes, stretchesIn, stretchDiffers, stretchesTo}

@@ -12,7 +12,7 @@ use borrow.Author.Tests.{lt-ltb, ltb-true}
 use lib.Dec.{ltb}
 use Rattle.page.specs.Search.{count}
 use Rattle.page.proofs.Searching.{clash, by-test, count-none}
-use Rattle.sort.proofs.Ascending.{In, Ascends}
+use Rattle.sort.specs.Ascending.{In, Ascends}
 use Rattle.sort.proofs.Times.{in-arranged, arranged-in}
 use Rattle.chunk.specs.Live.{passed, idsOf}
 use Rattle.chunk.proofs.Living.{Bears, count-skip, count-below, ids-in, ids-of, passed-none, passed-skip, passed-take}

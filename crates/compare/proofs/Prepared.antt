@@ -24,8 +24,8 @@ use Rattle.page.proofs.Layouts.{listed-whole}
 use Rattle.page.proofs.Lengths.{opened-facts, opened-pages}
 use Rattle.page.proofs.Searching.{by-test, clash}
 use Rattle.page.proofs.Within.{object-within, chunk-within}
+use Rattle.sort.specs.Ascending.{In}
 use Rattle.sort.specs.Packed.{wordValues, packed}
-use Rattle.sort.proofs.Ascending.{In}
 use Rattle.chunk.specs.Answers.{partBy}
 use Rattle.chunk.specs.Cuts.{lowestCut, hides}
 use Rattle.chunk.specs.Lookups.{fileOf, sizedOf, sizedBy, lookedOf, lookedBy, copyBy, shownOf, validOf}

@@ -8,7 +8,7 @@ use mathlib.Core.Path.{_≡_, refl, ap}
 use borrow.Author.Tests.{eqb-false, ne-eqb}
 use lib.Dec.{eqb}
 use Rattle.page.proofs.Searching.{clash, by-test}
-use Rattle.sort.proofs.Ascending.{In}
+use Rattle.sort.specs.Ascending.{In}
 use Rattle.compare.specs.Views.{View}
 use Rattle.compare.specs.Differences.{Side, first, second, Difference, only, deleted, headless, field, sizes, stretch, onOne, lacks, fieldsOf, sizesOf, stretchesOf, differencesOf}
 use Rattle.compare.proofs.Meaning.{FieldDiffers, field-means, means-field, StretchDiffers, stretch-means, means-stretch}

@@ -17,12 +17,13 @@ use Rattle.page.specs.declared.record.Record.{Record}
 use Rattle.page.proofs.Searching.{by-test}
 use Rattle.page.proofs.Within.{object-within}
 use Rattle.sort.specs.Arranged.{timesIn}
-use Rattle.sort.proofs.Ascending.{In, Ascends}
+use Rattle.sort.specs.Ascending.{In, Ascends}
 use Rattle.sort.proofs.Times.{in-times, times-in}
+use Rattle.chunk.specs.Live.{objectIds}
 use Rattle.chunk.specs.Newest.{records}
 use Rattle.chunk.specs.Records.{isOf}
 use Rattle.chunk.proofs.Gathering.{since-none, since-skip}
-use Rattle.chunk.proofs.Living.{objectIds, record-some, objects-ascend, objects-in, objects-of}
+use Rattle.chunk.proofs.Living.{record-some, objects-ascend, objects-in, objects-of}
 use Rattle.chunk.proofs.Records.{of-object, record-good}
 use Rattle.compare.specs.Views.{View, viewOf}
 use Rattle.compare.specs.Differences.{differencesOf}

@@ -10,8 +10,8 @@ use lib.ListN.{length, length-map, drop, getD, drop-of-length-le}
 use lib.Seq.{drop-cons}
 use borrow.Author.Tests.{eq-eqb, ne-eqb}
 use Rattle.sort.specs.Arranged.{Every}
+use Rattle.sort.specs.Ascending.{In}
 use Rattle.sort.specs.Packed.{wordValues, packed, keyOf, valueOf}
-use Rattle.sort.proofs.Ascending.{In}
 use Rattle.sort.proofs.Packing.{packed-key, packed-value}
 use Rattle.compare.specs.Lists.{runOf}
 use Rattle.compare.specs.Report.{joined}

@@ -13,8 +13,9 @@ use Rattle.page.specs.Records.{recordAt}
 use Rattle.page.specs.declared.geometry.Geometry.{Geometry}
 use Rattle.page.specs.declared.geometry.Opened.the-variants as opened
 use Rattle.page.specs.declared.record.Record.{Record}
-use Rattle.sort.proofs.Ascending.{In}
-use Rattle.chunk.proofs.Living.{objectIds, objects-ascend}
+use Rattle.sort.specs.Ascending.{In}
+use Rattle.chunk.specs.Live.{objectIds}
+use Rattle.chunk.proofs.Living.{objects-ascend}
 use Rattle.compare.specs.Views.{viewOf}
 use Rattle.compare.specs.Report.{reportOf, inEither, idsIn, objectReport, wholeReport}
 use Rattle.compare.specs.Lists.{sidesReport, listsReport}

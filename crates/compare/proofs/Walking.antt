@@ -11,8 +11,9 @@ use lib.ListN.{length, length-append}
 use lib.Seq.{take-at, drop-at}
 use Rattle.page.specs.declared.geometry.Geometry.{Geometry}
 use Rattle.sort.specs.Arranged.{Every}
+use Rattle.sort.specs.Ascending.{In, Ascends}
 use Rattle.sort.specs.Packed.{keyOf}
-use Rattle.sort.proofs.Ascending.{In, Ascends, ascends-in, ascends-lower}
+use Rattle.sort.proofs.Ascending.{ascends-in, ascends-lower}
 use Rattle.text.proofs.Order.{le-or-lt}
 use Rattle.compare.specs.Report.{joined, inEither}
 use Rattle.compare.specs.Lists.{runOf, nextOf, sidesReport, reportsTo}

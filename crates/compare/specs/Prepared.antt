@@ -16,8 +16,7 @@ use Rattle.sort.specs.Packed.{packed}
 use Rattle.sort.specs.Room.{inRoom}
 use Rattle.chunk.specs.Answers.{onPages}
 use Rattle.chunk.specs.Lists.{inFront}
-use Rattle.chunk.specs.Live.{objectAt}
-use Rattle.chunk.proofs.Living.{objectIds}
+use Rattle.chunk.specs.Live.{objectAt, objectIds}
 use Rattle.chunk.specs.Lookups.{sizedOf, lookedOf}
 use Rattle.chunk.specs.Records.{ageOf}
 use Rattle.chunk.specs.declared.answer.Sized.{Sized}

@@ -6,7 +6,7 @@ use Rattle.page.specs.Choice.{pick}
 use Rattle.page.specs.Records.{recordAt}
 use Rattle.page.specs.declared.geometry.Geometry.{Geometry}
 use Rattle.sort.specs.Arranged.{arranged, timesIn}
-use Rattle.chunk.proofs.Living.{objectIds}
+use Rattle.chunk.specs.Live.{objectIds}
 use Rattle.text.specs.Lines.{lineOf}
 use Rattle.text.specs.Quoted.{bytesOf}
 use Rattle.compare.specs.Views.{View, viewOf}

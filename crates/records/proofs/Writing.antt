@@ -13,7 +13,7 @@ use lib.ListN.{length, getD}
 use Rattle.page.specs.Search.{count}
 use Rattle.page.specs.declared.record.Record.{Record}
 use Rattle.page.proofs.Searching.{clash, by-test, count-none}
-use Rattle.sort.proofs.Ascending.{Ascends}
+use Rattle.sort.specs.Ascending.{Ascends}
 use Rattle.sort.proofs.Places.{in-at, at-in, ascends-at}
 use Rattle.chunk.specs.Newest.{newestWhere, records}
 use Rattle.chunk.specs.Records.{ageOf}

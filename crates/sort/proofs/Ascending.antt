@@ -10,16 +10,7 @@ use native.Mathlib.Omega.{arith}
 use borrow.Author.Tests.{ltb-true, ltb-false}
 use lib.Dec.{ltb}
 use Rattle.sort.specs.Arranged.{ascend}
-
--- x is in a list
-abbrev pub In : ℕ → List ℕ → Type 0
-In x [] = ⊥
-In x (y ∷ ys) = (x ≡ y) ⊎ In x ys
-
--- a list that ascends from b on, without repetition
-abbrev pub Ascends : ℕ → List ℕ → Type 0
-Ascends b [] = Unit {0}
-Ascends b (x ∷ xs) = (b ≤ x) × Ascends (suc x) xs
+use Rattle.sort.specs.Ascending.{In, Ascends}
 
 -- its members are not below b
 pub ascends-in : (b x : ℕ) (L : List ℕ) → Ascends b L → In x L → b ≤ x

@@ -10,7 +10,7 @@ use lib.Dec.{eqb}
 use Rattle.page.specs.declared.record.Record.{Record}
 use Rattle.page.proofs.Layouts.{and-left, and-right}
 use Rattle.page.proofs.Searching.{clash, by-test}
-use Rattle.sort.proofs.Ascending.{In, Ascends}
+use Rattle.sort.specs.Ascending.{In, Ascends}
 use Rattle.chunk.specs.Live.{liveIds}
 use Rattle.chunk.proofs.Living.{live-ids-ascend}
 use Rattle.tree.specs.Objects.{root}

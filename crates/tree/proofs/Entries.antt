@@ -14,8 +14,8 @@ use Rattle.page.specs.declared.record.Record.{Record}
 use Rattle.page.specs.declared.record.Record.the-variants.{Header}
 use Rattle.page.specs.declared.record.Header as header
 use Rattle.page.proofs.Layouts.{and-left, and-right}
+use Rattle.sort.specs.Ascending.{Ascends}
 use Rattle.sort.specs.Packed.{wordValues, packed, keyOf, valueOf}
-use Rattle.sort.proofs.Ascending.{Ascends}
 use Rattle.sort.proofs.Packing.{packed-key, packed-value}
 use Rattle.sort.proofs.Places.{at-in, arranged-sorted}
 use Rattle.chunk.specs.Live.{passed, idsOf}

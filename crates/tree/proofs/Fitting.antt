@@ -14,7 +14,7 @@ use Rattle.page.specs.Search.{count}
 use Rattle.page.specs.declared.record.Record.{Record}
 use Rattle.page.proofs.Layouts.{and-left}
 use Rattle.page.proofs.Searching.{clash, by-test}
-use Rattle.sort.proofs.Ascending.{In}
+use Rattle.sort.specs.Ascending.{In}
 use Rattle.chunk.specs.Live.{livePage, liveIds, liveCount}
 use Rattle.chunk.proofs.Living.{live-ids-ascend, live-length}
 use Rattle.tree.specs.Heads.{isHead, headCount}

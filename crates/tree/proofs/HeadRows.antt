@@ -10,8 +10,8 @@ use native.Mathlib.Nat.{le-refl, eq-or-lt-of-le}
 use native.Mathlib.Omega.{arith}
 use lib.ListN.{length, getD, length-map}
 use Rattle.page.specs.declared.record.Record.{Record}
+use Rattle.sort.specs.Ascending.{In}
 use Rattle.sort.specs.Packed.{wordValues, packed, keyOf, valueOf}
-use Rattle.sort.proofs.Ascending.{In}
 use Rattle.sort.proofs.Making.{map-at}
 use Rattle.sort.proofs.Packing.{packed-key, packed-value}
 use Rattle.sort.proofs.Places.{in-at, at-in, ascends-at}

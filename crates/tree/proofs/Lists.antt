@@ -10,7 +10,8 @@ use native.Mathlib.Omega.{arith}
 use lib.ListN.{length, getD, take}
 use lib.Seq.{take-suc}
 use Rattle.page.proofs.Searching.{by-test}
-use Rattle.sort.proofs.Ascending.{In, Ascends, ascends-lower}
+use Rattle.sort.specs.Ascending.{In, Ascends}
+use Rattle.sort.proofs.Ascending.{ascends-lower}
 use Rattle.tree.specs.Paths.{keep, each}
 
 -- x is in a list of anything

@@ -18,9 +18,9 @@ use Rattle.page.specs.declared.record.Record.the-variants.{Other, Header, Data}
 use Rattle.page.proofs.Layouts.{and-left, and-right}
 use Rattle.page.proofs.Searching.{by-test, clash, count-le}
 use Rattle.sort.specs.Arranged.{rises}
+use Rattle.sort.specs.Ascending.{In, Ascends}
 use Rattle.sort.specs.Packed.{wordValues, packed, keyOf, valueOf}
 use Rattle.sort.proofs.Arranging.{arranged-rises, rises-cons}
-use Rattle.sort.proofs.Ascending.{In, Ascends}
 use Rattle.sort.proofs.Packing.{packed-key, packed-value, keys-arranged}
 use Rattle.chunk.specs.Live.{passed, idsOf}
 use Rattle.chunk.specs.Records.{ageOf, objectOf, isOf, headerOf}

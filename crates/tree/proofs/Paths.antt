@@ -18,7 +18,8 @@ use Rattle.page.specs.declared.record.Record.{Record}
 use Rattle.page.proofs.Layouts.{and-left, and-right}
 use Rattle.page.proofs.Searching.{clash, by-test}
 use Rattle.sort.specs.Arranged.{timesIn}
-use Rattle.sort.proofs.Ascending.{In, Ascends, ascends-in}
+use Rattle.sort.specs.Ascending.{In, Ascends}
+use Rattle.sort.proofs.Ascending.{ascends-in}
 use Rattle.chunk.specs.Live.{liveIds}
 use Rattle.chunk.proofs.Living.{live-ids-ascend}
 use Rattle.tree.specs.Objects.{root, parentOf, standOf, isStanding}

@@ -8,7 +8,7 @@ use native.Mathlib.Nat.{add-zero}
 use native.Mathlib.Omega.{arith}
 use lib.ListN.{length, getD, length-append}
 use lib.Seq.{append-snoc, getD-append-seam}
-use Rattle.sort.proofs.Ascending.{In}
+use Rattle.sort.specs.Ascending.{In}
 
 -- what holds of each of a list and its position, from a position on
 abbrev pub AllAt : {A : Type 0} → (ℕ → A → Type 0) → List A → ℕ → Type 0

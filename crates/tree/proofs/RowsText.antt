@@ -17,8 +17,8 @@ use Rattle.page.specs.declared.geometry.Geometry.{Geometry}
 use Rattle.page.specs.declared.record.Record.{Record}
 use Rattle.page.proofs.Layouts.{and-left}
 use Rattle.page.proofs.Searching.{clash, by-test, count-le}
+use Rattle.sort.specs.Ascending.{In}
 use Rattle.sort.specs.Packed.{wordValues, packed}
-use Rattle.sort.proofs.Ascending.{In}
 use Rattle.sort.proofs.Packing.{packed-key, packed-value}
 use Rattle.chunk.specs.Live.{liveIds}
 use Rattle.chunk.specs.Records.{ageOf, objectOf, isOf, headerOf}

@@ -11,8 +11,9 @@ use lib.Seq.{getD-take, getD-drop}
 use Rattle.page.specs.Records.{isHeader}
 use Rattle.page.specs.declared.record.Record.{Record}
 use Rattle.page.proofs.Layouts.{and-right}
+use Rattle.sort.specs.Ascending.{In, Ascends}
 use Rattle.sort.specs.Packed.{wordValues, packed, keyOf, valueOf}
-use Rattle.sort.proofs.Ascending.{In, Ascends, same-members}
+use Rattle.sort.proofs.Ascending.{same-members}
 use Rattle.sort.proofs.Making.{map-at}
 use Rattle.sort.proofs.Packing.{packed-value}
 use Rattle.sort.proofs.Places.{in-at, at-in, ascends-at, at-ascends}

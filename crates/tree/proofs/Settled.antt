@@ -13,8 +13,8 @@ use lib.ListN.{length, getD}
 use Rattle.page.specs.Choice.{pick}
 use Rattle.page.specs.declared.record.Record.{Record}
 use Rattle.page.proofs.Searching.{clash, by-test}
+use Rattle.sort.specs.Ascending.{In}
 use Rattle.sort.specs.Packed.{keyOf, valueOf}
-use Rattle.sort.proofs.Ascending.{In}
 use Rattle.chunk.specs.Live.{liveIds}
 use Rattle.text.proofs.Order.{le-or-lt}
 use Rattle.tree.specs.Climbs.{kindBy, placeIn, kindIn, toRoot, Leads, Walked, Ways, SomeWays, TellsListed, reasonIn}

@@ -11,7 +11,7 @@ use Rattle.page.specs.declared.record.Record.{Record}
 use Rattle.page.specs.declared.record.Record.the-variants.{Other, Header, Data}
 use Rattle.page.proofs.Layouts.{and-left, and-right}
 use Rattle.page.proofs.Searching.{clash, by-test}
-use Rattle.sort.proofs.Ascending.{In}
+use Rattle.sort.specs.Ascending.{In}
 use Rattle.chunk.specs.Live.{liveIds}
 use Rattle.chunk.specs.Records.{isOf, headerOf, goneUnder, isGone}
 use Rattle.chunk.proofs.Living.{live-in}

@@ -8,8 +8,8 @@ use lib.Dec.{eqb}
 use lib.ListN.{length, getD}
 use Rattle.page.specs.Choice.{pick}
 use Rattle.page.specs.declared.record.Record.{Record}
+use Rattle.sort.specs.Ascending.{In}
 use Rattle.sort.specs.Packed.{wordValues, packed, keyOf, valueOf}
-use Rattle.sort.proofs.Ascending.{In}
 use Rattle.chunk.specs.Live.{liveIds}
 use Rattle.chunk.specs.Records.{isGone}
 use Rattle.text.specs.Put.{Put}

@@ -11,8 +11,8 @@ use Rattle.page.specs.Choice.{pick}
 use Rattle.page.specs.Records.{isHeader}
 use Rattle.page.specs.Search.{count}
 use Rattle.page.specs.declared.record.Record.{Record}
+use Rattle.sort.specs.Ascending.{In, Ascends}
 use Rattle.sort.specs.Packed.{packed, keyOf, valueOf}
-use Rattle.sort.proofs.Ascending.{In, Ascends}
 use Rattle.chunk.specs.Live.{idsOf}
 use Rattle.chunk.specs.Records.{ageOf, objectOf}
 use Rattle.tree.specs.Objects.{headOf}

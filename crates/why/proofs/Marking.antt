@@ -14,7 +14,7 @@ use Rattle.page.specs.declared.record.Record.the-variants.{Other, Header, Data}
 use Rattle.page.proofs.Layouts.{and-right}
 use Rattle.page.proofs.Searching.{clash, by-test}
 use Rattle.page.proofs.Within.{chunk-good}
-use Rattle.sort.proofs.Ascending.{In}
+use Rattle.sort.specs.Ascending.{In}
 use Rattle.chunk.specs.Gather.{gather}
 use Rattle.chunk.specs.Records.{headerOf, countOf, baseOf}
 use Rattle.chunk.specs.Newest.{copyOf}

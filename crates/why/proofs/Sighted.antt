@@ -20,7 +20,7 @@ use Rattle.page.proofs.Layouts.{and-left, and-right}
 use Rattle.page.proofs.Searching.{clash, by-test}
 use Rattle.page.proofs.Within.{chunk-good, chunk-within}
 use Rattle.sort.specs.Arranged.{Every}
-use Rattle.sort.proofs.Ascending.{In}
+use Rattle.sort.specs.Ascending.{In}
 use Rattle.chunk.specs.Records.{orderOf, sequenceOf, ageOf, headerOf, baseOf}
 use Rattle.chunk.specs.Newest.{copyOf}
 use Rattle.chunk.specs.Cuts.{cutOf, hides}

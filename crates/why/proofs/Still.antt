@@ -12,7 +12,7 @@ use Rattle.page.specs.Numbers.{mostChunk, pageValues}
 use Rattle.page.specs.declared.record.Record.{Record}
 use Rattle.page.proofs.Searching.{by-test}
 use Rattle.page.proofs.Within.{chunk-good, chunk-within}
-use Rattle.sort.proofs.Ascending.{In}
+use Rattle.sort.specs.Ascending.{In}
 use Rattle.chunk.specs.Records.{ageOf, headerOf, countOf, baseOf}
 use Rattle.chunk.specs.Newest.{newestCopy}
 use Rattle.chunk.specs.Cuts.{cutOf, hides}

@@ -13,8 +13,9 @@ use Rattle.page.specs.Numbers.{pageValues}
 use Rattle.page.specs.declared.record.Record.{Record}
 use Rattle.page.proofs.Searching.{clash, by-test}
 use Rattle.sort.specs.Arranged.{arranged, rises, Every}
+use Rattle.sort.specs.Ascending.{In}
 use Rattle.sort.proofs.Arranging.{rises-cons, rises-every, arranged-rises, every-weaker}
-use Rattle.sort.proofs.Ascending.{In, ascend-new, ascend-kept, ascend-back}
+use Rattle.sort.proofs.Ascending.{ascend-new, ascend-kept, ascend-back}
 use Rattle.chunk.specs.Live.{passed}
 use Rattle.chunk.specs.Sizes.{sizeOf}
 use Rattle.chunk.specs.Records.{baseOf}

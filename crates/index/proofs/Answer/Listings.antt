@@ -28,15 +28,16 @@ use Rattle.page.proofs.Arms.{allBut}
 use Rattle.page.proofs.Searching.{clash, by-test, pick-cases}
 use Rattle.chunk.specs.Records.{ageOf, isOf, headerOf, isGone}
 use Rattle.chunk.specs.Newest.{newestHeader}
-use Rattle.chunk.specs.Live.{liveIds, objectCount}
+use Rattle.chunk.specs.Live.{liveIds, objectCount, objectIds}
 use Rattle.chunk.specs.Lists.{listedBy}
 use Rattle.chunk.specs.declared.answer.Listed.the-variants as listed
 use Rattle.chunk.specs.declared.answer.Tallied.the-variants as tallied
-use Rattle.sort.proofs.Ascending.{In, Ascends, same-members}
+use Rattle.sort.specs.Ascending.{In, Ascends}
+use Rattle.sort.proofs.Ascending.{same-members}
 use Rattle.chunk.proofs.Records.{of-object}
 use Rattle.chunk.proofs.Cases.{listed-count}
 use Rattle.chunk.proofs.Meaning.{newest-found}
-use Rattle.chunk.proofs.Living.{Bears, Live, ids-in, ids-of, ids-length, ids-ascend, count-below, live-ids-ascend, live-in, live-of, objectIds, objects-ascend, objects-length, objects-in, objects-of}
+use Rattle.chunk.proofs.Living.{Bears, Live, ids-in, ids-of, ids-length, ids-ascend, count-below, live-ids-ascend, live-in, live-of, objects-ascend, objects-length, objects-in, objects-of}
 use Rattle.index.specs.Cells.{cellsFor, slotsFor, keys}
 use Rattle.index.specs.Slots.{slotOf}
 use Rattle.index.specs.Chains.{objects, top, clean, trace, chain}

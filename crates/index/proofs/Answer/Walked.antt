@@ -25,7 +25,7 @@ use Rattle.chunk.specs.declared.cut.Cut.{Cut}
 use Rattle.chunk.specs.declared.cut.Cut.the-variants.{Nowhere}
 use Rattle.chunk.specs.declared.answer.File.the-variants as file
 use Rattle.chunk.proofs.Cases.{file-cases, file-headless, file-headed, size-larger, sized-refused, sized-file, copy-missing, copy-hidden, copy-shown, looked-refused, looked-past, looked-inside}
-use Rattle.sort.proofs.Ascending.{In}
+use Rattle.sort.specs.Ascending.{In}
 use Rattle.index.specs.Chains.{objects, top}
 use Rattle.index.specs.Held.{seen, recs, fromList}
 use Rattle.index.specs.Walks.{seenSays, recordsIn, sizeVisits, chunkVisits, sizeFile, sizeAt, sizeReached, cutBy, metWith, reach, copyFrom, chunkFile, chunkReached, chunkWalk, sizeWalk}

@@ -14,7 +14,7 @@ use lib.Dec.{leb, eqb}
 use borrow.Author.Tests.{leb-true, leb-false, lt-ltb, le-ltb, le-leb, lt-leb, eq-eqb, ne-eqb}
 use Rattle.page.specs.Choice.{pick}
 use Rattle.page.specs.declared.refusal.Refusal.the-variants.{AlreadyAdded}
-use Rattle.sort.proofs.Ascending.{In}
+use Rattle.sort.specs.Ascending.{In}
 use Rattle.index.specs.Cells.{cellsFor, word, linkAt, linkTo, marked, linked}
 use Rattle.index.specs.Chains.{rec, trace}
 use Rattle.index.specs.Places.{placeOf}

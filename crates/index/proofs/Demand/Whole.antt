@@ -20,7 +20,7 @@ use Rattle.page.proofs.Searching.{clash, by-test}
 use Rattle.page.proofs.Lengths.{opened-facts, opened-some}
 use Rattle.chunk.specs.Records.{ageOf}
 use Rattle.chunk.specs.Newest.{records}
-use Rattle.sort.proofs.Ascending.{In}
+use Rattle.sort.specs.Ascending.{In}
 use Rattle.index.specs.Additions.{startIn, startOf}
 use Rattle.index.specs.Cells.{cellsFor, word}
 use Rattle.index.specs.Chains.{objects, Trace, chain, top}

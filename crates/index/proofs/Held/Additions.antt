@@ -17,7 +17,7 @@ use borrow.Author.Tests.{eqb-true, ne-eqb}
 use Rattle.page.specs.Search.{count}
 use Rattle.page.specs.declared.refusal.Refusal.the-variants.{AlreadyAdded}
 use Rattle.page.proofs.Searching.{clash, by-test}
-use Rattle.sort.proofs.Ascending.{In}
+use Rattle.sort.specs.Ascending.{In}
 use Rattle.index.specs.Cells.{cellsFor, slotsFor, word, linkAt, linkTo, marked, keyAt, firstAt, seedAt, keys, isMarked, last, linked, claimed}
 use Rattle.index.specs.Slots.{slotOf, firstIn, first, used}
 use Rattle.index.specs.Chains.{Trace, chain, trace, top}

@@ -19,7 +19,7 @@ use Rattle.page.specs.declared.refusal.Refusal.{Refusal}
 use Rattle.page.proofs.Lengths.{opened-some}
 use Rattle.page.proofs.Searching.{clash}
 use Rattle.chunk.specs.Records.{ageOf}
-use Rattle.sort.proofs.Ascending.{In}
+use Rattle.sort.specs.Ascending.{In}
 use Rattle.index.specs.Cells.{cellsFor, firstAt, isMarked}
 use Rattle.index.specs.Slots.{slotOf}
 use Rattle.index.specs.Chains.{objects, top, chain}

@@ -8,7 +8,7 @@ use native.Mathlib.Omega.{arith}
 use lib.Dec.{eqb, leb}
 use borrow.Author.Tests.{leb-true, leb-false}
 use Rattle.page.specs.Choice.{pick}
-use Rattle.sort.proofs.Ascending.{In}
+use Rattle.sort.specs.Ascending.{In}
 use Rattle.index.specs.Held.{insert, recs}
 use Rattle.index.proofs.Sorted.Records.{recs-of}
 use Rattle.index.proofs.Chain.Insertion.{Falls, falls-in}

@@ -11,7 +11,7 @@ use native.Mathlib.Omega.{arith}
 use lib.Dec.{leb, eqb}
 use borrow.Author.Tests.{leb-true, leb-false, le-leb, lt-leb, eqb-true, eqb-false, eq-eqb, ne-eqb}
 use Rattle.page.specs.Choice.{pick}
-use Rattle.sort.proofs.Ascending.{In}
+use Rattle.sort.specs.Ascending.{In}
 use Rattle.index.specs.Held.{insert, recs}
 
 module _ (age : ℕ → ℕ) where

@@ -24,7 +24,7 @@ use Rattle.chunk.specs.declared.cut.Cut.the-variants.{Nowhere}
 use Rattle.chunk.proofs.Records.{of-object, object-of, other-object}
 use Rattle.chunk.proofs.Cuts.{lower-swap}
 use Rattle.chunk.proofs.Gathering.{and-true, where-none, where-suc, since-none, since-suc, end-none, end-suc, cut-none, cut-suc}
-use Rattle.sort.proofs.Ascending.{In}
+use Rattle.sort.specs.Ascending.{In}
 use Rattle.index.specs.Chains.{objects}
 use Rattle.index.specs.Held.{recs}
 use Rattle.index.specs.Walks.{cutBy}
