@@ -207,15 +207,20 @@ fn cited_rules_are_there() {
     assert!(left.is_empty(), "no sentence became {left:?}");
 }
 
-/// Every path that README or a document names is there, but for those of no crate
-/// in particular. The notes of landings are left out: they tell what was.
-#[test]
-fn paths_are_there() {
+/// README and the documents, but for the notes of landings, which tell what was.
+fn documents() -> Vec<PathBuf> {
     let documents = fs::read_dir(root().join("docs")).unwrap();
     let documents = documents.map(|entry| entry.unwrap().path());
     let documents = documents.filter(|path| path.is_file());
+    documents.chain([root().join("README.md")]).collect()
+}
+
+/// Every path that a document names is there, but for those of no crate in
+/// particular.
+#[test]
+fn paths_are_there() {
     let mut count = 0;
-    for document in documents.chain([root().join("README.md")]) {
+    for document in documents() {
         let text = fs::read_to_string(&document).unwrap();
         let words = text.split(|c: char| !(c.is_alphanumeric() || "_./-".contains(c)));
         let folders = ["docs/", "crates/", "host/", "include/", ".ci/"];
@@ -227,4 +232,43 @@ fn paths_are_there() {
         }
     }
     assert!(count > 500, "only {count} paths are read");
+}
+
+/// Decisions are numbered by their parts, none twice; the table on top has each
+/// part, with how many there are; and one that a document cites is there.
+#[test]
+fn decisions_are_numbered() {
+    let Document { text } = Document::open("docs/DECISIONS.md");
+    let mut numbers = BTreeSet::new();
+    for (part, body) in text
+        .split("\n## ")
+        .skip(1)
+        .zip(1..)
+        .map(|(body, n)| (n, body))
+    {
+        let (title, body) = body.split_once('\n').unwrap();
+        let title = title.strip_prefix(&format!("{part}. ")).expect(title);
+        let decisions = body.split("\n**").skip(1);
+        let decisions = decisions.map(|decision| decision.split(' ').next().unwrap());
+        let decisions: Vec<&str> = decisions.collect();
+        for number in &decisions {
+            assert!(number.starts_with(&format!("{part}.")), "{number}");
+            assert!(numbers.insert(*number), "{number} is given twice");
+        }
+        let begin = format!("\n| {part} | {title} | ");
+        let row = text.split(&begin).nth(1).expect(title).lines().next();
+        let count = format!(" | {} |", decisions.len());
+        assert!(row.unwrap().ends_with(&count), "{title}:{count}");
+    }
+    for document in documents() {
+        let text = fs::read_to_string(&document).unwrap();
+        let words: Vec<&str> = text.split_whitespace().collect();
+        let cited = words
+            .windows(2)
+            .filter(|words| words[0].ends_with("decision"));
+        let cited = cited.map(|words| words[1].trim_matches(|c: char| !c.is_ascii_digit()));
+        for cited in cited.filter(|cited| cited.contains('.')) {
+            assert!(numbers.contains(cited), "{}: {cited}", document.display());
+        }
+    }
 }
