@@ -1,7 +1,8 @@
 //! docs/RULES.md says for each rule, and docs/TRACE.md for each sentence of the
 //! papers, where it is defined, what proves it and what is refused or tried.
 //! What they name must be there: each file, each name in the file that is named
-//! before it, and each rule.
+//! before it, and each rule. So must decisions of docs/DECISIONS.md, which have
+//! numbers too, and the paths in all documents.
 
 use std::collections::BTreeSet;
 use std::fs;
@@ -133,7 +134,7 @@ fn declares_in_code(line: &str, name: &str) -> bool {
             first.split(end).next() == Some(name)
         }
         [first, "=>", ..] => first == format!("{name:?}"),
-        [first, ..] if line.ends_with(',') => {
+        [first, ..] if name.starts_with(char::is_uppercase) && line.ends_with(',') => {
             let case = first.strip_prefix(name);
             case.is_some_and(|rest| rest == "," || rest.starts_with('('))
         }
