@@ -111,8 +111,9 @@ fn bytes(name: &OsStr, copy: bool) -> io::Result<Bytes> {
         return copied(file, &metadata).map(Bytes::Copied);
     }
     let length = metadata.len().min(too_long()) as usize;
-    // Safety: the map is read-only, and nobody is to change the file meanwhile;
-    // one that is shortened ends the process before a byte is made up.
+    // SAFETY: nobody is to write to the file while it is mapped: that is owed by whoever runs
+    // the command, and `--copy` is there for a file that may change. A byte that is gone
+    // ends the process in `signals`, and `check_length` sees a last page that was cut.
     let map = unsafe { MmapOptions::new().len(length).map(&file)? };
     let _watched = Watched::new(name, &map);
     Ok(Bytes::Mapped(Mapped {

@@ -415,11 +415,13 @@ pub struct HistoryAnswer {
 /// Stands for the page before which a dump is read, where it is read as it stands.
 pub const AS_IT_STANDS: u32 = u32::MAX;
 
+// SAFETY: the declarations are the library's own: a test compares them. Those that are
+// safe take numbers alone, and any numbers.
 #[rustfmt::skip]
-extern "C" {
-    fn lohenarr_most_bytes() -> usize;
-    fn lohenarr_layout(number: u32) -> LayoutAnswer;
-    fn lohenarr_layout_sized(data: u32, spare: u32, tag: u32) -> LayoutAnswer;
+unsafe extern "C" {
+    safe fn lohenarr_most_bytes() -> usize;
+    safe fn lohenarr_layout(number: u32) -> LayoutAnswer;
+    safe fn lohenarr_layout_sized(data: u32, spare: u32, tag: u32) -> LayoutAnswer;
     fn lohenarr_find(dump: *const u8, len: usize, k: u32) -> LayoutAnswer;
     fn lohenarr_score(dump: *const u8, len: usize, geometry: Geometry, need: u32) -> u32;
     fn lohenarr_pages(dump: *const u8, len: usize, geometry: Geometry) -> PagesAnswer;
@@ -436,7 +438,7 @@ extern "C" {
     fn lohenarr_dump_list(dump: *const u8, len: usize, geometry: Geometry, words: *mut u32, words_len: usize) -> ListAnswer;
     fn lohenarr_dump_live(dump: *const u8, len: usize, geometry: Geometry) -> TallyAnswer;
     fn lohenarr_dump_objects(dump: *const u8, len: usize, geometry: Geometry) -> TallyAnswer;
-    fn lohenarr_cells(pages: u32) -> usize;
+    safe fn lohenarr_cells(pages: u32) -> usize;
     fn lohenarr_start(dump: *const u8, len: usize, geometry: Geometry, cells: *mut u32, cells_len: usize, seed: u32) -> u32;
     fn lohenarr_add(dump: *const u8, len: usize, geometry: Geometry, cells: *mut u32, cells_len: usize, page: u32) -> u32;
     fn lohenarr_add_run(dump: *const u8, len: usize, geometry: Geometry, cells: *mut u32, cells_len: usize, from: u32, to: u32) -> RunAnswer;
@@ -451,16 +453,16 @@ extern "C" {
     fn lohenarr_table(dump: *const u8, len: usize, geometry: Geometry, cells: *const u32, cells_len: usize, object: u32, words: *mut u32, words_len: usize) -> TableAnswer;
     fn lohenarr_row(dump: *const u8, len: usize, geometry: Geometry, place: u32, valid: u32) -> PlaceAnswer;
     fn lohenarr_copies(dump: *const u8, len: usize, geometry: Geometry, cells: *const u32, cells_len: usize, object: u32, rows: *mut u64, rows_len: usize) -> CopiesAnswer;
-    fn lohenarr_copy(row: u64) -> CopyAnswer;
+    safe fn lohenarr_copy(row: u64) -> CopyAnswer;
     fn lohenarr_dump_why(dump: *const u8, len: usize, geometry: Geometry, before: u32, object: u32, position: u64, rows: *mut u64, rows_len: usize) -> WhyAnswer;
     fn lohenarr_dump_spans(dump: *const u8, len: usize, geometry: Geometry, before: u32, object: u32, rows: *mut u64, rows_len: usize) -> SpansAnswer;
-    fn lohenarr_span(geometry: Geometry, row: u64) -> SpanAnswer;
+    safe fn lohenarr_span(geometry: Geometry, row: u64) -> SpanAnswer;
     fn lohenarr_dump_stands(dump: *const u8, len: usize, geometry: Geometry, before: u32, object: u32, rows: *mut u64, rows_len: usize, details: *mut u64, details_len: usize, work: *mut u64, work_len: usize) -> RecordsAnswer;
-    fn lohenarr_standing(geometry: Geometry, row: u64, detail: u64) -> StandingAnswer;
+    safe fn lohenarr_standing(geometry: Geometry, row: u64, detail: u64) -> StandingAnswer;
     fn lohenarr_dump_history(dump: *const u8, len: usize, geometry: Geometry, before: u32, object: u32, rows: *mut u64, rows_len: usize, sizes: *mut u64, sizes_len: usize) -> RecordsAnswer;
-    fn lohenarr_history_row(row: u64, size: u64) -> HistoryAnswer;
+    safe fn lohenarr_history_row(row: u64, size: u64) -> HistoryAnswer;
     fn lohenarr_dump_tree(dump: *const u8, len: usize, geometry: Geometry, before: u32, rows: *mut u64, rows_len: usize, heads: *mut u64, heads_len: usize, work: *mut u64, work_len: usize) -> TreeAnswer;
-    fn lohenarr_tree_row(row: u64) -> RowAnswer;
+    safe fn lohenarr_tree_row(row: u64) -> RowAnswer;
     fn lohenarr_tree_text(dump: *const u8, len: usize, geometry: Geometry, rows: *const u64, rows_len: usize, listed: u32, buf: *mut u8, buf_len: usize) -> TextAnswer;
     fn lohenarr_tree_path(dump: *const u8, len: usize, geometry: Geometry, rows: *const u64, rows_len: usize, row: u32, buf: *mut u8, buf_len: usize) -> TextAnswer;
     fn lohenarr_compare_prepare(dump: *const u8, len: usize, geometry: Geometry, order: *mut u64, order_len: usize, copies: *mut u64, copies_len: usize, work: *mut u64, work_len: usize) -> PreparedAnswer;
@@ -469,128 +471,147 @@ extern "C" {
     fn lohenarr_compare(dump1: *const u8, dump1_len: usize, geometry1: Geometry, order1: *const u64, order1_len: usize, copies1: *const u64, copies1_len: usize, dump2: *const u8, dump2_len: usize, geometry2: Geometry, order2: *const u64, order2_len: usize, copies2: *const u64, copies2_len: usize, buf: *mut u8, buf_len: usize) -> TextAnswer;
 }
 
+/// Calls the library on memory: `[slice]` is lent to be read and `[mut slice]` to be
+/// written, each as its address and its length.
+macro_rules! call {
+    (@ $call:ident() $($given:expr,)*) => {
+        // SAFETY: what the header asks of memory, a slice is while it is borrowed: its length
+        // of valid, aligned elements with values, no more than `isize::MAX` bytes, that nobody
+        // else writes; nor reads, where it is lent to be written, so that it overlaps nothing.
+        // An empty one has an address that is not null. Numbers may be any.
+        unsafe { $call($($given),*) }
+    };
+    (@ $call:ident([mut $slice:expr], $($rest:tt)*) $($given:tt)*) => {
+        call!(@ $call($($rest)*) $($given)* $slice.as_mut_ptr(), $slice.len(),)
+    };
+    (@ $call:ident([$slice:expr], $($rest:tt)*) $($given:tt)*) => {
+        call!(@ $call($($rest)*) $($given)* $slice.as_ptr(), $slice.len(),)
+    };
+    (@ $call:ident($value:expr, $($rest:tt)*) $($given:tt)*) => {
+        call!(@ $call($($rest)*) $($given)* $value,)
+    };
+    ($call:ident($($parameters:tt)*)) => {
+        call!(@ $call($($parameters)*,))
+    };
+}
+
 /// The most bytes that a dump has.
 pub fn most_bytes() -> usize {
-    unsafe { lohenarr_most_bytes() }
+    lohenarr_most_bytes()
 }
 
 /// The layout with a number in the table.
 pub fn layout(number: u32) -> LayoutAnswer {
-    unsafe { lohenarr_layout(number) }
+    lohenarr_layout(number)
 }
 
 /// The layout with these sizes and this tag offset.
 pub fn layout_sized(data: u32, spare: u32, tag: u32) -> LayoutAnswer {
-    unsafe { lohenarr_layout_sized(data, spare, tag) }
+    lohenarr_layout_sized(data, spare, tag)
 }
 
 /// The layout of a dump in blocks of so many pages.
 pub fn find(dump: &[u8], block: u32) -> LayoutAnswer {
-    unsafe { lohenarr_find(dump.as_ptr(), dump.len(), block) }
+    call!(lohenarr_find([dump], block))
 }
 
 /// The score of finding the layout, for a dump read so: how many good pages bear
 /// their block's sequence. 0 where that is below `need`, where the candidate does
 /// not fit, and where the dump is refused.
 pub fn score(dump: &[u8], on: Geometry, need: u32) -> u32 {
-    unsafe { lohenarr_score(dump.as_ptr(), dump.len(), on, need) }
+    call!(lohenarr_score([dump], on, need))
 }
 
 /// The page count of a dump.
 pub fn pages(dump: &[u8], on: Geometry) -> PagesAnswer {
-    unsafe { lohenarr_pages(dump.as_ptr(), dump.len(), on) }
+    call!(lohenarr_pages([dump], on))
 }
 
 /// How many pages of a dump are of each kind.
 pub fn counts(dump: &[u8], on: Geometry) -> CountsAnswer {
-    unsafe { lohenarr_counts(dump.as_ptr(), dump.len(), on) }
+    call!(lohenarr_counts([dump], on))
 }
 
 /// The kind of a page.
 pub fn kind(dump: &[u8], on: Geometry, page: u32) -> KindAnswer {
-    unsafe { lohenarr_kind(dump.as_ptr(), dump.len(), on, page) }
+    call!(lohenarr_kind([dump], on, page))
 }
 
 /// The header fields of a page that are numbers.
 pub fn header(dump: &[u8], on: Geometry, page: u32) -> HeaderAnswer {
-    unsafe { lohenarr_header(dump.as_ptr(), dump.len(), on, page) }
+    call!(lohenarr_header([dump], on, page))
 }
 
 /// The name in a header, as a part of the dump.
 pub fn header_name(dump: &[u8], on: Geometry, page: u32) -> PartAnswer {
-    unsafe { lohenarr_header_name(dump.as_ptr(), dump.len(), on, page) }
+    call!(lohenarr_header_name([dump], on, page))
 }
 
 /// The alias in a header, as a part of the dump.
 pub fn header_alias(dump: &[u8], on: Geometry, page: u32) -> PartAnswer {
-    unsafe { lohenarr_header_alias(dump.as_ptr(), dump.len(), on, page) }
+    call!(lohenarr_header_alias([dump], on, page))
 }
 
 /// The reserved bytes of a header, as a part of the dump.
 pub fn header_reserved(dump: &[u8], on: Geometry, page: u32) -> PartAnswer {
-    unsafe { lohenarr_header_reserved(dump.as_ptr(), dump.len(), on, page) }
+    call!(lohenarr_header_reserved([dump], on, page))
 }
 
 /// The size of an object, from the dump alone.
 pub fn dump_size(dump: &[u8], on: Geometry, object: u32) -> SizeAnswer {
-    unsafe { lohenarr_dump_size(dump.as_ptr(), dump.len(), on, object) }
+    call!(lohenarr_dump_size([dump], on, object))
 }
 
 /// A chunk of an object, from the dump alone.
 pub fn dump_chunk(dump: &[u8], on: Geometry, object: u32, n: u32) -> ChunkAnswer {
-    unsafe { lohenarr_dump_chunk(dump.as_ptr(), dump.len(), on, object, n) }
+    call!(lohenarr_dump_chunk([dump], on, object, n))
 }
 
 /// A chunk of an object read into a buffer, from the dump alone.
 pub fn dump_read(dump: &[u8], on: Geometry, object: u32, n: u32, buffer: &mut [u8]) -> ChunkAnswer {
-    let (to, room) = (buffer.as_mut_ptr(), buffer.len());
-    unsafe { lohenarr_dump_read(dump.as_ptr(), dump.len(), on, object, n, to, room) }
+    call!(lohenarr_dump_read([dump], on, object, n, [mut buffer]))
 }
 
 /// The valid bytes of a chunk, as a part of the dump, from the dump alone.
 pub fn dump_part(dump: &[u8], on: Geometry, object: u32, n: u32) -> PlaceAnswer {
-    unsafe { lohenarr_dump_part(dump.as_ptr(), dump.len(), on, object, n) }
+    call!(lohenarr_dump_part([dump], on, object, n))
 }
 
 /// The ids of the live objects, ascending, from the dump alone.
 pub fn dump_list(dump: &[u8], on: Geometry, words: &mut [u32]) -> ListAnswer {
-    let (to, room) = (words.as_mut_ptr(), words.len());
-    unsafe { lohenarr_dump_list(dump.as_ptr(), dump.len(), on, to, room) }
+    call!(lohenarr_dump_list([dump], on, [mut words]))
 }
 
 /// How many objects are live.
 pub fn dump_live(dump: &[u8], on: Geometry) -> TallyAnswer {
-    unsafe { lohenarr_dump_live(dump.as_ptr(), dump.len(), on) }
+    call!(lohenarr_dump_live([dump], on))
 }
 
 /// How many objects have records.
 pub fn dump_objects(dump: &[u8], on: Geometry) -> TallyAnswer {
-    unsafe { lohenarr_dump_objects(dump.as_ptr(), dump.len(), on) }
+    call!(lohenarr_dump_objects([dump], on))
 }
 
 /// How many words an index of so many pages has.
 pub fn cells(pages: u32) -> usize {
-    unsafe { lohenarr_cells(pages) }
+    lohenarr_cells(pages)
 }
 
 /// Makes an index empty: the number of the refusal, or 0. The seed says where a
 /// search for an object begins; no answer depends on it.
 pub fn start(dump: &[u8], on: Geometry, cells: &mut [u32], seed: u32) -> u32 {
-    let (at, words) = (cells.as_mut_ptr(), cells.len());
-    unsafe { lohenarr_start(dump.as_ptr(), dump.len(), on, at, words, seed) }
+    call!(lohenarr_start([dump], on, [mut cells], seed))
 }
 
 /// Adds a page to an index: the number of the refusal, or 0.
 pub fn add(dump: &[u8], on: Geometry, cells: &mut [u32], page: u32) -> u32 {
-    let (at, words) = (cells.as_mut_ptr(), cells.len());
-    unsafe { lohenarr_add(dump.as_ptr(), dump.len(), on, at, words, page) }
+    call!(lohenarr_add([dump], on, [mut cells], page))
 }
 
 /// Adds the pages from one to before another to an index, until one is refused.
 #[rustfmt::skip]
 pub fn add_run(dump: &[u8], on: Geometry, cells: &mut [u32], from: u32, to: u32) -> RunAnswer {
-    let (at, words) = (cells.as_mut_ptr(), cells.len());
-    unsafe { lohenarr_add_run(dump.as_ptr(), dump.len(), on, at, words, from, to) }
+    call!(lohenarr_add_run([dump], on, [mut cells], from, to))
 }
 
 /// Adds of the pages from one to before another the records that are older than
@@ -602,42 +623,34 @@ pub fn add_older(
     pages: Range<u32>,
     before: u32,
 ) -> RunAnswer {
-    let (at, words) = (cells.as_mut_ptr(), cells.len());
     let (from, to) = (pages.start, pages.end);
-    unsafe { lohenarr_add_older(dump.as_ptr(), dump.len(), on, at, words, from, to, before) }
+    call!(lohenarr_add_older([dump], on, [mut cells], from, to, before))
 }
 
 /// The size of an object, by the index.
 pub fn size(dump: &[u8], on: Geometry, cells: &[u32], object: u32) -> SizeAnswer {
-    let (at, words) = (cells.as_ptr(), cells.len());
-    unsafe { lohenarr_size(dump.as_ptr(), dump.len(), on, at, words, object) }
+    call!(lohenarr_size([dump], on, [cells], object))
 }
 
 /// A chunk of an object, by the index.
 pub fn chunk(dump: &[u8], on: Geometry, cells: &[u32], object: u32, n: u32) -> ChunkAnswer {
-    let (at, words) = (cells.as_ptr(), cells.len());
-    unsafe { lohenarr_chunk(dump.as_ptr(), dump.len(), on, at, words, object, n) }
+    call!(lohenarr_chunk([dump], on, [cells], object, n))
 }
 
 /// A chunk of an object read into a buffer, by the index.
 #[rustfmt::skip]
 pub fn read(dump: &[u8], on: Geometry, cells: &[u32], object: u32, n: u32, buffer: &mut [u8]) -> ChunkAnswer {
-    let (at, words) = (cells.as_ptr(), cells.len());
-    let (to, room) = (buffer.as_mut_ptr(), buffer.len());
-    unsafe { lohenarr_read(dump.as_ptr(), dump.len(), on, at, words, object, n, to, room) }
+    call!(lohenarr_read([dump], on, [cells], object, n, [mut buffer]))
 }
 
 /// The valid bytes of a chunk, as a part of the dump, by the index.
 pub fn part(dump: &[u8], on: Geometry, cells: &[u32], object: u32, n: u32) -> PlaceAnswer {
-    let (at, words) = (cells.as_ptr(), cells.len());
-    unsafe { lohenarr_part(dump.as_ptr(), dump.len(), on, at, words, object, n) }
+    call!(lohenarr_part([dump], on, [cells], object, n))
 }
 
 /// The ids of the live objects, ascending, by the index.
 pub fn list(dump: &[u8], on: Geometry, cells: &[u32], words: &mut [u32]) -> ListAnswer {
-    let (at, count) = (cells.as_ptr(), cells.len());
-    let (to, room) = (words.as_mut_ptr(), words.len());
-    unsafe { lohenarr_list(dump.as_ptr(), dump.len(), on, at, count, to, room) }
+    call!(lohenarr_list([dump], on, [cells], [mut words]))
 }
 
 /// The pages of the records of an object, from the newest to the oldest, by the
@@ -649,43 +662,36 @@ pub fn records(
     object: u32,
     words: &mut [u32],
 ) -> ListAnswer {
-    let (at, count) = (cells.as_ptr(), cells.len());
-    let (to, room) = (words.as_mut_ptr(), words.len());
-    unsafe { lohenarr_records(dump.as_ptr(), dump.len(), on, at, count, object, to, room) }
+    call!(lohenarr_records([dump], on, [cells], object, [mut words]))
 }
 
 /// How many objects have an added record, by the index.
 pub fn objects(dump: &[u8], on: Geometry, cells: &[u32]) -> TallyAnswer {
-    let (at, words) = (cells.as_ptr(), cells.len());
-    unsafe { lohenarr_objects(dump.as_ptr(), dump.len(), on, at, words) }
+    call!(lohenarr_objects([dump], on, [cells]))
 }
 
 /// The chunks of a file, two words for each, by the index.
 #[rustfmt::skip]
 pub fn table(dump: &[u8], on: Geometry, cells: &[u32], object: u32, words: &mut [u32]) -> TableAnswer {
-    let (at, count) = (cells.as_ptr(), cells.len());
-    let (to, room) = (words.as_mut_ptr(), words.len());
-    unsafe { lohenarr_table(dump.as_ptr(), dump.len(), on, at, count, object, to, room) }
+    call!(lohenarr_table([dump], on, [cells], object, [mut words]))
 }
 
 /// The valid bytes of the copy that a row of a table names, as a part of the
 /// dump.
 pub fn row(dump: &[u8], on: Geometry, place: u32, valid: u32) -> PlaceAnswer {
-    unsafe { lohenarr_row(dump.as_ptr(), dump.len(), on, place, valid) }
+    call!(lohenarr_row([dump], on, place, valid))
 }
 
 /// The copies that a file shows, ascending by chunk, a number for each, by the
 /// index.
 #[rustfmt::skip]
 pub fn copies(dump: &[u8], on: Geometry, cells: &[u32], object: u32, rows: &mut [u64]) -> CopiesAnswer {
-    let (at, count) = (cells.as_ptr(), cells.len());
-    let (to, room) = (rows.as_mut_ptr(), rows.len());
-    unsafe { lohenarr_copies(dump.as_ptr(), dump.len(), on, at, count, object, to, room) }
+    call!(lohenarr_copies([dump], on, [cells], object, [mut rows]))
 }
 
 /// The copy that a row of copies tells.
 pub fn copy(row: u64) -> CopyAnswer {
-    unsafe { lohenarr_copy(row) }
+    lohenarr_copy(row)
 }
 
 /// Why the byte at a position of a file is what it is, from the dump alone, as it
@@ -693,21 +699,19 @@ pub fn copy(row: u64) -> CopyAnswer {
 /// memory: those that are needed are cleared.
 #[rustfmt::skip]
 pub fn dump_why(dump: &[u8], on: Geometry, before: u32, object: u32, position: u64, rows: &mut [u64]) -> WhyAnswer {
-    let (to, room) = (rows.as_mut_ptr(), rows.len());
-    unsafe { lohenarr_dump_why(dump.as_ptr(), dump.len(), on, before, object, position, to, room) }
+    call!(lohenarr_dump_why([dump], on, before, object, position, [mut rows]))
 }
 
 /// The runs of bytes of a file that have one reason, ascending, a row for each, from
 /// the dump alone, as it stood before the record on page `before` was written.
 #[rustfmt::skip]
 pub fn dump_spans(dump: &[u8], on: Geometry, before: u32, object: u32, rows: &mut [u64]) -> SpansAnswer {
-    let (to, room) = (rows.as_mut_ptr(), rows.len());
-    unsafe { lohenarr_dump_spans(dump.as_ptr(), dump.len(), on, before, object, to, room) }
+    call!(lohenarr_dump_spans([dump], on, before, object, [mut rows]))
 }
 
 /// The run that a row tells.
 pub fn span(on: Geometry, row: u64) -> SpanAnswer {
-    unsafe { lohenarr_span(on, row) }
+    lohenarr_span(on, row)
 }
 
 /// How each record of an object stands, the oldest first, a row and a second word for
@@ -715,15 +719,12 @@ pub fn span(on: Geometry, row: u64) -> SpanAnswer {
 /// written. `work` is working memory: as many words as are needed are cleared.
 #[rustfmt::skip]
 pub fn dump_stands(dump: &[u8], on: Geometry, before: u32, object: u32, rows: &mut [u64], details: &mut [u64], work: &mut [u64]) -> RecordsAnswer {
-    let (to, room) = (rows.as_mut_ptr(), rows.len());
-    let (detail, details) = (details.as_mut_ptr(), details.len());
-    let (working, words) = (work.as_mut_ptr(), work.len());
-    unsafe { lohenarr_dump_stands(dump.as_ptr(), dump.len(), on, before, object, to, room, detail, details, working, words) }
+    call!(lohenarr_dump_stands([dump], on, before, object, [mut rows], [mut details], [mut work]))
 }
 
 /// What a row of standings tells, with its second word.
 pub fn standing(on: Geometry, row: u64, detail: u64) -> StandingAnswer {
-    unsafe { lohenarr_standing(on, row, detail) }
+    lohenarr_standing(on, row, detail)
 }
 
 /// What a size lookup answers after each record of an object, the oldest first, a row
@@ -731,14 +732,12 @@ pub fn standing(on: Geometry, row: u64, detail: u64) -> StandingAnswer {
 /// `before` was written.
 #[rustfmt::skip]
 pub fn dump_history(dump: &[u8], on: Geometry, before: u32, object: u32, rows: &mut [u64], sizes: &mut [u64]) -> RecordsAnswer {
-    let (to, room) = (rows.as_mut_ptr(), rows.len());
-    let (size, sizes) = (sizes.as_mut_ptr(), sizes.len());
-    unsafe { lohenarr_dump_history(dump.as_ptr(), dump.len(), on, before, object, to, room, size, sizes) }
+    call!(lohenarr_dump_history([dump], on, before, object, [mut rows], [mut sizes]))
 }
 
 /// What a row of a history tells, with its size.
 pub fn history_row(row: u64, size: u64) -> HistoryAnswer {
-    unsafe { lohenarr_history_row(row, size) }
+    lohenarr_history_row(row, size)
 }
 
 /// The live objects other than 1, a row for each: those that have a path in the order
@@ -747,15 +746,12 @@ pub fn history_row(row: u64, size: u64) -> HistoryAnswer {
 /// as are needed are cleared.
 #[rustfmt::skip]
 pub fn dump_tree(dump: &[u8], on: Geometry, before: u32, rows: &mut [u64], heads: &mut [u64], work: &mut [u64]) -> TreeAnswer {
-    let (to, room) = (rows.as_mut_ptr(), rows.len());
-    let (head, heads) = (heads.as_mut_ptr(), heads.len());
-    let (at, words) = (work.as_mut_ptr(), work.len());
-    unsafe { lohenarr_dump_tree(dump.as_ptr(), dump.len(), on, before, to, room, head, heads, at, words) }
+    call!(lohenarr_dump_tree([dump], on, before, [mut rows], [mut heads], [mut work]))
 }
 
 /// What a row of the tree tells.
 pub fn tree_row(row: u64) -> RowAnswer {
-    unsafe { lohenarr_tree_row(row) }
+    lohenarr_tree_row(row)
 }
 
 /// The text of the tree whose rows these are, written to the front of a buffer; so
@@ -767,16 +763,12 @@ pub fn tree_text(
     listed: u32,
     buf: &mut [u8],
 ) -> TextAnswer {
-    let (at, count) = (rows.as_ptr(), rows.len());
-    let (to, room) = (buf.as_mut_ptr(), buf.len());
-    unsafe { lohenarr_tree_text(dump.as_ptr(), dump.len(), on, at, count, listed, to, room) }
+    call!(lohenarr_tree_text([dump], on, [rows], listed, [mut buf]))
 }
 
 /// The path of a row that has one, written to the front of a buffer.
 pub fn tree_path(dump: &[u8], on: Geometry, rows: &[u64], row: u32, buf: &mut [u8]) -> TextAnswer {
-    let (at, count) = (rows.as_ptr(), rows.len());
-    let (to, room) = (buf.as_mut_ptr(), buf.len());
-    unsafe { lohenarr_tree_path(dump.as_ptr(), dump.len(), on, at, count, row, to, room) }
+    call!(lohenarr_tree_path([dump], on, [rows], row, [mut buf]))
 }
 
 /// Prepares a dump to be compared: in `order` its records, ascending by object and the
@@ -784,46 +776,30 @@ pub fn tree_path(dump: &[u8], on: Geometry, rows: &[u64], row: u32, buf: &mut [u
 /// file shows. `work` is working memory, which is cleared.
 #[rustfmt::skip]
 pub fn compare_prepare(dump: &[u8], on: Geometry, order: &mut [u64], copies: &mut [u64], work: &mut [u64]) -> PreparedAnswer {
-    let (to, room) = (order.as_mut_ptr(), order.len());
-    let (copy, count) = (copies.as_mut_ptr(), copies.len());
-    let (at, words) = (work.as_mut_ptr(), work.len());
-    unsafe { lohenarr_compare_prepare(dump.as_ptr(), dump.len(), on, to, room, copy, count, at, words) }
+    call!(lohenarr_compare_prepare([dump], on, [mut order], [mut copies], [mut work]))
 }
 
 /// The lesser of the objects with which two orders begin.
 pub fn compare_next(order1: &[u64], order2: &[u64]) -> NextAnswer {
-    let (one, other) = (order1.as_ptr(), order2.as_ptr());
-    unsafe { lohenarr_compare_next(one, order1.len(), other, order2.len()) }
+    call!(lohenarr_compare_next([order1], [order2]))
 }
 
 /// The report of one object by its words on each side, written to the front of a buffer.
 #[rustfmt::skip]
-pub fn compare_object(first: Side<'_>, second: Side<'_>, object: u32, buf: &mut [u8]) -> TextAnswer {
-    let (to, room) = (buf.as_mut_ptr(), buf.len());
-    let (one, other) = (first, second);
-    unsafe {
-        lohenarr_compare_object(
-            one.dump.as_ptr(), one.dump.len(), one.on,
-            one.order.as_ptr(), one.order.len(), one.copies.as_ptr(), one.copies.len(),
-            other.dump.as_ptr(), other.dump.len(), other.on,
-            other.order.as_ptr(), other.order.len(), other.copies.as_ptr(), other.copies.len(),
-            object, to, room,
-        )
-    }
+pub fn compare_object(one: Side<'_>, other: Side<'_>, object: u32, buf: &mut [u8]) -> TextAnswer {
+    call!(lohenarr_compare_object(
+        [one.dump], one.on, [one.order], [one.copies],
+        [other.dump], other.on, [other.order], [other.copies],
+        object, [mut buf]
+    ))
 }
 
 /// The report of all objects of two prepared dumps, written to the front of a buffer.
 #[rustfmt::skip]
-pub fn compare(first: Side<'_>, second: Side<'_>, buf: &mut [u8]) -> TextAnswer {
-    let (to, room) = (buf.as_mut_ptr(), buf.len());
-    let (one, other) = (first, second);
-    unsafe {
-        lohenarr_compare(
-            one.dump.as_ptr(), one.dump.len(), one.on,
-            one.order.as_ptr(), one.order.len(), one.copies.as_ptr(), one.copies.len(),
-            other.dump.as_ptr(), other.dump.len(), other.on,
-            other.order.as_ptr(), other.order.len(), other.copies.as_ptr(), other.copies.len(),
-            to, room,
-        )
-    }
+pub fn compare(one: Side<'_>, other: Side<'_>, buf: &mut [u8]) -> TextAnswer {
+    call!(lohenarr_compare(
+        [one.dump], one.on, [one.order], [one.copies],
+        [other.dump], other.on, [other.order], [other.copies],
+        [mut buf]
+    ))
 }

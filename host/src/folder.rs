@@ -33,7 +33,8 @@ impl Folder {
     }
 
     fn create_at(at: RawFd, name: &CStr) -> io::Result<Folder> {
-        // Safety: the name is lent for the call, and the handle is nobody else's.
+        // SAFETY: the name ends with a zero byte and outlives the calls; the handle is new, so
+        // that nobody else closes it.
         unsafe {
             done(libc::mkdirat(at, name.as_ptr(), FOR_ALL_TO_ENTER))?;
             let handle = done(libc::openat(at, name.as_ptr(), OPEN))?;
@@ -49,7 +50,8 @@ impl Folder {
     /// A new file in this folder.
     pub fn file(&self, name: &[u8]) -> io::Result<File> {
         let name = entry(name)?;
-        // Safety: as above.
+        // SAFETY: the name ends with a zero byte and outlives the call; the handle is new, so
+        // that nobody else closes it.
         unsafe {
             let at = self.0.as_raw_fd();
             let handle = done(libc::openat(at, name.as_ptr(), NEW, FOR_ALL))?;
@@ -60,14 +62,14 @@ impl Folder {
     /// A new symbolic link in this folder.
     pub fn link(&self, name: &[u8], target: &[u8]) -> io::Result<()> {
         let (name, target) = (entry(name)?, CString::new(target)?);
-        // Safety: both are lent for the call.
+        // SAFETY: both names end with a zero byte and outlive the call.
         let made = unsafe { libc::symlinkat(target.as_ptr(), self.0.as_raw_fd(), name.as_ptr()) };
         done(made).map(drop)
     }
 
     /// Waits until all of its file system is on the disk.
     pub fn sync(&self) -> io::Result<()> {
-        // Safety: the handle is open.
+        // SAFETY: takes no memory; the handle is open.
         done(unsafe { libc::syncfs(self.0.as_raw_fd()) }).map(drop)
     }
 }
@@ -94,7 +96,7 @@ pub fn rename(from: &Path, to: &Path) -> io::Result<()> {
     let [from, to] = [from, to].map(|path| CString::new(path.as_os_str().as_bytes()));
     let (from, to) = (from?, to?);
     let (from, to, here) = (from.as_ptr(), to.as_ptr(), libc::AT_FDCWD);
-    // Safety: both names are lent for the calls.
+    // SAFETY: both names end with a zero byte and outlive the calls.
     unsafe {
         let renamed = done(libc::renameat2(
             here,
@@ -135,7 +137,8 @@ pub fn remove(path: &CStr) {
 
 /// Says whether the folder is gone.
 fn remove_at(at: RawFd, name: &CStr, depth: usize) -> bool {
-    // Safety: the name is lent for the calls, and the handle is nobody else's.
+    // SAFETY: the name ends with a zero byte and outlives the calls; the handle is new, and is
+    // closed here alone.
     unsafe {
         let handle = libc::openat(at, name.as_ptr(), OPEN);
         if handle >= 0 {
@@ -155,7 +158,7 @@ fn remove_entries(handle: RawFd, depth: usize) -> bool {
     let mut gone = false;
     loop {
         let to = bytes.as_mut_ptr();
-        // Safety: the bytes are lent to be written for the call.
+        // SAFETY: the system writes no more than `SOME` bytes, which is how many there are.
         let count = unsafe { libc::syscall(libc::SYS_getdents64, handle, to, SOME) };
         if count <= 0 {
             return gone;
@@ -175,7 +178,7 @@ fn remove_entries(handle: RawFd, depth: usize) -> bool {
 
 /// Says whether the entry is gone.
 fn remove_entry(handle: RawFd, name: &CStr, depth: usize) -> bool {
-    // Safety: the name is lent for the call.
+    // SAFETY: the name ends with a zero byte and outlives the call.
     let is_gone = unsafe { libc::unlinkat(handle, name.as_ptr(), 0) == 0 };
     is_gone || remove_at(handle, name, depth - 1)
 }

@@ -29,7 +29,8 @@
 //! - `progress`: how far a command is.
 //! - `signals`, `standard`: signals, and standard input and output.
 //!
-//! `unsafe` is in `ffi`, `dump`, `folder`, `second`, `signals` and `standard` alone.
+//! `unsafe` is in `ffi`, `dump`, `folder`, `second`, `signals` and `standard` alone. Each
+//! block says why it is sound, and clippy refuses one that does not.
 
 pub mod arguments;
 mod because;

@@ -41,7 +41,7 @@ pub fn unmap(map: &Mmap) {
     let (first, second) = map.split_at(map.len() / 2 / PART * PART);
     let unmap = |half: &[u8]| {
         let at = half.as_ptr().cast_mut().cast();
-        // Safety: a part of a mapped file, of which no byte changes.
+        // SAFETY: a part of a read-only map of a file: its bytes are the file's before and after.
         unsafe { libc::madvise(at, half.len(), libc::MADV_DONTNEED) };
     };
     thread::scope(|scope| {
@@ -65,7 +65,7 @@ fn is_in_memory(file: &File, length: usize) -> bool {
             iov_len: 1,
         };
         let (file, place) = (file.as_raw_fd(), place as libc::off_t);
-        // Safety: the byte is lent to be written for the call.
+        // SAFETY: one vector, of one byte, which outlives the call and is this closure's own.
         unsafe { libc::preadv2(file, &to, 1, place, libc::RWF_NOWAIT) == 1 }
     })
 }
@@ -83,7 +83,7 @@ mod tests {
     fn mapped(length: usize) -> (File, Mmap) {
         let mut file = tempfile::tempfile().unwrap();
         file.write_all(&vec![7; length]).unwrap();
-        // Safety: the file is this test's own.
+        // SAFETY: the file has no name; nothing reads a byte of the map that a test cuts off.
         let map = unsafe { Mmap::map(&file).unwrap() };
         (file, map)
     }

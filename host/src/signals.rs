@@ -15,7 +15,7 @@ use crate::folder;
 
 /// Sets what signals do, for the whole process.
 pub fn set() {
-    // Safety: the handlers are functions of the kind that is named.
+    // SAFETY: each handler is of the kind that its flags name, and does only what a handler may.
     unsafe {
         libc::signal(libc::SIGPIPE, libc::SIG_DFL);
         // a file that may not grow on is an error of writing
@@ -31,11 +31,20 @@ pub fn set() {
     }
 }
 
+/// # Safety
+///
+/// The handler is the address of a function: with `SA_SIGINFO` one of three parameters, as
+/// `sigaction` has it, and else one of the signal alone. It does only what POSIX allows a
+/// handler to do.
 unsafe fn handle(signal: c_int, handler: usize, flags: c_int) {
-    let mut action: libc::sigaction = std::mem::zeroed();
-    action.sa_sigaction = handler;
-    action.sa_flags = flags;
-    libc::sigaction(signal, &action, ptr::null_mut());
+    // SAFETY: zeros are a value of the struct, which outlives the call: no flags, no signals
+    // masked. The handler is as the caller owes it.
+    unsafe {
+        let mut action: libc::sigaction = std::mem::zeroed();
+        action.sa_sigaction = handler;
+        action.sa_flags = flags;
+        libc::sigaction(signal, &action, ptr::null_mut());
+    }
 }
 
 /// A mapped dump that a lost byte may belong to, and the begin of the sentence.
@@ -51,7 +60,8 @@ static WATCHED: [AtomicPtr<Place>; 4] = [const { AtomicPtr::new(ptr::null_mut())
 /// Whether a lost byte is being told of: two threads may meet one.
 static SAID: AtomicBool = AtomicBool::new(false);
 
-/// A map is watched for as long as this is held.
+/// A map is watched for as long as this is held. Its place is never freed, since a handler
+/// may look at it in another thread just then; a command has a few.
 pub struct Watched(*mut Place);
 
 impl Watched {
@@ -69,8 +79,6 @@ impl Watched {
 impl Drop for Watched {
     fn drop(&mut self) {
         put(self.0, ptr::null_mut());
-        // Safety: `new` made it, and no handler finds it any more.
-        drop(unsafe { Box::from_raw(self.0) });
     }
 }
 
@@ -81,33 +89,33 @@ fn put(before: *mut Place, after: *mut Place) {
 }
 
 extern "C" fn on_bus(signal: c_int, info: *mut libc::siginfo_t, _: *mut c_void) {
-    // Safety: the system hands over what it knows of the signal.
+    // SAFETY: with `SA_SIGINFO` the system hands over what it knows of the signal.
     let at = unsafe { (*info).si_addr() } as usize;
     for slot in &WATCHED {
-        // Safety: a place that is watched is there.
+        // SAFETY: null, or a place from `Watched::new`, which is whole and never freed.
         let place = unsafe { slot.load(SeqCst).as_ref() };
         let offset = place.map(|place| (place, at.wrapping_sub(place.start)));
         if let Some((place, offset)) = offset.filter(|(place, offset)| *offset < place.length) {
             // another thread that lost a byte says so, and ends this one too
             while SAID.swap(true, SeqCst) {
-                // Safety: waits for the end.
+                // SAFETY: takes no memory.
                 unsafe { libc::pause() };
             }
             say(&place.sentence);
             say_number(offset);
             say(b" is not there: the file was shortened meanwhile, or its medium fails\n");
             remove_unfinished();
-            // Safety: ends the process at once.
+            // SAFETY: takes no memory; ends the process at once, without its handlers of exit.
             unsafe { libc::_exit(2) };
         }
     }
     // not a dump's: the access is tried again, and ends the process
-    // Safety: the signal's own default.
+    // SAFETY: sets the signal's own default.
     unsafe { libc::signal(signal, libc::SIG_DFL) };
 }
 
 fn say(bytes: &[u8]) {
-    // Safety: the bytes are lent for the call.
+    // SAFETY: so many bytes are there, and outlive the call.
     unsafe { libc::write(libc::STDERR_FILENO, bytes.as_ptr().cast(), bytes.len()) };
 }
 
@@ -128,7 +136,8 @@ fn say_number(mut number: usize) {
 static UNFINISHED: AtomicPtr<c_char> = AtomicPtr::new(ptr::null_mut());
 
 /// While this is held, a signal that ends the process removes the file or the folder
-/// first.
+/// first. The name is never freed, since a handler may read it in another thread just
+/// then; a command has one.
 pub struct Unfinished(*mut c_char);
 
 impl Unfinished {
@@ -143,17 +152,15 @@ impl Unfinished {
 impl Drop for Unfinished {
     fn drop(&mut self) {
         let _ = UNFINISHED.compare_exchange(self.0, ptr::null_mut(), SeqCst, SeqCst);
-        // Safety: `new` made it, and no handler finds it any more.
-        drop(unsafe { CString::from_raw(self.0) });
     }
 }
 
 fn remove_unfinished() {
     let name = UNFINISHED.load(SeqCst);
     if !name.is_null() {
-        // Safety: a name that ends with a zero byte.
+        // SAFETY: a name from `Unfinished::new`, which ends with a zero byte and is never freed.
         let name = unsafe { CStr::from_ptr(name) };
-        // Safety: as above.
+        // SAFETY: the name ends with a zero byte and outlives the call.
         if unsafe { libc::unlink(name.as_ptr()) } == -1 {
             folder::remove(name);
         }
@@ -163,7 +170,7 @@ fn remove_unfinished() {
 /// The process ends by the signal, as it would without this.
 extern "C" fn on_end(signal: c_int) {
     remove_unfinished();
-    // Safety: the signal's own default, and once more the signal.
+    // SAFETY: sets the signal's own default, and sends the signal once more.
     unsafe {
         libc::signal(signal, libc::SIG_DFL);
         libc::raise(signal);

@@ -11,12 +11,14 @@ static INPUT_CLOSED: AtomicBool = AtomicBool::new(false);
 static OUTPUT_CLOSED: AtomicBool = AtomicBool::new(false);
 
 /// Run by the system's loader, before Rust's runtime.
+// SAFETY: the section holds addresses of functions of C's kind, each of which is called once;
+// this one needs nothing of Rust's runtime.
 #[used]
-#[link_section = ".init_array"]
+#[unsafe(link_section = ".init_array")]
 static NOTE: extern "C" fn() = note;
 
 extern "C" fn note() {
-    // Safety: asks for flags of a descriptor, open or not.
+    // SAFETY: takes no memory, and any descriptor, open or not.
     let is_closed = |fd| unsafe { libc::fcntl(fd, libc::F_GETFD) } == -1;
     INPUT_CLOSED.store(is_closed(libc::STDIN_FILENO), Ordering::Relaxed);
     OUTPUT_CLOSED.store(is_closed(libc::STDOUT_FILENO), Ordering::Relaxed);

@@ -115,7 +115,7 @@ fn sum(zeros: usize, end: &[u8]) -> String {
 pub fn on_full_disk(folder: &Path, typed: &[&str], limit: u64) -> Output {
     let mut command = lohenarr(folder);
     command.args(typed);
-    // Safety: sets a limit of the new process, and nothing else.
+    // SAFETY: between fork and exec a limit is set, by one call of the system, and nothing else.
     unsafe {
         command.pre_exec(move || {
             let (rlim_cur, rlim_max) = (limit, limit);
@@ -155,7 +155,7 @@ pub fn begun_to_write(folder: &Path, typed: &[&str], signals: libc::sighandler_t
     let mut command = lohenarr(folder);
     command.args(typed);
     command.stdout(Stdio::null()).stderr(Stdio::piped());
-    // Safety: sets what signals do in the new process, and nothing else.
+    // SAFETY: between fork and exec it is set what signals do, which a handler may do too.
     unsafe {
         command.pre_exec(move || {
             for signal in SIGNALS {
@@ -176,7 +176,7 @@ pub fn begun_to_write(folder: &Path, typed: &[&str], signals: libc::sighandler_t
 pub const SIGNALS: [i32; 3] = [libc::SIGINT, libc::SIGTERM, libc::SIGHUP];
 
 pub fn send(child: &Child, signal: i32) {
-    // Safety: a signal to a process that has not been waited for.
+    // SAFETY: takes no memory; the process has not been waited for, so that the number is its own.
     unsafe { libc::kill(child.id() as i32, signal) };
 }
 

@@ -10,7 +10,8 @@ use std::ptr;
 fn terminal() -> (File, File) {
     let (mut ours, mut theirs) = (-1, -1);
     let (name, modes, size) = (ptr::null_mut(), ptr::null_mut(), ptr::null_mut());
-    // Safety: two new descriptors, of which each gets an owner.
+    // SAFETY: both numbers outlive the call, and the rest may be null; each of the two new
+    // descriptors gets one owner.
     unsafe {
         assert_eq!(libc::openpty(&mut ours, &mut theirs, name, modes, size), 0);
         (File::from_raw_fd(ours), File::from_raw_fd(theirs))
