@@ -8,9 +8,9 @@ use crate::refusal::INDEX_DAMAGED;
 const WORDS: usize = 2;
 
 /// The first word of a row: 0 for a hole, `DAMAGED` where the index is damaged
-/// before a copy is met, and else the page and `FIRST_PAGE`.
+/// before a copy is met, and else the page and `PAGES`.
 const DAMAGED: u32 = 1;
-const FIRST_PAGE: u32 = 2;
+const PAGES: u32 = 2;
 
 /// What a file has where no copy is, as much as is handled at once.
 static ZEROS: [u8; 1 << 16] = [0; 1 << 16];
@@ -61,7 +61,7 @@ pub struct Row {
 impl Row {
     /// The page that holds the copy, unless it is a hole.
     pub fn page(self) -> Option<u32> {
-        self.place.checked_sub(FIRST_PAGE)
+        self.place.checked_sub(PAGES)
     }
 }
 

@@ -1,4 +1,4 @@
-//! `include/lohenarr.h`, compiled and called from C on the shelf dump W.
+//! `include/lohenarr.h`, compiled and called from C and C++ on the shelf dump W.
 
 use std::env;
 use std::fs::{self, File};
@@ -10,21 +10,22 @@ use lohenarr::ffi::*;
 
 const HOST: &str = env!("CARGO_MANIFEST_DIR");
 
-/// Compiles the C program, with every warning an error.
-fn compiled() -> PathBuf {
+/// Compiles the program with a compiler of a language, every warning an error.
+fn compiled(variable: &str, compiler: &str, language: &[&str], name: &str) -> PathBuf {
     let folder = Path::new(env!("CARGO_TARGET_TMPDIR"));
     fs::create_dir_all(folder).unwrap();
-    let program = folder.join("calls");
-    let compiler = env::var_os("CC").unwrap_or_else(|| "cc".into());
-    let status = Command::new(compiler)
-        .args(["-std=c11", "-Wall", "-Wextra", "-Wpedantic", "-Werror"])
-        .args(["-I", "../include", "-o"])
+    let program = folder.join(name);
+    let compiler = env::var_os(variable).unwrap_or_else(|| compiler.into());
+    let status = Command::new(&compiler)
+        .args(language)
+        .args(["-Wall", "-Wextra", "-pedantic", "-Werror"])
+        .args(["-I", "../include", "tests/c/calls.c", "-x", "none"])
+        .args(["../target/staticlib/libcapi.a", "-o"])
         .arg(&program)
-        .args(["tests/c/calls.c", "../target/staticlib/libcapi.a"])
         .current_dir(HOST)
         .status()
-        .expect("a C compiler is there, as Rust's linker needs one");
-    assert!(status.success(), "the C program compiles");
+        .unwrap_or_else(|error| panic!("{}: {error}", compiler.display()));
+    assert!(status.success(), "the program compiles");
     program
 }
 
@@ -110,63 +111,95 @@ fn places() -> String {
     format!("{}sizes{}\n", lines.concat(), sizes.concat())
 }
 
+/// What the program prints.
+fn printed(program: PathBuf) -> String {
+    let shelf = File::open(Path::new(HOST).join("tests/data/W")).unwrap();
+    let output = Command::new(program).stdin(shelf).output().unwrap();
+    String::from_utf8(output.stdout).unwrap()
+}
+
+/// What the library answers.
+const ANSWERS: &str = "\
+layout OK: 6 512/16/0
+score 7 0
+counts OK: 1 0 0 3 4
+header OK: 612 0
+name OK: 1594+256
+kinds HEADER DATA DATA HEADER HEADER DATA DATA BLANK
+refused BAD_PAGE
+size OK: 1034, visits 3
+live OK: 1, 257 7
+cells 48
+start OK
+add OK
+run OK: 0
+run ALREADY_ADDED: 6
+add OK
+read OK: copy 1 page 1 valid 300 shown 512, visits 5
+read SHORT_BUFFER: need 512
+part 528+300
+objects OK: 1
+table SHORT_BUFFER: need 6, 7
+table OK: size 1034, rows 3: 1/300 hole 6/10 7
+row 3168+10
+copies SHORT_BUFFER: need 4, 7
+copies OK: size 1034, damaged 0: 1/1/300 3/6/10 7
+records SHORT_BUFFER: need 6
+records OK: 6, 6 to 0
+older BAD_PAGE: 0
+older OK, size 612
+why OK: COUNT, page 5 byte 0 value 0 until 512
+why OK: CUT, page 4 byte 0 value 0 until 1024
+why OK: HELD, page 6 byte 9 value 255 until 1034
+why OK: PAST_END, page 5 byte 0 value 0 until 18446744073709551615
+why BAD_PAGE: ?, page 0 byte 0 value 0 until 0
+spans SHORT_BUFFER: enough 1, 7
+spans OK: size 1034: 0/HELD/5/0 300/COUNT/5/0 512/CUT/4/0 1024/HELD/6/0
+stands SHORT_BUFFER: need 7, 7
+stands OK: 0/OLDER_HEADER/0/0-0 1/SUPERSEDED/5/0-0 2/CUT/4/0-0 3/OLDER_HEADER/0/0-0 4/NEWEST_HEADER/0/0-0 5/HOLDS/0/0-300 6/HOLDS/0/1024-1034 7 7 0 7
+history OK: 0/OK/0 1/OK/512 2/OK/612 3/OK/612
+tree SHORT_BUFFER: need 3, 7
+tree OK: 1 and 0, 7, 0 7
+row 0 of page 4
+tree OK: 0 and 1, MISSING
+text SHORT_BUFFER: need 274
+text OK: 274, object=257
+path=
+path OK: 257, / 255
+prepared SHORT_BUFFER: need 7, 7
+prepared OK: 7, 257/6 to 0, 7 7
+next 257: 7 and 0
+object SHORT_BUFFER: need 18
+object OK: object=257
+only=1
+compared OK: 0
+";
+
 #[test]
 fn c_calls_the_library() {
-    let answers = "\
-layout 0: 6 512/16/0
-score 7 0
-counts 0: 1 0 0 3 4
-header 0: 612 0
-name 0: 1594+256
-refused 14
-size 0: 1034, visits 3
-live 0: 1, 257 7
-cells 48
-start 0
-add 0
-run 0: 0
-run 15: 6
-add 0
-read 0: copy 1 page 1 valid 300 shown 512, visits 5
-read 11: need 512
-part 528+300
-objects 0: 1
-table 11: need 6, 7
-table 0: size 1034, rows 3: 3 300 0 0 8 10 7
-row 3168+10
-copies 11: need 4, 7
-copies 0: size 1034, damaged 0: 1/1/300 3/6/10 7
-records 11: need 6
-records 0: 6, 6 to 0
-older 14: 0
-older 0, size 612
-why 0: reason 4 page 5 byte 0 value 0 until 512
-why 0: reason 3 page 4 byte 0 value 0 until 1024
-why 0: reason 1 page 6 byte 9 value 255 until 1034
-why 0: reason 5 page 5 byte 0 value 0 until 18446744073709551615
-why 14: reason 0 page 0 byte 0 value 0 until 0
-spans 11: enough 1, 7
-spans 0: size 1034: 0/1/5/0 300/4/5/0 512/3/4/0 1024/1/6/0
-stands 11: need 7, 7
-stands 0: 0/2/0/0-0 1/3/5/0-0 2/4/4/0-0 3/2/0/0-0 4/1/0/0-0 5/5/0/0-300 6/5/0/1024-1034 7 7 0 7
-history 0: 0/0/0 1/0/512 2/0/612 3/0/612
-tree 11: need 3, 7
-tree 0: 1 and 0, 7, 0 7
-row 0 of page 4
-text 11: need 274
-text 0: 274, object=257
-path=
-path 0: 257, / 255
-prepared 11: need 7, 7
-prepared 0: 7, 257/6 to 0, 7 7
-next 257: 7 and 0
-object 11: need 18
-object 0: object=257
-only=1
-compared 0: 0
-";
-    let shelf = File::open(Path::new(HOST).join("tests/data/W")).unwrap();
-    let output = Command::new(compiled()).stdin(shelf).output().unwrap();
-    let printed = String::from_utf8(output.stdout).unwrap();
-    assert_eq!(printed, format!("{answers}{}", places()));
+    let program = compiled("CC", "cc", &["-std=c99"], "calls");
+    assert_eq!(printed(program), format!("{ANSWERS}{}", places()));
+}
+
+#[test]
+fn cpp_calls_the_library() {
+    let program = compiled("CXX", "c++", &["-std=c++11", "-x", "c++"], "calls-cpp");
+    assert_eq!(printed(program), format!("{ANSWERS}{}", places()));
+}
+
+/// The header says that it has no variables and calls memset alone.
+#[test]
+fn the_library_stands_by_itself() {
+    let mut nm = Command::new("nm");
+    nm.args(["-P", "../target/staticlib/libcapi.a"])
+        .current_dir(HOST);
+    let symbols = String::from_utf8(nm.output().unwrap().stdout).unwrap();
+    // each name with a letter: T code, R constants, U another's, and so on
+    let symbols = symbols.lines().map(|line| line.split_whitespace());
+    let symbols = symbols.filter_map(|mut words| Some((words.next()?, words.next()?)));
+    let (others, own): (Vec<_>, Vec<_>) = symbols.partition(|(_, letter)| *letter == "U");
+    assert!(own.len() > 100);
+    let variables = own.iter().find(|(_, letter)| !"TtRr".contains(letter));
+    assert_eq!(variables, None);
+    assert_eq!(others, [("memset", "U")]);
 }

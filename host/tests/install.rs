@@ -78,7 +78,7 @@ fn the_library_is_found_by_its_name() {
     run(cc.arg(&program).args(flags.split_whitespace()));
     let shelf = File::open(shelf()).unwrap();
     let printed = run(Command::new(program).stdin(shelf)).stdout;
-    assert!(printed.starts_with(b"layout 0: 6 512/16/0\n"));
+    assert!(printed.starts_with(b"layout OK: 6 512/16/0\n"));
 }
 
 #[test]

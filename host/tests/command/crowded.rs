@@ -4,7 +4,10 @@
 use std::fs;
 use std::path::Path;
 use std::process::{Command, Output};
+use std::thread;
 use std::time::{Duration, Instant};
+
+use lohenarr::ffi::{self, Answer as _, Geometry, AS_IT_STANDS};
 
 use super::dumps::header;
 use super::printed;
@@ -151,4 +154,43 @@ fn loops_of_every_length() {
     });
     let tree = run(folder, "tree");
     assert_eq!(count(&tree, "reason=loop"), OBJECTS as usize);
+}
+
+/// In bytes: what the C header says of the library. A thread is given a little more.
+const LIBRARY_STACK: usize = 16 << 10;
+
+/// Directories in one another as deep as paths go, and objects that a sort halves most
+/// often: the calls that wait for others of their kind.
+#[test]
+fn the_library_takes_little_stack() {
+    let chain = (0..40).map(|number| match number {
+        0 => header(FIRST, 3, 1, b"d"),
+        _ => header(FIRST + number, 3, FIRST + number - 1, b"d"),
+    });
+    let halved = (1..28).rev().map(|bit| header(1 << bit, 3, 1, b"d"));
+    let dumps = [chain.flatten().collect(), halved.flatten().collect()];
+    let little = thread::Builder::new().stack_size(LIBRARY_STACK);
+    let work = move || dumps.map(|dump: Vec<u8>| paths(&dump));
+    let listed = little.spawn(work).unwrap().join().unwrap();
+    assert_eq!(listed, [32, 27]);
+}
+
+/// How many objects have a path, by calls that go deep.
+fn paths(dump: &[u8]) -> u32 {
+    let on = Geometry {
+        layout: 6,
+        block: 1,
+    };
+    let lent = || vec![0; 80];
+    let (mut rows, mut heads, mut work) = (lent(), lent(), lent());
+    let tree = ffi::dump_tree(dump, on, AS_IT_STANDS, &mut rows, &mut heads, &mut work);
+    let tree = tree.given().unwrap();
+    let rows = &rows[..(tree.listed + tree.others) as usize];
+    let mut text = vec![0; 1 << 16];
+    let text = ffi::tree_text(dump, on, rows, tree.listed, &mut text);
+    text.given().unwrap();
+    let mut order = lent();
+    let prepared = ffi::compare_prepare(dump, on, &mut order, &mut heads, &mut work);
+    prepared.given().unwrap();
+    tree.listed
 }
