@@ -2,6 +2,7 @@
 
 use std::env;
 use std::path::Path;
+use std::process;
 
 fn main() {
     let host = env::var("CARGO_MANIFEST_DIR").expect("cargo names the package's folder");
@@ -13,7 +14,10 @@ fn main() {
             "cargo:rerun-if-changed={}",
             Path::new(&host).join("build.rs").display()
         );
-        panic!("the proved library is missing: run `rt staticlib capi` in the repository's root");
+        eprintln!(
+            "the proved library is missing: run `rt staticlib capi` in the repository's root"
+        );
+        process::exit(1);
     }
     println!("cargo:rustc-link-search=native={}", folder.display());
     println!("cargo:rustc-link-lib=static=capi");
