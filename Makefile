@@ -1,4 +1,4 @@
-# Puts the command, its man page and completions, and the library for C in place.
+# Puts the command, its man page, documents and completions, and the library for C in place.
 #
 #     make                                  sets up, proves, builds
 #     make install PREFIX=/usr/local        DESTDIR goes in front of every place
@@ -12,6 +12,9 @@ library = target/staticlib/libcapi.a
 command = target/cargo/release/lohenarr
 to = $(DESTDIR)$(PREFIX)
 
+# what an operator reads, and the rules that a certificate names
+documents = CERTIFY.md COMMAND.md RULES.md
+
 places = $(to)/bin/lohenarr \
     $(to)/share/man/man1/lohenarr.1 \
     $(to)/share/bash-completion/completions/lohenarr \
@@ -19,7 +22,8 @@ places = $(to)/bin/lohenarr \
     $(to)/share/fish/vendor_completions.d/lohenarr.fish \
     $(to)/include/lohenarr.h \
     $(to)/lib/liblohenarr.a \
-    $(to)/lib/pkgconfig/lohenarr.pc
+    $(to)/lib/pkgconfig/lohenarr.pc \
+    $(documents:%=$(to)/share/doc/lohenarr/%)
 
 .PHONY: all install uninstall
 
@@ -41,6 +45,7 @@ install: $(command)
 	$(command) completions bash >$(to)/share/bash-completion/completions/lohenarr
 	$(command) completions zsh >$(to)/share/zsh/site-functions/_lohenarr
 	$(command) completions fish >$(to)/share/fish/vendor_completions.d/lohenarr.fish
+	install -m 644 $(documents:%=docs/%) $(to)/share/doc/lohenarr
 	install -m 644 include/lohenarr.h $(to)/include/lohenarr.h
 	install -m 644 $(library) $(to)/lib/liblohenarr.a
 	sed -e 's|@PREFIX@|$(PREFIX)|' -e 's|@VERSION@|$(version)|' host/lohenarr.pc.in >$(to)/lib/pkgconfig/lohenarr.pc

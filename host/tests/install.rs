@@ -1,5 +1,5 @@
-//! `make install`: what it puts in place works there, and the man page has
-//! everything that can be typed.
+//! `make install`: what it puts in place works there, and the man page and
+//! docs/COMMAND.md have everything that can be typed.
 
 use std::fs::{self, File};
 use std::path::{Path, PathBuf};
@@ -60,6 +60,10 @@ fn what_is_installed_works() {
     }
     run(Command::new("bash").arg("-n").arg(usr.join(completions[0])));
     assert!(usr.join("share/man/man1/lohenarr.1").exists());
+    // what the man page and a certificate refer to
+    for name in ["CERTIFY.md", "COMMAND.md", "RULES.md"] {
+        assert!(usr.join("share/doc/lohenarr").join(name).exists(), "{name}");
+    }
 }
 
 /// The C program, by the flags that pkg-config gives.
@@ -104,5 +108,21 @@ fn the_man_page_has_what_can_be_typed() {
     }
     for number in 1..=16 {
         has(&format!("\n{number}\t{}\t", name(number)));
+    }
+}
+
+#[test]
+fn the_reference_has_what_can_be_typed() {
+    let reference = Path::new(HOST).join("../docs/COMMAND.md");
+    let reference = fs::read_to_string(reference).unwrap();
+    let has = |what: &str| assert!(reference.contains(what), "no {what:?} in docs/COMMAND.md");
+    for command in Arguments::command().get_subcommands() {
+        has(&format!("\n| `{} ", command.get_name()));
+        for long in command.get_arguments().filter_map(|one| one.get_long()) {
+            has(&format!("`--{long}"));
+        }
+    }
+    for number in 1..=16 {
+        has(&format!("\n| {number} | {} | ", name(number)));
     }
 }
