@@ -53,7 +53,8 @@ impl Fitting {
                 format!("and {} and {last} would fit as well", others.join(", "))
             }
         };
-        format!("K is {taken}, {why}; {option} names it")
+        let pages = if taken == 1 { "page" } else { "pages" };
+        format!("K is {taken} {pages} a block, {why}; {option} names it")
     }
 }
 
@@ -147,12 +148,18 @@ mod tests {
         let said: [(&[u32], &str); 5] = [
             (
                 &[64, 32, 4, 1],
-                "K is 64, and 32, 4 and 1 would fit as well",
+                "K is 64 pages a block, and 32, 4 and 1 would fit as well",
             ),
-            (&[4, 2, 1], "K is 4, and 2 and 1 would fit as well"),
-            (&[2, 1], "K is 2, and 1 would fit as well"),
-            (&[1], "K is 1, as no larger power of two fits"),
-            (&[], "K is 1, as too few tags make sense under the layout"),
+            (
+                &[4, 2, 1],
+                "K is 4 pages a block, and 2 and 1 would fit as well",
+            ),
+            (&[2, 1], "K is 2 pages a block, and 1 would fit as well"),
+            (&[1], "K is 1 page a block, as no larger power of two fits"),
+            (
+                &[],
+                "K is 1 page a block, as too few tags make sense under the layout",
+            ),
         ];
         for (fitting, sentence) in said {
             let sentence = format!("{sentence}; --block names it");

@@ -11,6 +11,7 @@ use std::os::unix::fs::FileTypeExt;
 
 use memmap2::{Mmap, MmapOptions};
 
+use crate::failure::{reason, shown};
 use crate::ffi;
 use crate::progress::Progress;
 use crate::second;
@@ -91,8 +92,12 @@ impl Dump {
 }
 
 /// The sentence on a file that cannot be read.
-fn unread(name: &OsStr, why: &io::Error) -> String {
-    format!("cannot read {}: {why}", name.display())
+pub fn unread(name: &OsStr, why: &io::Error) -> String {
+    let name = match name == "-" {
+        true => "standard input".to_string(),
+        false => shown(name),
+    };
+    format!("cannot read {name}: {}", reason(why))
 }
 
 fn shortened(length: u64) -> io::Error {
@@ -145,7 +150,7 @@ fn copied(mut input: File, metadata: &Metadata) -> io::Result<Vec<u8>> {
     let read = input.take(too_long()).read_to_end(&mut bytes);
     let end = begin + bytes.len() as u64;
     match read {
-        Err(why) if end > 0 => Err(io::Error::other(format!("byte {end}: {why}"))),
+        Err(why) if end > 0 => Err(io::Error::other(format!("byte {end}: {}", reason(&why)))),
         Err(why) => Err(why),
         Ok(_) if metadata.is_file() && end < metadata.len().min(too_long()) => Err(shortened(end)),
         Ok(_) => Ok(bytes),

@@ -1,5 +1,6 @@
 //! Why a command ends without its whole answer.
 
+use std::ffi::OsStr;
 use std::io;
 
 #[derive(Debug)]
@@ -14,9 +15,34 @@ pub enum Failure {
     File(String),
 }
 
+impl Failure {
+    /// The sentence on a file that cannot be written.
+    pub fn unwritten(name: &OsStr, why: &io::Error) -> Failure {
+        Failure::File(format!("cannot write {}: {}", shown(name), reason(why)))
+    }
+}
+
 impl From<io::Error> for Failure {
     /// An error of writing the answer.
     fn from(error: io::Error) -> Failure {
-        Failure::File(format!("cannot write the answer: {error}"))
+        Failure::File(format!("cannot write the answer: {}", reason(&error)))
+    }
+}
+
+/// A name in a sentence, in which an empty one is seen too.
+pub fn shown(name: &OsStr) -> String {
+    match name.is_empty() {
+        true => "''".to_string(),
+        false => name.display().to_string(),
+    }
+}
+
+/// What the system says of an error, without its number.
+pub fn reason(error: &io::Error) -> String {
+    let said = error.to_string();
+    match error.raw_os_error() {
+        Some(libc::EEXIST) => "it is there already, and nothing is written over".to_string(),
+        Some(number) => said.replace(&format!(" (os error {number})"), ""),
+        None => said,
     }
 }

@@ -61,5 +61,5 @@ mod sums;
 pub mod table;
 pub mod tree;
 mod typed;
-mod usage;
+pub mod usage;
 mod writing;

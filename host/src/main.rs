@@ -11,6 +11,7 @@ use lohenarr::fields::Printer;
 use lohenarr::refusal::name;
 use lohenarr::signals;
 use lohenarr::standard::{self, say};
+use lohenarr::usage;
 
 /// Exit status: 0 answered, 1 refused, 2 bad usage or a file that fails.
 fn main() -> ExitCode {
@@ -18,7 +19,10 @@ fn main() -> ExitCode {
     let reason = match answer() {
         Ok(()) => return ExitCode::SUCCESS,
         Err(Failure::Refused(..)) => return ExitCode::from(1),
-        Err(Failure::Usage(reason)) => format!("{reason}\ntry: lohenarr help"),
+        Err(Failure::Usage(reason)) => {
+            let command = usage::command(env::args_os().nth(1));
+            format!("{reason}\ntry: lohenarr help{command}")
+        }
         Err(Failure::Path(reason) | Failure::File(reason)) => reason,
     };
     say(&format!("lohenarr: {reason}"));

@@ -22,7 +22,8 @@ impl NewFolder {
         if path.symlink_metadata().is_ok() {
             return Err(io::Error::from_raw_os_error(libc::EEXIST));
         }
-        let name = path.file_name().ok_or(io::ErrorKind::InvalidInput)?;
+        let no_name = || io::Error::other("it is no name of a folder");
+        let name = path.file_name().ok_or_else(no_name)?;
         let path = path.with_file_name(name);
         let beside = beside(&path);
         let _unfinished = Unfinished::new(&beside);

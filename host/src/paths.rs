@@ -50,23 +50,23 @@ impl Named {
 pub struct Path(Vec<u8>);
 
 impl Path {
-    /// The one object of a tree with this path, or in a sentence why there is none.
-    pub fn object(&self, tree: &Tree<'_>) -> Result<u32, String> {
+    /// The one object of a tree with this path, or in half a sentence why there is none,
+    /// and in the other what to ask instead.
+    pub fn object(&self, tree: &Tree<'_>) -> Result<u32, [String; 2]> {
         let path = text(&self.0);
         let (inner, directory) = self.inner();
         if inner.is_empty() {
-            let root = "/ is the root, object 1, which the tree does not list";
-            return Err(format!("{root}{}", self.shown(tree)));
+            let root = "/ is the root, object 1, which is reached by its id";
+            return Err([root.to_string(), self.shown(tree)]);
         }
         let words: Vec<&[u8]> = inner.split(|&byte| byte == b'/').collect();
         if words
             .iter()
             .any(|word| [&b""[..], b".", b".."].contains(word))
         {
-            return Err(format!(
-                "a path has no word between slashes that is empty, . or .., as {path} has{}",
-                self.shown(tree)
-            ));
+            let no_word = "a word between its slashes is empty, . or ..";
+            let none = format!("no object has the path {path}: {no_word}");
+            return Err([none, self.shown(tree)]);
         }
         let found = found(tree, &words);
         let mut named = found[words.len()].clone();
@@ -75,16 +75,19 @@ impl Path {
         }
         match named[..] {
             [row] => Ok(tree.header(row).object),
-            [] => Err(format!(
-                "no object has the path {path}: {}{}",
-                there(tree, &words, &found),
-                self.shown(tree)
-            )),
+            [] => {
+                let there = there(tree, &words, &found);
+                let none = format!("no object has the path {path}: {there}");
+                let mut next = self.shown(tree);
+                if next.is_empty() {
+                    next += "; lohenarr tree shows the paths there are";
+                }
+                Err([none, next])
+            }
             _ => {
                 let (count, ids) = (named.len(), ids(tree, &named));
-                Err(format!(
-                    "{count} objects have the path {path}: {ids}; name one by its id"
-                ))
+                let several = format!("{count} objects have the path {path}: {ids}");
+                Err([several, "; name one by its id".to_string()])
             }
         }
     }

@@ -25,11 +25,7 @@ extern "C" fn note() {
 }
 
 pub fn input() -> io::Result<File> {
-    open(
-        &INPUT_CLOSED,
-        "standard input is closed",
-        io::stdin().as_fd(),
-    )
+    open(&INPUT_CLOSED, "it is closed", io::stdin().as_fd())
 }
 
 pub fn output() -> io::Result<File> {

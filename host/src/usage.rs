@@ -4,9 +4,10 @@ use std::error::Error as _;
 use std::ffi::OsString;
 
 use clap::error::{ContextKind, ContextValue, Error, ErrorKind};
-use clap::Command;
+use clap::{Command, CommandFactory as _};
 
-use crate::arguments::Parsed;
+use crate::arguments::{Arguments, Parsed};
+use crate::failure::shown;
 
 /// Help and version, to be printed, or what is wrong. The first word is the
 /// command.
@@ -25,6 +26,14 @@ pub fn told(error: &Error, all: &Command, first: Option<&OsString>) -> Result<Pa
     }
 }
 
+/// The first word, behind a space, if it is a command, of which help can be asked.
+pub fn command(first: Option<OsString>) -> String {
+    let all = Arguments::command();
+    let first = first.and_then(|word| word.into_string().ok());
+    let command = first.filter(|word| all.find_subcommand(word).is_some());
+    command.map_or_else(String::new, |command| format!(" {command}"))
+}
+
 fn wrong(error: &Error, all: &Command, command: &str) -> String {
     let value = |kind| context(error, kind).unwrap_or_default();
     let argument = value(ContextKind::InvalidArg);
@@ -32,9 +41,11 @@ fn wrong(error: &Error, all: &Command, command: &str) -> String {
     let name = argument.split(' ').next().unwrap_or_default();
     let name = name.trim_matches(['<', '>', '[', ']']);
     let typed = value(ContextKind::InvalidValue);
+    let is_missing = typed.is_empty();
+    let typed = shown(typed.as_ref());
     match error.kind() {
         ErrorKind::InvalidSubcommand => {
-            let none = value(ContextKind::InvalidSubcommand);
+            let none = shown(value(ContextKind::InvalidSubcommand).as_ref());
             let nearest = nearest(error, ContextKind::SuggestedSubcommand);
             with_nearest(format!("there is no command {none}"), nearest)
         }
@@ -42,7 +53,7 @@ fn wrong(error: &Error, all: &Command, command: &str) -> String {
             let nearest = nearest(error, ContextKind::SuggestedArg);
             no_option(all, command, name, nearest)
         }
-        ErrorKind::InvalidValue if typed.is_empty() => format!("{name} wants a value behind it"),
+        ErrorKind::InvalidValue if is_missing => format!("{name} wants a value behind it"),
         ErrorKind::InvalidValue => {
             let values = value(ContextKind::ValidValue);
             format!("{name} is one of {values}; {typed} is not")
@@ -84,11 +95,11 @@ fn no_option(all: &Command, command: &str, option: &str, nearest: Option<String>
         let none = format!("there is no option {option}");
         return match option.starts_with("--") {
             true => with_nearest(none, nearest),
-            false => format!("{none}; a name that begins with - stands behind --"),
+            false => format!("{none}; if it is a name, put -- before it"),
         };
     };
     if command.starts_with('-') {
-        return format!("{option} stands behind a command");
+        return format!("{option} goes behind the command");
     }
     if commands.is_empty() {
         return format!("{option} goes with {last} alone");

@@ -46,7 +46,7 @@ pub fn compare(on: &Both, out: &mut Printer<'_>) -> Result<(), Failure> {
 /// Both dumps, each by what is named for it.
 fn opened(on: &Both) -> Result<[Opened; 2], Failure> {
     if on.evening == "-" && on.morning == "-" {
-        let one = "standard input is one dump, and two are compared";
+        let one = "only one of the two dumps can be standard input";
         return Err(Failure::Usage(one.to_string()));
     }
     let source = |dump| Source {

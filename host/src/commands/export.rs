@@ -16,7 +16,7 @@ use crate::sums;
 const ROOT: u32 = 1;
 
 pub fn export(on: &On, name: &OsStr, out: &mut Printer<'_>) -> Result<(), Failure> {
-    let unwritten = |error| Failure::File(format!("cannot write {}: {error}", name.display()));
+    let unwritten = |error| Failure::unwritten(name, &error);
     let opened = Opened::on(on)?;
     let (objects, asked) = opened.objects()?;
     let tree = opened.tree()?;

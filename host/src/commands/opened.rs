@@ -108,7 +108,8 @@ impl Opened {
             KindAnswer::HEADER | KindAnswer::DATA => Ok(()),
             kind => {
                 let kind = kind_name(kind);
-                let no_record = format!("--before is the page of a record; page {page} is {kind}");
+                let no_record =
+                    format!("--before wants the page of a record; page {page} is {kind}");
                 Err(Failure::Usage(no_record))
             }
         }
@@ -151,10 +152,11 @@ impl Opened {
             Named::Id(id) => return Ok(id.clone()),
             Named::Path(path) => path,
         };
-        path.object(&self.tree()?).map(Typed::from).map_err(|why| {
+        let object = path.object(&self.tree()?);
+        object.map(Typed::from).map_err(|[why, next]| {
             Failure::Path(match &self.before {
-                Some(page) => format!("{why}, as the dump stood before page {page}"),
-                None => why,
+                Some(page) => format!("{why}, as the dump stood before page {page}{next}"),
+                None => why + &next,
             })
         })
     }

@@ -19,7 +19,8 @@ pub fn read(
 ) -> Result<(), Failure> {
     let name = name.filter(|name| *name != "-");
     if out.is_json() && name.is_none() {
-        let alone = "--json goes with read where --out names a file";
+        let alone =
+            "read --json wants --out with the name of a file: bytes on standard output are no JSON";
         return Err(Failure::Usage(alone.to_string()));
     }
     let opened = Opened::past(on)?;
@@ -31,7 +32,7 @@ pub fn read(
         writing::write(&objects, &table, out.raw(), &progress)?;
         return opened.check_length();
     };
-    let unwritten = |error| Failure::File(format!("cannot write {}: {error}", name.display()));
+    let unwritten = |error| Failure::unwritten(name, &error);
     let new = NewFile::create(name.as_ref()).map_err(unwritten)?;
     let progress = Progress::new("reading", Some(table.size));
     let sum = writing::fill(&new.file, &objects, &table, &progress).map_err(unwritten)?;

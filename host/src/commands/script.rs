@@ -5,7 +5,7 @@ use std::fs::File;
 use std::io::{self, Read};
 
 use crate::arguments::Source;
-use crate::dump::Dump;
+use crate::dump::{unread, Dump};
 use crate::failure::Failure;
 use crate::fields::Printer;
 use crate::script::request;
@@ -21,9 +21,9 @@ pub fn script(source: &Source, name: &OsStr, out: &mut Printer<'_>) -> Result<()
         return Err(Failure::Usage(both.to_string()));
     }
     let dump = Dump::open(&source.dump, source.copy).map_err(Failure::File)?;
-    let unread = |error| Failure::File(format!("cannot read {}: {error}", name.display()));
+    let not_read = |error| Failure::File(unread(name, &error));
     let wrong = |wrong| Failure::Usage(format!("{}: {wrong}", name.display()));
-    let requests = request::parse(&text(name).map_err(unread)?).map_err(wrong)?;
+    let requests = request::parse(&text(name).map_err(not_read)?).map_err(wrong)?;
     let mut runner = Runner::new(&dump, &requests)?;
     for request in &requests {
         writeln!(out.raw(), "{}", runner.answer(request)?.line)?;
@@ -43,5 +43,5 @@ fn text(name: &OsStr) -> io::Result<String> {
         let long = format!("a script has at most {LONGEST} bytes");
         return Err(io::Error::other(long));
     }
-    String::from_utf8(bytes).map_err(|_| io::Error::other("stream did not contain valid UTF-8"))
+    String::from_utf8(bytes).map_err(|_| io::Error::other("it is no text: a byte is not UTF-8"))
 }

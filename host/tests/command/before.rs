@@ -73,12 +73,17 @@ fn answers_alike(folder: &Path, dump: &[u8], record: impl Fn(usize) -> bool) {
                     printed(&older),
                     "{what}"
                 ),
-                // the evidence is another
-                "certify" if past.status.success() => assert_eq!(
-                    printed(&past).split_once("\n2. ").unwrap().1,
-                    printed(&older).split_once("\n2. ").unwrap().1,
-                    "{what}"
-                ),
+                // the evidence is another, and what the file is now is told
+                "certify" if past.status.success() => {
+                    let (_, parts) = printed(&past).split_once("\n2. ").unwrap();
+                    let now = format!("note=this is the file as it was before page {page}; ");
+                    let (told, others): (Vec<&str>, Vec<&str>) =
+                        parts.lines().partition(|line| line.starts_with(&now));
+                    assert_eq!(told.len(), 1, "{what}");
+                    assert!(told[0].ends_with("the file has 1034 bytes"), "{what}");
+                    let (_, parts) = printed(&older).split_once("\n2. ").unwrap();
+                    assert_eq!(others, parts.lines().collect::<Vec<_>>(), "{what}");
+                }
                 _ => assert!(past.stdout == older.stdout, "{what}"),
             }
             assert_eq!(past.status, older.status, "{what}");

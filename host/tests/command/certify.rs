@@ -77,7 +77,7 @@ fn a_certificate_is_a_new_file() {
         };
         assert_eq!(told, expected);
         let again = run(folder.path(), &["certify", "W", "257", "-b4", "-onew"], b"");
-        let exists = "lohenarr: cannot write new: File exists";
+        let exists = "lohenarr: cannot write new: it is there already";
         assert!(said(&again).starts_with(exists), "{}", said(&again));
         assert_eq!(again.status.code(), Some(2));
         assert_eq!(fs::read_to_string(&new).unwrap(), shown);
@@ -88,6 +88,21 @@ fn a_certificate_is_a_new_file() {
     assert_eq!(printed(&refused), "refusal=8\n");
     assert_eq!(refused.status.code(), Some(1));
     assert!(!new.exists());
+}
+
+/// A certificate of an earlier time says what has become of the file since.
+#[test]
+fn what_the_file_is_now_is_told() {
+    let folder = dumps::folder();
+    for (typed, now) in [
+        ("deleted 257 --before 7", "the object is deleted"),
+        ("deleted 257 --before 6", "the object is deleted"),
+        ("W 257 --before 4", "the file has 1034 bytes"),
+    ] {
+        let certificate = certified(folder.path(), typed);
+        let told = certificate.lines().filter(|line| line.ends_with(now));
+        assert_eq!(told.count(), 1, "{typed}");
+    }
 }
 
 /// What is printed of a value: a line, or one for each of several.

@@ -38,6 +38,7 @@ pub fn folder() -> TempDir {
         "far",
         &[page(0), &with(page(1), DATA + 8, 0xF_FFFF)].concat(),
     );
+    put("deleted", &deleted());
     put("deleted-and-anew", &anew(4));
     put("unlinked-and-anew", &anew(3));
     put("half-gib", &with(page(0), SIZE, 1 << 29));
@@ -71,6 +72,11 @@ fn named(name: &[u8]) -> Vec<u8> {
 fn morning() -> Vec<u8> {
     let blank = with(page(4), DATA, u32::MAX);
     [&W[..4 * PAGE], &blank, &W[5 * PAGE..]].concat()
+}
+
+/// W with one page more that is written, which unlinks its file.
+fn deleted() -> Vec<u8> {
+    [&W[..7 * PAGE], &with(page(4), 4, 3)].concat()
 }
 
 /// The file of W in two pages of 2048/64/2, with the newest header that it has there.

@@ -5,7 +5,8 @@ use serde_json::Value;
 use super::dumps::{self, W};
 use super::{run, said};
 
-const OF_W: &str = "lohenarr: K is 4, and 2 and 1 would fit as well; --block names it\n";
+const OF_W: &str =
+    "lohenarr: K is 4 pages a block, and 2 and 1 would fit as well; --block names it\n";
 
 /// The commands that take K, on W, but for a certificate: it says whether K was named.
 const COMMANDS: [&[&str]; 12] = [
@@ -77,9 +78,9 @@ fn every_k_that_fits_is_said() {
     for (chunks, sentence) in [
         (
             255,
-            "K is 256, and 128, 64, 32, 16, 8, 4, 2 and 1 would fit as well",
+            "K is 256 pages a block, and 128, 64, 32, 16, 8, 4, 2 and 1 would fit as well",
         ),
-        (254, "K is 1, as no larger power of two fits"),
+        (254, "K is 1 page a block, as no larger power of two fits"),
     ] {
         let output = run(folder.path(), &["find", "-"], &dumps::long(chunks));
         assert_eq!(output.stdout, b"layout=512/16/0\n");

@@ -46,11 +46,12 @@ fn a_dump_that_is_too_long() {
 #[test]
 fn an_endless_device_is_no_dump() {
     let folder = dumps::folder();
-    for typed in [["find", "/dev/zero"], ["find", "-"]] {
+    for (name, shown) in [("/dev/zero", "/dev/zero"), ("-", "standard input")] {
         let mut command = lohenarr(folder.path());
-        command.args(typed).stdin(File::open("/dev/zero").unwrap());
+        command.args(["find", name]);
+        command.stdin(File::open("/dev/zero").unwrap());
         let output = command.output().unwrap();
-        let no_length = format!("lohenarr: cannot read {}: it is a device without", typed[1]);
+        let no_length = format!("lohenarr: cannot read {shown}: it is a device without");
         assert!(said(&output).starts_with(&no_length), "{}", said(&output));
         assert_eq!(output.status.code(), Some(2));
     }
@@ -74,7 +75,7 @@ fn a_closed_standard_input_is_no_dump() {
     shell.args(["-c", command, env!("CARGO_BIN_EXE_lohenarr")]);
     let output = shell.current_dir(&folder).stdin(Stdio::null()).output();
     let output = output.unwrap();
-    let closed = "lohenarr: cannot read -: standard input is closed\n";
+    let closed = "lohenarr: cannot read standard input: it is closed\n";
     assert_eq!(said(&output), closed);
     assert_eq!(output.status.code(), Some(2));
 }

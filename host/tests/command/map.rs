@@ -274,7 +274,8 @@ fn pictures_are_new_files() {
     let [first, second] = ["-o-", "--out=-"].map(|out| map(&[out]));
     assert!(first.stdout == second.stdout && first.stdout.starts_with(b"<?xml"));
     let taken = map(&["--out", "morning"]);
-    let exists = "lohenarr: cannot write morning: File exists (os error 17)\n";
+    let exists =
+        "lohenarr: cannot write morning: it is there already, and nothing is written over\n";
     assert_eq!((said(&taken), taken.status.code()), (exists, Some(2)));
     let refused = map(&["--out", "new", "--object", "258"]);
     assert_eq!(

@@ -61,7 +61,7 @@ fn a_file_is_read() {
 fn nothing_is_written_over() {
     let folder = dumps::folder();
     let before = names(folder.path());
-    for (name, why) in [("W", "File exists"), ("no/new", "No such file")] {
+    for (name, why) in [("W", "it is there already"), ("no/new", "No such file")] {
         let typed = ["read", "W", "257", "--block", "4", "--out", name];
         let output = run(folder.path(), &typed, b"");
         let sentence = format!("lohenarr: cannot write {name}: {why}");
@@ -136,7 +136,7 @@ fn a_full_disk_leaves_nothing() {
         let output = on_full_disk(folder.path(), &typed, 1000);
         assert_eq!(
             said(&output),
-            "lohenarr: cannot write new: File too large (os error 27)\n"
+            "lohenarr: cannot write new: File too large\n"
         );
         assert_eq!(output.status.code(), Some(2));
         assert_eq!(names(folder.path()), before);

@@ -79,7 +79,7 @@ fn a_long_dump_that_is_shortened() {
         shorten(&path, 4096);
         let output = child.wait_with_output().unwrap();
         let said = said(&output);
-        let is_of_k = |line: &&str| line.starts_with("lohenarr: K is 64, ");
+        let is_of_k = |line: &&str| line.starts_with("lohenarr: K is 64 pages a block, ");
         let others: Vec<&str> = said.lines().filter(|line| !is_of_k(line)).collect();
         match (output.status.code(), &others[..]) {
             (Some(0), []) => (),

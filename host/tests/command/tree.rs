@@ -71,7 +71,10 @@ fn paths_have_any_bytes() {
     let name = "\\xFF".repeat(255);
     assert_eq!(
         said(&short),
-        format!("lohenarr: no object has the path /{name}: the root has no entry {name}\n")
+        format!(
+            "lohenarr: no object has the path /{name}: the root has no entry {name}; \
+             lohenarr tree shows the paths there are\n"
+        )
     );
     assert_eq!(short.status.code(), Some(2));
     assert_eq!(printed(&size("forest", "/ä\\".as_bytes())), "size=0\n");

@@ -99,8 +99,10 @@ fn paths_name_what_their_words_do() {
                 match (&expected[..], found) {
                     ([object], found) => assert_eq!(found, Ok(*object), "{place}"),
                     (_, Ok(object)) => panic!("{place}: {object}"),
-                    ([], Err(said)) => assert!(!said.contains("objects have the path"), "{place}"),
-                    (several, Err(said)) => {
+                    ([], Err([said, _])) => {
+                        assert!(!said.contains("objects have the path"), "{place}")
+                    }
+                    (several, Err([said, _])) => {
                         let begin = format!("{} objects have the path ", several.len());
                         assert!(said.starts_with(&begin), "{place}: {said}");
                         for object in several {

@@ -20,9 +20,10 @@ impl Gathered<'_> {
             to.row(fields, None)?;
         }
         to.note(
-            "docs/RULES.md has the rules by these numbers; what the library answered is proved to \
-             follow them, whatever the dump; a K that was found, the sums and this text are the \
-             command's own"
+            "docs/RULES.md has the rules in words by these numbers; that the library answers by \
+             them, whatever the dump, is proved, under the names that theorem= gives; the choice of \
+             a block= that was found, the sums and the wording of this text are the command's own, \
+             which is tested and not proved"
                 .to_string(),
         )
     }

@@ -14,6 +14,11 @@ use crate::fields::Value;
 /// What this version reads: no option names another one, and none is looked for.
 const EDITION: u32 = 1;
 
+/// What a reader has to know of how the dump is read.
+const OF_LAYOUT: &str = "layout= is the data bytes of a page, its spare bytes, and where in the \
+    spare its tags begin; block= is the pages of a block, and decides nothing of what a page \
+    says; found: worked out of the dump itself; named: told by whoever asked";
+
 /// What a reader has to know of pages.
 const OF_PAGES: &str = "a page is written as a whole; of two pages the one with the higher \
     sequence was written later, and of one sequence the one with the higher number; foreign and \
@@ -48,6 +53,7 @@ impl Gathered<'_> {
             ("headers", self.counts.headers.into()),
             ("data", self.counts.data.into()),
         ])?;
+        to.note(OF_LAYOUT.to_string())?;
         to.note(OF_PAGES.to_string())?;
         self.before(to)
     }

@@ -6,6 +6,7 @@ use super::document::Document;
 use super::gathered::{Gathered, Way};
 use crate::ffi;
 use crate::fields::Value;
+use crate::refusal::DELETED;
 use crate::tree::reason_name;
 
 impl Gathered<'_> {
@@ -26,7 +27,26 @@ impl Gathered<'_> {
                 self.opened.reasons().sets_size(self.setter).into(),
             ),
             ("sha256", self.file_sum.as_str().into()),
-        ])
+        ])?;
+        self.now(to)
+    }
+
+    /// What the file is as the dump stands, where it is read as it stood.
+    fn now(&self, to: &mut Document<'_>) -> io::Result<()> {
+        let opened = self.opened;
+        let Some(page) = opened.before() else {
+            return Ok(());
+        };
+        let now = ffi::dump_size(&opened.dump, opened.geometry(), self.object);
+        let now = match now.refusal {
+            0 if now.size == 1 => "the file has 1 byte".to_string(),
+            0 => format!("the file has {} bytes", now.size),
+            DELETED => "the object is deleted".to_string(),
+            refusal => format!("the object is no file (refusal {refusal})"),
+        };
+        to.note(format!(
+            "this is the file as it was before page {page}; as the dump stands, {now}"
+        ))
     }
 
     /// What the newest header says: it is a file's, as nothing else is certified.

@@ -39,7 +39,7 @@ pub fn certify(
         write(&gathered, out.raw(), json)?;
         return opened.check_length();
     };
-    let unwritten = |error| Failure::File(format!("cannot write {}: {error}", name.display()));
+    let unwritten = |error| Failure::unwritten(name, &error);
     let new = NewFile::create(name.as_ref()).map_err(unwritten)?;
     let (size, sum) = fill(&gathered, &new, json).map_err(unwritten)?;
     opened.check_length()?;

@@ -36,7 +36,7 @@ pub fn map(
     if name == "-" {
         return Ok(out.raw().write_all(picture.as_bytes())?);
     }
-    let unwritten = |error| Failure::File(format!("cannot write {}: {error}", name.display()));
+    let unwritten = |error| Failure::unwritten(name, &error);
     let new = NewFile::create(name.as_ref()).map_err(unwritten)?;
     let (size, sum) = fill(&new, &picture).map_err(unwritten)?;
     new.finish().map_err(unwritten)?;

@@ -49,7 +49,7 @@ fn the_command_finds_what_the_driver_had() {
         let found = format!("layout={layout}\nblock={block}\n");
         assert!(printed.starts_with(&found), "{name}: {printed}");
         let said = String::from_utf8(output.stderr).unwrap();
-        let taken = format!("lohenarr: K is {block}, ");
+        let taken = format!("lohenarr: K is {block} pages a block, ");
         assert!(said.starts_with(&taken), "{name}: {said}");
     }
 }
