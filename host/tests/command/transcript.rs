@@ -6,6 +6,9 @@
 use std::path::Path;
 use std::{env, fs};
 
+use clap::CommandFactory;
+use lohenarr::arguments::Arguments;
+
 use super::{dumps, printed, run, said};
 
 const TRANSCRIPT: &str = include_str!("transcript.txt");
@@ -49,6 +52,14 @@ fn commands_print_what_is_stored() {
     }
     assert!(differences.is_empty(), "not as stored:\n{differences}");
     assert!(ran > 50, "only {ran} commands");
+}
+
+#[test]
+fn every_command_occurs() {
+    for command in Arguments::command().get_subcommands() {
+        let typed = format!("\n$ {} ", command.get_name());
+        assert!(TRANSCRIPT.contains(&typed), "{typed}");
+    }
 }
 
 #[test]
