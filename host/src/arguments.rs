@@ -19,6 +19,8 @@ pub struct Arguments {
 }
 
 const NOTES: &str = "\
+To begin with: lohenarr tree DUMP, then lohenarr certify DUMP /PATH.
+
 A command is followed by DUMP, a file that is opened read-only, or - for standard
 input, and compare by two. Numbers are decimal, or hexadecimal with 0x. An object is
 named by its id, or by its path, as tree prints it. A refusal prints refusal=N and

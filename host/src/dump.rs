@@ -93,11 +93,15 @@ impl Dump {
 
 /// The sentence on a file that cannot be read.
 pub fn unread(name: &OsStr, why: &io::Error) -> String {
-    let name = match name == "-" {
+    format!("cannot read {}: {}", input(name), reason(why))
+}
+
+/// What is read under a name, in a sentence.
+pub fn input(name: &OsStr) -> String {
+    match name == "-" {
         true => "standard input".to_string(),
         false => shown(name),
-    };
-    format!("cannot read {name}: {}", reason(why))
+    }
 }
 
 fn shortened(length: u64) -> io::Error {

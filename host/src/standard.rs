@@ -3,7 +3,7 @@
 //! word: so that is looked up before.
 
 use std::fs::File;
-use std::io::{self, Write};
+use std::io::{self, IsTerminal, Write};
 use std::os::fd::{AsFd, BorrowedFd};
 use std::sync::atomic::{AtomicBool, Ordering};
 
@@ -40,6 +40,13 @@ fn open(closed: &AtomicBool, why: &str, fd: BorrowedFd<'_>) -> io::Result<File> 
     match closed.load(Ordering::Relaxed) {
         true => Err(io::Error::other(why)),
         false => Ok(fd.try_clone_to_owned()?.into()),
+    }
+}
+
+/// A remark for a person, where standard error is a terminal.
+pub fn remark(sentence: &str) {
+    if io::stderr().is_terminal() {
+        say(&format!("lohenarr: {sentence}"));
     }
 }
 

@@ -102,10 +102,10 @@ fn no_option(all: &Command, command: &str, option: &str, nearest: Option<String>
         return format!("{option} goes behind the command");
     }
     if commands.is_empty() {
-        return format!("{option} goes with {last} alone");
+        return format!("{command} has no option {option}, which goes with {last} alone");
     }
     let others = commands.join(", ");
-    format!("{option} goes with {others} and {last}, and not with {command}")
+    format!("{command} has no option {option}, which goes with {others} and {last}")
 }
 
 /// Whether an argument is the option of this name.

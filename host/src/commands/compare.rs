@@ -1,14 +1,12 @@
 //! `compare EVENING MORNING`: what differs between two dumps, object by object.
 
-use std::io::{self, IsTerminal};
-
 use super::Opened;
 use crate::arguments::{Both, Source};
 use crate::compare::{Comparison, Prepared};
 use crate::failure::Failure;
 use crate::fields::{Field, Printer, Value};
 use crate::progress::Progress;
-use crate::standard::say;
+use crate::standard::{remark, say};
 
 pub fn compare(on: &Both, out: &mut Printer<'_>) -> Result<(), Failure> {
     let [evening, morning] = opened(on)?;
@@ -34,12 +32,10 @@ pub fn compare(on: &Both, out: &mut Printer<'_>) -> Result<(), Failure> {
     drop(progress);
     evening.check_length()?;
     morning.check_length()?;
-    if io::stderr().is_terminal() {
-        out.raw().flush()?;
-        say(&format!(
-            "lohenarr: objects compared: {compared}, that differ: {differ}"
-        ));
-    }
+    out.raw().flush()?;
+    remark(&format!(
+        "objects compared: {compared}, that differ: {differ}"
+    ));
     Ok(())
 }
 

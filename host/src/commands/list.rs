@@ -6,14 +6,22 @@ use crate::ffi;
 use crate::fields::{Printer, Value};
 use crate::progress::Progress;
 use crate::refusal::NOT_A_FILE;
+use crate::standard::remark;
 use crate::tree::{PathBuffer, Place, Row};
+
+/// What a list without a line says.
+const NONE: &str = "no object is live";
 
 pub fn list(opened: &Opened, is_long: bool, out: &mut Printer<'_>) -> Result<(), Failure> {
     if is_long {
         return long(opened, out);
     }
     let (objects, asked) = opened.objects()?;
-    for object in opened.done(objects.list(), asked)? {
+    let live = opened.done(objects.list(), asked)?;
+    if live.is_empty() {
+        remark(NONE);
+    }
+    for object in live {
         out.line(&[("object", object.into())])?;
     }
     Ok(())
@@ -23,6 +31,9 @@ pub fn list(opened: &Opened, is_long: bool, out: &mut Printer<'_>) -> Result<(),
 fn long(opened: &Opened, out: &mut Printer<'_>) -> Result<(), Failure> {
     let (objects, asked) = opened.objects()?;
     let live = opened.done(objects.list(), asked)?;
+    if live.is_empty() {
+        remark(NONE);
+    }
     let tree = opened.tree()?;
     let mut rows: Vec<(u32, Row)> = tree
         .rows()

@@ -5,7 +5,7 @@ use std::fs::File;
 use std::io::{self, Read};
 
 use crate::arguments::Source;
-use crate::dump::{unread, Dump};
+use crate::dump::{input, unread, Dump};
 use crate::failure::Failure;
 use crate::fields::Printer;
 use crate::script::request;
@@ -22,7 +22,7 @@ pub fn script(source: &Source, name: &OsStr, out: &mut Printer<'_>) -> Result<()
     }
     let dump = Dump::open(&source.dump, source.copy).map_err(Failure::File)?;
     let not_read = |error| Failure::File(unread(name, &error));
-    let wrong = |wrong| Failure::Usage(format!("{}: {wrong}", name.display()));
+    let wrong = |wrong| Failure::Usage(format!("{}, {wrong}", input(name)));
     let requests = request::parse(&text(name).map_err(not_read)?).map_err(wrong)?;
     let mut runner = Runner::new(&dump, &requests)?;
     for request in &requests {

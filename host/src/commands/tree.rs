@@ -7,6 +7,7 @@ use super::Opened;
 use crate::failure::Failure;
 use crate::fields::{Printer, Value};
 use crate::progress::Progress;
+use crate::standard::remark;
 use crate::tree::{reason_name, PathBuffer, Place, Tree};
 
 /// A text of no more bytes is made at once, a longer one object by object.
@@ -14,6 +15,9 @@ const MOST: u64 = 1 << 28;
 
 pub fn tree(opened: &Opened, out: &mut Printer<'_>) -> Result<(), Failure> {
     let tree = opened.tree()?;
+    if tree.listed() + tree.others() == 0 {
+        remark("the tree is empty");
+    }
     // names are evidence, but may not speak to a terminal
     let is_raw = !out.is_json() && !io::stdout().is_terminal();
     let text = is_raw.then(|| tree.text(MOST)).flatten();

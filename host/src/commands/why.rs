@@ -8,6 +8,7 @@ use crate::fields::{Field, Printer};
 use crate::paths::Named;
 use crate::progress::Progress;
 use crate::reasons::{self, Reason};
+use crate::standard::remark;
 use crate::typed::Typed;
 
 pub fn why(
@@ -49,9 +50,16 @@ fn byte(
 /// All bytes of the file, a line for each run of one reason and page.
 fn runs(opened: &Opened, object: &Typed, out: &mut Printer<'_>) -> Result<(), Failure> {
     let progress = Progress::new("going over the pages", None);
-    let (answer, rows) = opened.reasons().spans(object.number);
-    let size = opened.given(answer, opened.asked().of(object))?.size;
+    let reasons = opened.reasons();
+    let asked = opened.asked().of(object);
+    let (answer, rows) = reasons.spans(object.number);
+    let size = opened.given(answer, asked)?.size;
     drop(progress);
+    if size == 0 {
+        let setter = opened.done(reasons.setter(object.number), asked)?;
+        let sets = reasons.sets_size(setter);
+        remark(&format!("the file has no bytes: {sets}"));
+    }
     let progress = Progress::beside_output("printing runs", rows.len() as u64);
     for (run, until) in reasons::runs(opened.geometry(), &rows, size) {
         out.line(&line(run, until))?;

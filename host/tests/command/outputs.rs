@@ -1,4 +1,5 @@
-//! Standard output that is closed, full, or that nobody reads any more.
+//! Standard output that is closed, full, or that nobody reads any more; and answers
+//! without a line.
 
 use std::fs::File;
 use std::io::Write;
@@ -6,7 +7,7 @@ use std::os::unix::process::ExitStatusExt;
 use std::process::{Command, Stdio};
 
 use super::dumps::{self, W};
-use super::{lohenarr, said};
+use super::{lohenarr, run, said, terminal};
 
 /// The dump is fed after the reader of the output is gone, so that nothing
 /// can have been written before.
@@ -78,4 +79,31 @@ fn a_closed_standard_output() {
         assert_eq!(output.status.code(), Some(2), "{typed}");
     }
     assert!(!folder.path().join("new").exists());
+}
+
+/// Nothing is printed, and a person at a terminal is told why.
+#[test]
+fn an_empty_answer_is_told_on_a_terminal() {
+    let folder = dumps::folder();
+    let no_bytes = "the file has no bytes: page 0 (sequence 4097) is the newest header \
+                    and sets the size to 0, and no newer page reaches further";
+    for (typed, told) in [
+        (&["why", "newline", "257"][..], no_bytes),
+        (&["list", "unlinked"], "no object is live"),
+        (&["list", "unlinked", "--long"], "no object is live"),
+        (&["tree", "unlinked"], "the tree is empty"),
+    ] {
+        let typed = [typed, &["-b1"]].concat();
+        let mut command = lohenarr(folder.path());
+        command.args(&typed).stdout(Stdio::null());
+        let (shown, status) =
+            terminal::shown(command, |command, terminal| command.stderr(terminal));
+        assert!(status.success(), "{typed:?}");
+        assert_eq!(shown, format!("lohenarr: {told}\r\n"), "{typed:?}");
+        let output = run(folder.path(), &typed, b"");
+        assert!(
+            output.stdout.is_empty() && output.stderr.is_empty(),
+            "{typed:?}"
+        );
+    }
 }
