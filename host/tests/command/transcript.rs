@@ -92,3 +92,26 @@ fn the_reference_shows_what_is_printed() {
     }
     assert!(ran > 8, "only {ran} commands");
 }
+
+/// What README shows of the first run is what is printed, and its night what the guide
+/// has.
+#[test]
+fn the_readme_shows_what_is_printed() {
+    let text = |name: &str| {
+        let path = Path::new(env!("CARGO_MANIFEST_DIR")).join("..").join(name);
+        fs::read_to_string(path).unwrap()
+    };
+    let (readme, guide) = (text("README.md"), text("docs/CERTIFY.md"));
+    let folder = dumps::folder();
+    let pages = run(folder.path(), &["pages", "W"], b"");
+    let lines = printed(&pages).lines().map(|line| format!("    {line}\n"));
+    let lines: String = lines.collect();
+    assert!(readme.contains(&format!("\n\n{lines}\n")));
+    let (_, night) = readme.split_once("\n    sha256=").unwrap();
+    let night: Vec<&str> = night.lines().take_while(|line| !line.is_empty()).collect();
+    assert!(night.len() > 3);
+    for line in &night[1..] {
+        assert!(guide.contains(&format!("\n{line}\n")), "{line}");
+    }
+    assert!(guide.contains(&format!("\n    sha256={}\n", night[0])));
+}
