@@ -26,14 +26,16 @@ const fn rule(
 
 /// Those that a certificate rests on.
 #[rustfmt::skip]
-pub const RULES: [Rule; 17] = [
+pub const RULES: [Rule; 19] = [
     rule("R1", "of which kind a page is", "page", "one-kind"),
     rule("F6", "which layout is found", "page", "found-is"),
     rule("S1", "which record is newer", "chunk", "order-by-sequence"),
     rule("S2", "which header is the newest", "chunk", "newest-found"),
     rule("S3", "that a deletion cuts all that is older", "chunk", "gone-header-cuts-at-0"),
+    rule("S4", "which headers of a file cut, and where", "chunk", "file-header-cuts-at-size"),
     rule("S5", "which headers cut nothing", "chunk", "plain-header-cuts-nowhere"),
     rule("S6", "how long a file is", "chunk", "size-at-least"),
+    rule("S7", "which page is the copy of a part of a file", "chunk", "newest-found"),
     rule("S8", "which copies a cut hides", "chunk", "lowest-cut-hides"),
     rule("S9", "which part of a file is a hole", "chunk", "copy-in-sight"),
     rule("I13", "what stood before a record", "index", "older-taken"),

@@ -1,7 +1,7 @@
 -- What the definitions mean, in the paper's own terms: the newest is the one that none is newer than; a header cuts, or hides a copy, exactly
 -- when the paper says so; a copy that is found has valid bytes.
 use Prim.Native.Nat.{ℕ, zero, suc, _-_, _≤_, _<_}
-use mathlib.Core.Bool.{Bool, true, false, _&&_}
+use mathlib.Core.Bool.{Bool, true, false, _&&_, _||_}
 use mathlib.Core.Option.{Option, none, some}
 use mathlib.Core.Path.{_≡_, refl, sym, ap, _∙_}
 use mathlib.Core.Logic.{_⊎_, ⊎-elim}
@@ -144,6 +144,11 @@ plain-header-cuts-nowhere k g m = rw (g, m) (by-test (isFile k) _ (λ t. rw t) (
 pub gone-header-cuts-at-0 : (b : Bool) (k : Record) → isGone k ≡ true → cutOf b k ≡ At 0
 unfolding cutOf
 gone-header-cuts-at-0 b k g = rw g
+
+-- any other header of a file cuts at its size if it is shrink-marked or the newest
+pub file-header-cuts-at-size : (b : Bool) (k : Record) → isGone k ≡ false → isFile k ≡ true → (isShrink k || b) ≡ true → cutOf b k ≡ At (fileSize k)
+unfolding cutOf
+file-header-cuts-at-size b k g f m = rw (g, f, m)
 
 -- the size never falls below the newest header's
 pub size-at-least : (says : ℕ → Record) (P o h n : ℕ) → fileSize (says h) ≤ sizeOf says P o h n

@@ -322,3 +322,32 @@ fn the_guide_has_the_certificates() {
         assert!(guide.contains(&format!("\n\n{text}\n")), "{place}");
     }
 }
+
+/// What docs/CERTIFY.md has to be typed without the command, by a shell and `od`, gives
+/// what stands below it.
+#[test]
+fn the_guide_can_be_followed_by_hand() {
+    let root = Path::new(env!("CARGO_MANIFEST_DIR"));
+    let guide = fs::read_to_string(root.join("../docs/CERTIFY.md")).unwrap();
+    let folder = tempfile::tempdir().unwrap();
+    let case = case(&root.join("tests/corpus/case000-evening.txt"));
+    fs::write(folder.path().join("case000-evening.bin"), &case.dump).unwrap();
+    let blocks: Vec<&str> = guide.split("\n\n").collect();
+    let mut ran = 0;
+    for pair in blocks.windows(2) {
+        let typed = pair[0].trim_start();
+        if !["od ", "for n "]
+            .iter()
+            .any(|begin| typed.starts_with(begin))
+        {
+            continue;
+        }
+        let mut shell = std::process::Command::new("sh");
+        shell.args(["-c", typed]).current_dir(folder.path());
+        let output = String::from_utf8(shell.output().unwrap().stdout).unwrap();
+        let lines: Vec<String> = output.lines().map(|line| format!("    {line}")).collect();
+        assert_eq!(lines.join("\n"), pair[1], "{typed}");
+        ran += 1;
+    }
+    assert_eq!(ran, 3);
+}
