@@ -4,7 +4,7 @@ use std::error::Error as _;
 use std::ffi::OsString;
 
 use clap::error::{ContextKind, ContextValue, Error, ErrorKind};
-use clap::{Command, CommandFactory as _};
+use clap::{Command, CommandFactory as _, Parser as _};
 
 use crate::arguments::{Arguments, Parsed};
 use crate::failure::shown;
@@ -45,9 +45,14 @@ fn wrong(error: &Error, all: &Command, command: &str) -> String {
     let typed = shown(typed.as_ref());
     match error.kind() {
         ErrorKind::InvalidSubcommand => {
-            let none = shown(value(ContextKind::InvalidSubcommand).as_ref());
-            let nearest = nearest(error, ContextKind::SuggestedSubcommand);
-            with_nearest(format!("there is no command {none}"), nearest)
+            let none = value(ContextKind::InvalidSubcommand);
+            // behind help clap suggests nothing
+            let alone = Arguments::try_parse_from(["lohenarr", &none]).err();
+            let nearest = alone.and_then(|error| nearest(&error, ContextKind::SuggestedSubcommand));
+            with_nearest(
+                format!("there is no command {}", shown(none.as_ref())),
+                nearest,
+            )
         }
         ErrorKind::UnknownArgument if argument.starts_with('-') => {
             let nearest = nearest(error, ContextKind::SuggestedArg);
