@@ -12,8 +12,8 @@ library = target/staticlib/libcapi.a
 command = target/cargo/release/lohenarr
 to = $(DESTDIR)$(PREFIX)
 
-# what an operator reads, and the rules that a certificate names
-documents = CERTIFY.md COMMAND.md RULES.md
+# what an operator reads, the rules that a certificate names, and what they rest on
+documents = CERTIFY.md COMMAND.md RULES.md TRUST.md
 
 places = $(to)/bin/lohenarr \
     $(to)/share/man/man1/lohenarr.1 \

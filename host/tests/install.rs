@@ -61,7 +61,7 @@ fn what_is_installed_works() {
     run(Command::new("bash").arg("-n").arg(usr.join(completions[0])));
     assert!(usr.join("share/man/man1/lohenarr.1").exists());
     // what the man page and a certificate refer to
-    for name in ["CERTIFY.md", "COMMAND.md", "RULES.md"] {
+    for name in ["CERTIFY.md", "COMMAND.md", "RULES.md", "TRUST.md"] {
         assert!(usr.join("share/doc/lohenarr").join(name).exists(), "{name}");
     }
 }
