@@ -8,7 +8,7 @@
 -- the records have distinct ids.
 use Prim.Native.Nat.{ℕ, zero, suc, _+_, _≤_, _<_, zero-le}
 use mathlib.Core.Bool.{Bool, true, false, not, _&&_, _||_}
-use mathlib.Core.List.{List, [], _∷_, _++_}
+use mathlib.Core.List.{[], _∷_, _++_}
 use mathlib.Core.Logic.{_⊎_, ⊎-elim}
 use mathlib.Core.Option.{Option, none, some}
 use mathlib.Core.Path.{_≡_, refl, sym, ap, _∙_}
@@ -55,6 +55,16 @@ count-below test p zero h t = absurd (not-suc-le-zero h)
 count-below test p (suc n) h t =
     rw (← add-one n, count-step test n)
     (⊎-elim (λ (e : p ≡ n). rw (← e, t) (le-refl _)) (λ (k : p < n). le-trans (count-below test p n k t) (more-keeps (test n) (count test n))) (eq-or-lt-of-le (le-of-suc-le-suc h)))
+
+-- no more pass a test than one that they all pass
+pub count-weaker : (t u : ℕ → Bool) → ((p : ℕ) → t p ≡ true → u p ≡ true) → (n : ℕ) → count t n ≤ count u n
+count-weaker t u weaker zero = rw (count-none t) zero-le
+count-weaker t u weaker (suc n) =
+    let h = count-weaker t u weaker n in
+    rw (← add-one n, count-step t n, count-step u n)
+    (by-test (t n) _
+    (λ e. rw (e, weaker n e) (omega arith))
+    (λ e. rw e (le-trans h (more-keeps (u n) (count u n)))))
 
 -- one of 0 to n - 1 that passes a test and has the id x
 pub record Bears (test : ℕ → Bool) (id : ℕ → ℕ) (n x : ℕ) : Type 0 where

@@ -1,14 +1,12 @@
 -- The twelve marked cases, computed from the definitions. W's kinds are known page by page from the crate of pages, so that no byte is looked at here.
 use Prim.Native.Nat.{ℕ, _<_}
 use mathlib.Core.Bool.{false}
-use mathlib.Core.Path.{_≡_, fun-ext}
+use mathlib.Core.Path.{_≡_}
 use native.Mathlib.Omega.{arith}
-use lib.ListN.{length, getD}
+use lib.ListN.{length}
 use Rattle.page.specs.Numbers.{badObject, badChunk}
-use Rattle.page.specs.Records.{recordOf, recordAt}
 use Rattle.page.specs.Lengths.{openedOf}
 use Rattle.page.specs.Shelf.{shelfGeometry, shelf, shelfKinds}
-use Rattle.page.specs.declared.kind.Kind.the-variants.{Blank}
 use Rattle.page.specs.declared.geometry.Opened.the-variants.{Pages}
 use Rattle.page.proofs.Marked as pages
 use Rattle.page.proofs.Within.{object-good, chunk-good}
@@ -20,10 +18,7 @@ use Rattle.chunk.specs.Lookups.{fileAt, fileBy, fileOf, sizedBy, sizedOf
 use Rattle.chunk.specs.Answers.{sizeOn, chunkOn}
 use Rattle.chunk.specs.Shelf.{answers, expected}
 
--- what W's pages say
-says-shelf : recordAt shelfGeometry shelf ≡ (λ i. recordOf (getD shelfKinds i Blank))
-says-shelf = fun-ext pages.shelf-record
-
+-- W is accepted
 opened : openedOf shelfGeometry (length shelf) ≡ Pages 8
 opened = rw (pages.marked .shelf-length) (pages.marked .shelf-opened)
 
@@ -40,7 +35,7 @@ unfolding answers expected sizeOn chunkOn sizedOf sizedBy lookedOf lookedBy chun
 marked-cases =
     rw (
       opened,
-      says-shelf,
+      pages.shelf-says,
       pages.marked .page-cases,
       object 257 (omega arith) (omega arith),
       object 258 (omega arith) (omega arith),

@@ -1,11 +1,12 @@
 // The bytes of a chunk: read into a lent buffer, or borrowed as a part of the dump.
 ghost use mathlib.Core.Path.{_≡_};
 ghost use mathlib.Core.List.{_++_};
-ghost use Prim.Native.Nat.{min, _-_, _≤_};
+ghost use Prim.Native.Nat.{_-_, _≤_};
 ghost use lib.ListN.{length, take, drop, replicate};
 ghost use Rattle.chunk.specs.Answers.{chunkOn, readBy, validPart, partBy, overlaid, bufferBy};
 use crate::answer::Looked;
 use crate::lookup::chunk;
+use crate::record::lesser;
 use page::geometry::Geometry;
 use page::number::ChunkNumber;
 use page::number::ObjectId;
@@ -38,13 +39,6 @@ pub fn part_of(dump: &[u8], g: Geometry, a: Looked) -> &[u8]
     }
 }
 
-// The smaller of two lengths.
-fn least(a: usize, b: usize) -> usize
-    ensures { λ r. ⌜ r ≡ min a b ⌝ }
-{
-    if a < b { a } else { b }
-}
-
 // Copies the first bytes of a part to the begin of a buffer.
 fn copy_front(buffer: &mut [u8], part: &[u8], count: usize)
     requires { ⌜ (count ≤ length (now buffer)) × (count ≤ length (now part)) ⌝ }
@@ -74,7 +68,7 @@ fn overlay(buffer: &mut [u8], part: &[u8], shown: usize)
     requires { ⌜ shown ≤ length (now buffer) ⌝ }
     ensures { λ _. ⌜ now (buffer .exit) ≡ overlaid (now (part .entry)) shown (now (buffer .entry)) ⌝ }
 {
-    let count = least(part.len(), shown);
+    let count = lesser(part.len(), shown);
     copy_front(buffer, part, count);
     clear_from(buffer, count, shown);
 }

@@ -2,7 +2,7 @@
 ghost use mathlib.Core.Path.{_≡_};
 ghost use Prim.Native.Nat.{max, min, _+_, _<_, _^_};
 ghost use Rattle.page.specs.Records.{isHeader};
-ghost use Rattle.chunk.specs.Records.{objectOf, sequenceOf, orderOf, isOf, isCopy, countOf, fileSize, goneUnder, baseOf};
+ghost use Rattle.chunk.specs.Records.{objectOf, sequenceOf, orderOf, isOf, isCopy, countOf, fileSize, goneUnder, isGone, baseOf};
 ghost use Rattle.chunk.specs.Scans.{wanted};
 use page::number::ChunkNumber;
 use page::number::ObjectId;
@@ -43,6 +43,13 @@ pub fn larger(a: u64, b: u64) -> u64
 
 // The smaller of two numbers.
 pub fn smaller(a: u64, b: u64) -> u64
+    ensures { λ r. ⌜ r ≡ min a b ⌝ }
+{
+    if a < b { a } else { b }
+}
+
+// The lesser of two lengths.
+pub fn lesser(a: usize, b: usize) -> usize
     ensures { λ r. ⌜ r ≡ min a b ⌝ }
 {
     if a < b { a } else { b }
@@ -100,6 +107,17 @@ pub fn is_header(r: Record) -> bool
         return false;
     };
     true
+}
+
+// Whether a page is the header of an unlinked or deleted object.
+pub fn is_gone(r: Record) -> bool
+    ensures { λ b. ⌜ b ≡ isGone r ⌝ }
+{
+    match r {
+        Record::Other => false,
+        Record::Header(h) => gone_under(h.parent),
+        Record::Data(_) => false,
+    }
 }
 
 // The place of a record in the order: by sequence, then by page number.

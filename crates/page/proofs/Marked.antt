@@ -1,7 +1,7 @@
 -- The shelf dump W, the marked cases about pages and the limits of a dump's length: computed from the definitions, in one table.
 use Prim.Native.Nat.{ℕ, zero, suc, _+_, _≤_, _<_}
 use mathlib.Core.List.{List, map}
-use mathlib.Core.Path.{_≡_, refl, sym, ap, _∙_}
+use mathlib.Core.Path.{_≡_, refl, sym, ap, _∙_, fun-ext}
 use lib.Dec.{ltb}
 use lib.ListN.{length, getD, List·getD-eq-default}
 use native.Mathlib.Nat.{add-zero, zero-add}
@@ -92,3 +92,7 @@ shelf-kind = kinds-known shelfGeometry shelf 8 shelfKinds (rw (marked .shelf-len
 pub shelf-record : (i : ℕ) → recordAt shelfGeometry shelf i ≡ recordOf (getD shelfKinds i Blank)
 unfolding recordAt
 shelf-record i = ap recordOf (shelf-kind i)
+
+-- so that its pages say what its kinds do
+pub shelf-says : recordAt shelfGeometry shelf ≡ (λ i. recordOf (getD shelfKinds i Blank))
+shelf-says = fun-ext shelf-record

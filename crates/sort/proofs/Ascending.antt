@@ -1,8 +1,8 @@
 -- Ascending lists. A number that is not in an ascending list and is put into it leaves the list ascending, with exactly that number more; and
 -- two ascending lists with the same members are equal, since the first of each is the least of the members.
-use Prim.Native.Nat.{ℕ, suc, _≤_}
+use Prim.Native.Nat.{ℕ, suc, _≤_, _<_}
 use mathlib.Core.Bool.{Bool, true, false, cond}
-use mathlib.Core.List.{List, [], _∷_}
+use mathlib.Core.List.{List, [], _∷_, _++_}
 use mathlib.Core.Logic.{_⊎_, inl, inr, ⊎-elim}
 use mathlib.Core.Path.{_≡_, refl, ap₂}
 use native.Mathlib.Nat.{le-refl}
@@ -22,6 +22,11 @@ ascends-in b x (y ∷ L) a (inr i) = omega (arith, a .0, ascends-in (suc y) x L 
 pub ascends-lower : (b c : ℕ) (L : List ℕ) → b ≤ c → Ascends c L → Ascends b L
 ascends-lower b c [] h a = tt
 ascends-lower b c (x ∷ L) h a = (omega (arith, a .0), a .1)
+
+-- two ascending lists, the second from above the first on, ascend when they are joined
+pub ascends-on : (a b : ℕ) (L M : List ℕ) → a ≤ b → Ascends a L → ((x : ℕ) → In x L → x < b) → Ascends b M → Ascends a (L ++ M)
+ascends-on a b [] M h s f t = ascends-lower a b M h t
+ascends-on a b (x ∷ L) M h s f t = (s .0, ascends-on (suc x) b L M (f x (inl refl)) (s .1) (λ y i. f y (inr i)) t)
 
 -- the first of two ascending lists with the same members is the same, and so are the rests
 pub same-members : (b : ℕ) (L M : List ℕ) → Ascends b L → Ascends b M → ((x : ℕ) → In x L → In x M) → ((x : ℕ) → In x M → In x L) → L ≡ M

@@ -6,4 +6,5 @@ pub mod Splitting
 pub mod Packing
 pub mod Clearing
 pub mod Times
+pub mod Lists
 pub mod Searching

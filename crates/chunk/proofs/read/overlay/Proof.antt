@@ -12,7 +12,7 @@ returns c =
     let n = f .before .before in
     let s = n .before .before .before in
     r .clear-from .ensures
-    ∙ rw (f .copy-front .ensures) (laid-over (s .args .part .now) (s .args .buffer .now) (s .args .shown) (n .least .result) (n .least .ensures) (s .pre))
+    ∙ rw (f .copy-front .ensures) (laid-over (s .args .part .now) (s .args .buffer .now) (s .args .shown) (n .lesser .result) (n .lesser .ensures) (s .pre))
 
 pub overlay-spec : {M : Type 1} → statement M
 overlay-spec = tie.close (tie.spec (search needs) (search needs) (search needs) (search needs) returns)
