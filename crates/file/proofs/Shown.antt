@@ -1,7 +1,7 @@
 -- The newest of the copies that a walk meets are those that the lookups of the chunks answer. Both go by the chain from its end: a copy that is met
 -- is found for its own chunk, before any older one, and for no other.
 use Prim.Native.Nat.{ℕ, zero, suc, _+_, _≤_, _<_}
-use mathlib.Core.Bool.{Bool, true, false, not, _&&_}
+use mathlib.Core.Bool.{Bool, true, false, _&&_}
 use mathlib.Core.List.{List, [], _∷_, _++_}
 use mathlib.Core.Path.{_≡_, refl, sym, ap, ap₂, _∙_}
 use native.Mathlib.Omega.{arith}
@@ -20,7 +20,7 @@ use Rattle.chunk.specs.declared.cut.Cut.{Cut}
 use Rattle.chunk.specs.declared.answer.Looked.{Looked}
 use Rattle.chunk.specs.declared.answer.Looked.the-variants as looked
 use Rattle.index.specs.Chains.{Trace, clean, broken, rec}
-use Rattle.index.specs.Walks.{isShown, found, cutBy}
+use Rattle.index.specs.Walks.{isShown, cutBy}
 use Rattle.index.specs.Ahead.{unvisited, stillNewest, ahead}
 use Rattle.index.proofs.Walk.Ahead.{ahead-end, ahead-broken, ahead-here, ahead-on}
 use Rattle.index.proofs.Sorted.Order.{never}

@@ -5,6 +5,7 @@ ghost use mathlib.Core.List.{_++_};
 ghost use Prim.Native.Nat.{_<_, _^_, min};
 ghost use lib.ListN.{length, set, replicate, drop};
 ghost use Rattle.index.specs.Cells.{cellsFor, slotsFor, word, linkAt, tableAt, keyAt, firstAt, seedAt, seedOf, marked};
+use chunk::record::lesser;
 use page::number::PageNumber;
 
 // The words for the whole index.
@@ -105,18 +106,11 @@ pub(crate) fn marked_link(link: u32) -> u32
     link
 }
 
-// The shorter of two lengths.
-fn shorter(a: usize, b: usize) -> usize
-    ensures { λ r. ⌜ r ≡ min a b ⌝ }
-{
-    if a < b { a } else { b }
-}
-
 // Makes the first words 0: so many, or all where they are fewer.
 pub fn clear(words: &mut [u32], end: usize)
     ensures { λ _. ⌜ now (words .exit) ≡ replicate (min end (length (now (words .entry)))) 0 ++ drop (min end (length (now (words .entry)))) (now (words .entry)) ⌝ }
 {
-    let stop = shorter(end, words.len());
+    let stop = lesser(end, words.len());
     let mut i: usize = 0;
     while i < stop {
         words[i] = 0;

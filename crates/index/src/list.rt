@@ -5,7 +5,6 @@ ghost use Prim.Native.Nat.{_≤_, _<_, _^_};
 ghost use lib.ListN.{length};
 ghost use Rattle.page.specs.Search.{count};
 ghost use Rattle.page.specs.Records.{recordAt};
-ghost use Rattle.chunk.specs.Records.{isGone};
 ghost use Rattle.chunk.specs.Lists.{inFront, wordsBy};
 ghost use Rattle.index.specs.Cells.{cellsFor, slotsFor, InTable, keys};
 ghost use Rattle.index.specs.Chains.{top};
@@ -24,12 +23,11 @@ use crate::slots::slot_of;
 use chunk::answer::Listed;
 use chunk::answer::Tallied;
 use chunk::list::put_id;
-use chunk::record::gone_under;
+use chunk::record::is_gone;
 use page::geometry::Geometry;
 use page::geometry::Opened;
 use page::number::ObjectId;
 use page::number::PageNumber;
-use page::record::Record;
 use page::record::record_at;
 use page::refusal::Refusal;
 use sort::words::sort;
@@ -56,16 +54,6 @@ impl Ask {
             Ask::Any => true,
         }
     }
-}
-
-// Whether a page is a header under parent 3 or 4.
-fn is_gone(r: Record) -> bool
-    ensures { λ b. ⌜ b ≡ isGone r ⌝ }
-{
-    let Record::Header(h) = r else {
-        return false;
-    };
-    gone_under(h.parent)
 }
 
 // How an object stands by its newest header, page q.

@@ -21,7 +21,7 @@ use Rattle.page.specs.Choice.{pick}
 use Rattle.page.specs.Records.{isHeader}
 use Rattle.page.specs.Search.{count}
 use Rattle.page.specs.declared.record.Record.{Record}
-use Rattle.page.specs.declared.record.Record.the-variants.{Other, Header, Data}
+use Rattle.page.specs.declared.record.Record.the-variants.{Other}
 use Rattle.page.specs.declared.refusal.Refusal.the-variants.{ShortBuffer, ShortIndex, IndexDamaged}
 use Rattle.page.specs.declared.refusal.Refusal.{Refusal}
 use Rattle.page.proofs.Arms.{allBut}
@@ -67,12 +67,6 @@ some-chain x [] i e = i
 some-chain x (q ∷ L) i e = clash (cc)
 
 -- ---- on any cells
-
--- a page that is no header has no parent
-pub other-gone : (k : Record) → isHeader k ≡ false → isGone k ≡ false
-other-gone Other e = refl
-other-gone (Header h) e = never (sym e)
-other-gone (Data d) e = refl
 
 -- what a `let .. else` on a slot that is asked for leaves: one that is not
 pub else-asked : (x : Standing) → OneOf (allBut (tagOf the-type standing.Asked) 3) (tagOf the-type x) → isAsked x ≡ false

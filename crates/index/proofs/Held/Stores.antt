@@ -17,7 +17,7 @@ use borrow.Author.Tests.{ltb-false, eq-eqb, ne-eqb}
 use Rattle.page.specs.Choice.{pick}
 use Rattle.page.specs.Search.{count}
 use Rattle.sort.specs.Ascending.{In}
-use Rattle.index.specs.Cells.{shared, cellsFor, slotsFor, word, linkAt, keyAt, firstAt, seedAt, seedOf, keys, isMarked, last, linkTo, marked, linked, claimed}
+use Rattle.index.specs.Cells.{cellsFor, slotsFor, word, linkAt, keyAt, firstAt, seedAt, seedOf, keys, isMarked, last, linkTo, marked, linked, claimed}
 use Rattle.index.specs.Slots.{serves, slotOf, firstIn, first, used}
 use Rattle.index.specs.Chains.{trace, chain, top}
 use Rattle.index.specs.Held.{seen, with, recs, fromList}

@@ -1,6 +1,6 @@
 -- Where the words of the table of objects stand: behind the shared words, at no page's link, each at a place of its own, and within the words
 -- of the index.
-use Prim.Native.Nat.{ℕ, suc, _+_, _*_, _/_, _%_, _≤_, _<_, _^_}
+use Prim.Native.Nat.{ℕ, _+_, _*_, _/_, _%_, _≤_, _<_, _^_}
 use mathlib.Core.List.{List}
 use mathlib.Core.Path.{_≡_}
 use native.Mathlib.Nat.{mod-lt, div-add-mod', div-mul-le-self}

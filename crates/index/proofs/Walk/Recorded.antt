@@ -1,13 +1,12 @@
 -- The records of an object: one turn of each walk down its chain, and what the pages of a chain of a list are.
-use Prim.Native.Nat.{ℕ, zero, suc, _+_, _≤_, _<_}
-use mathlib.Core.Bool.{Bool, true, false}
+use Prim.Native.Nat.{ℕ, suc, _+_, _≤_, _<_}
+use mathlib.Core.Bool.{true, false}
 use mathlib.Core.List.{List, [], _∷_, _++_}
 use mathlib.Core.Path.{_≡_, refl, sym, ap, _∙_}
 use native.Mathlib.Omega.{arith}
 use native.Mathlib.Numerals.{add-one}
 use lib.ListN.{length, getD, take, drop, length-drop}
 use lib.Seq.{take-suc, take-all, drop-cons, length-take-le}
-use lib.Dec.{eqb, ltb}
 use borrow.Author.Tests.{eq-eqb, ne-eqb, lt-ltb, le-ltb}
 use Rattle.page.specs.Choice.{pick}
 use Rattle.page.specs.Numbers.{badObject}
@@ -16,7 +15,6 @@ use Rattle.page.specs.declared.refusal.Refusal.{Refusal}
 use Rattle.page.specs.declared.refusal.Refusal.the-variants.{BadObject, NoObject, ShortBuffer, ShortIndex, IndexDamaged}
 use Rattle.page.proofs.Searching.{clash, by-test}
 use Rattle.chunk.specs.Lists.{listedBy}
-use Rattle.chunk.specs.declared.answer.Listed.{Listed}
 use Rattle.chunk.specs.declared.answer.Listed.the-variants as listed
 use Rattle.chunk.specs.declared.answer.Tallied.{Tallied}
 use Rattle.chunk.specs.declared.answer.Tallied.the-variants as tallied

@@ -18,19 +18,19 @@ abbrev μ-loop : tie.MeasureT-loop
 write-words : tie.Need-slice-write-words Inv-loop μ-loop
 write-words c =
     let s = c .before in
-    omega (arith, c .loop-test .taken, s .loop .inv .1, s .before .shorter .ensures)
+    omega (arith, c .loop-test .taken, s .loop .inv .1, s .before .lesser .ensures)
 
 loop-again : tie.Need-loop-again Inv-loop μ-loop
 loop-again c =
     let s = c .before in
     let a = s .before .before .before .args in
-    (omega arith, simp length-set (s .loop .inv .1), rw (s .loop .inv .2) (fill-more (s .loop .i) 0 (a .words .now) (omega (arith, s .before .shorter .ensures))))
+    (omega arith, simp length-set (s .loop .inv .1), rw (s .loop .inv .2) (fill-more (s .loop .i) 0 (a .words .now) (omega (arith, s .before .lesser .ensures))))
 
 returns : tie.Need-returns Inv-loop μ-loop
 returns c =
     let s = c .before in
     let e : s .loop .i ≡ min (s .before .before .before .args .end) (length (s .before .before .before .args .words .now)) =
-    omega (arith, s .before .shorter .ensures) in
+    omega (arith, s .before .lesser .ensures) in
     rw e at (s .loop .inv .2)
 
 pub clear-spec : {M : Type 1} → statement M

@@ -1,6 +1,5 @@
 -- The refusals come in the definition's order, and write nothing; behind them the tally of the object's chain decides.
 use Prim.Native.Nat.{ℕ, _≤_}
-use mathlib.Core.List.{List}
 use mathlib.Core.Path.{_≡_, sym, ap, _∙_}
 use native.Mathlib.Omega.{arith}
 use lib.ListN.{length}
