@@ -11,12 +11,12 @@ use Rattle.page.specs.declared.record.Record.{Record}
 use Rattle.page.proofs.Layouts.{and-left, and-right}
 use Rattle.page.proofs.Searching.{clash, by-test}
 use Rattle.sort.specs.Ascending.{In, Ascends}
+use Rattle.sort.proofs.Lists.{keep-in, keep-of, keep-ascends}
 use Rattle.chunk.specs.Live.{liveIds}
 use Rattle.chunk.proofs.Living.{live-ids-ascend}
 use Rattle.tree.specs.Objects.{root}
 use Rattle.tree.specs.Paths.{listed}
 use Rattle.tree.specs.Tree.{isIn, others}
-use Rattle.tree.proofs.Lists.{keep-in, keep-of, keep-ascends}
 use Rattle.tree.proofs.Paths.{listed-below}
 
 module _ (says : ℕ → Record) (names : ℕ → List ℕ) (n : ℕ) where

@@ -10,6 +10,7 @@ use Rattle.page.specs.Search.{firstFrom}
 use Rattle.page.specs.declared.record.Record.{Record}
 use Rattle.page.specs.declared.record.Record.the-variants.{Other, Header}
 use Rattle.sort.specs.Arranged.{ascend, arranged}
+use Rattle.sort.specs.Lists.{keep, joined}
 use Rattle.chunk.specs.Gather.{gather}
 use Rattle.chunk.specs.Live.{passed, idsOf, liveIds}
 use Rattle.chunk.specs.Newest.{newestWhere}
@@ -17,7 +18,7 @@ use Rattle.text.specs.Decimal.{digits, decimal}
 use Rattle.text.specs.Lines.{fieldOf, lineOf}
 use Rattle.text.specs.Quoted.{bytesOf}
 use Rattle.tree.specs.Objects.{parentOf, standOf}
-use Rattle.tree.specs.Paths.{upToZero, keep, each, childrenOf, stepTo, entryOf, under, listed}
+use Rattle.tree.specs.Paths.{upToZero, childrenOf, stepTo, entryOf, under, listed}
 use Rattle.tree.specs.Tree.{pathLines, reasonLines, isIn, others, treeText}
 use Rattle.tree.specs.Ways.{anyBelow, up, metAt, stopsAt, stopOf, reasonOf}
 use Rattle.tree.specs.declared.reason.Reason.the-variants as reason
@@ -69,7 +70,7 @@ pub example-tree :
     ≡ bytesOf "object=300\npath=/photos\nobject=257\npath=/photos/a.jpg\n"
     ++ bytesOf "object=258\nreason=loop\nobject=259\nreason=loop\nobject=260\nreason=missing\n"
     ++ bytesOf "object=262\nreason=deleted\nobject=263\nreason=non-directory\n"
-unfolding examplePages exampleNames treeText pathLines reasonLines isIn others listed under entryOf stepTo childrenOf each keep upToZero parentOf
+unfolding examplePages exampleNames treeText pathLines reasonLines isIn others listed under entryOf stepTo childrenOf joined keep upToZero parentOf
     standOf reasonOf stopOf stopsAt metAt up anyBelow firstFrom gather newestWhere lineOf fieldOf decimal digits
 example-tree = rw example-live
 
@@ -81,6 +82,6 @@ nestedSays (suc p) = headerOf 4097 (258 + p) 3 (257 + p)
 -- how many of 33 are listed, and the other with its reason
 pub nested-directories :
     (length (listed nestedSays (λ p. []) 33) ≡ 32) × (others nestedSays (λ p. []) 33 ≡ 289 ∷ []) × (reasonOf nestedSays 33 289 ≡ reason.TooDeep)
-unfolding nestedSays liveIds idsOf passed arranged ascend isIn others listed under entryOf childrenOf each keep parentOf standOf reasonOf stopOf
+unfolding nestedSays liveIds idsOf passed arranged ascend isIn others listed under entryOf childrenOf joined keep parentOf standOf reasonOf stopOf
     stopsAt metAt up anyBelow firstFrom gather newestWhere
 nested-directories = (refl, refl, refl)

@@ -1,7 +1,7 @@
 -- The rows of a tree are no more than a dump's headers. Both lists together have each live object other than the root exactly once, so that they are
 -- as long as the list of those; a live object has a live page, which is a header. The rows go by the same recursion as the entries: they are as many.
-use Prim.Native.Nat.{ℕ, zero, suc, _+_, _≤_, zero-le}
-use mathlib.Core.Bool.{Bool, true, false, not}
+use Prim.Native.Nat.{ℕ, zero, suc, _+_, _≤_}
+use mathlib.Core.Bool.{true, false, not}
 use mathlib.Core.List.{List, [], _∷_, _++_}
 use mathlib.Core.Logic.{inl, inr, ⊎-elim}
 use mathlib.Core.Path.{_≡_, refl, sym, ap, ap₂, _∙_}
@@ -10,43 +10,32 @@ use native.Mathlib.Omega.{arith}
 use borrow.Author.Tests.{not-true, eqb-false, ne-eqb}
 use lib.Dec.{eqb}
 use lib.ListN.{length, length-append, length-map}
-use Rattle.page.specs.Search.{count}
 use Rattle.page.specs.declared.record.Record.{Record}
 use Rattle.page.proofs.Layouts.{and-left}
 use Rattle.page.proofs.Searching.{clash, by-test}
 use Rattle.sort.specs.Ascending.{In}
+use Rattle.sort.specs.Lists.{keep, joined}
+use Rattle.sort.proofs.Lists.{keep-in, keep-of, keep-ascends, keep-few}
 use Rattle.chunk.specs.Live.{livePage, liveIds, liveCount}
-use Rattle.chunk.proofs.Living.{live-ids-ascend, live-length}
+use Rattle.chunk.proofs.Living.{count-weaker, live-ids-ascend, live-length}
 use Rattle.tree.specs.Heads.{isHead, headCount}
 use Rattle.tree.specs.Objects.{root, standOf, isStanding}
-use Rattle.tree.specs.Paths.{Entry, keep, each, mostDepth, childrenOf, stepTo, entryOf, under, listed}
+use Rattle.tree.specs.Paths.{Entry, mostDepth, childrenOf, stepTo, entryOf, under, listed}
 use Rattle.tree.specs.Rows.{eachAt, rowsAt, entryRows, rowsUnder, listedRows, otherRows, treeRows, keyBehind}
 use Rattle.tree.specs.Tree.{isIn, others}
 use Rattle.tree.proofs.Both.{others-of, others-live, others-ascend, one-list}
-use Rattle.tree.proofs.Lists.{keep-in, keep-of, keep-ascends, keep-few}
 use Rattle.tree.proofs.Paths.{listed-below, listed-once, objectsOf, listed-object, object-listed}
 use Rattle.sort.proofs.Times.{Once, times-joined, times-out, joined-in, in-joined, ascends-once, once-length}
 
--- ---- how long what is kept and counted is
-
-module _ (t u : ℕ → Bool) (weaker : (p : ℕ) → t p ≡ true → u p ≡ true) where
-  -- no more numbers pass a test than one that they all pass
-  pub count-weaker : (n : ℕ) → count t n ≤ count u n
-  unfolding count
-  count-weaker zero = zero-le
-  count-weaker (suc n) =
-      let h = count-weaker n in
-      by-test (t n) _
-      (λ e. rw (e, weaker n e) (omega arith))
-      (λ e. by-test (u n) _ (λ f. rw (e, f) (omega arith)) (λ f. rw (e, f) (omega arith)))
+-- ---- how long what each of a list gives is
 
 module _ {B : Type 0} (f : (at x : ℕ) → List ℕ) (g : ℕ → List B) (alike : (at x : ℕ) → length (f at x) ≡ length (g x)) where
   -- what each of a list gives is as long, whether by its position or not
-  pub each-length : (at : ℕ) (L : List ℕ) → length (eachAt f at L) ≡ length (each g L)
-  unfolding eachAt each
+  pub each-length : (at : ℕ) (L : List ℕ) → length (eachAt f at L) ≡ length (joined g L)
+  unfolding eachAt joined
   each-length at [] = refl
   each-length at (x ∷ L) =
-      length-append (f at x) _ ∙ ap₂ (λ a b. a + b) (alike at x) (each-length (at + length (f at x)) L) ∙ sym (length-append (g x) (each g L))
+      length-append (f at x) _ ∙ ap₂ (λ a b. a + b) (alike at x) (each-length (at + length (f at x)) L) ∙ sym (length-append (g x) (joined g L))
 
 -- ---- the live objects other than the root
 

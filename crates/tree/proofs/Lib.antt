@@ -1,5 +1,4 @@
--- lists of numbers, by their members and by their places
-pub mod Lists
+-- lists of numbers, by their places
 pub mod Positions
 pub mod Fronts
 pub mod Searching
@@ -12,16 +11,16 @@ pub mod Paths
 pub mod Both
 pub mod Fitting
 -- the newest headers, and the children in order
-pub mod Keeping
+pub mod NewestEach
 pub mod NewestHeads
 pub mod HeadRows
 pub mod Entries
 pub mod Segments
 -- the rows of the first list, and of the second
-pub mod Listing
+pub mod FirstList
 pub mod Climbing
 pub mod Settled
-pub mod Othering
+pub mod SecondList
 pub mod Joined
 -- the text, and what is answered
 pub mod Texting

@@ -29,7 +29,7 @@ use Rattle.chunk.proofs.Meaning.{newest-found, where-is}
 use Rattle.chunk.proofs.Records.{of-object}
 use Rattle.tree.specs.Heads.{isHead, headRow, headCount, newerRow, newestFrom, newestEach, headRows, Heads}
 use Rattle.tree.specs.Objects.{headOf}
-use Rattle.tree.proofs.Keeping.{newest-same, newest-other, newest-last}
+use Rattle.tree.proofs.NewestEach.{newest-same, newest-other, newest-last}
 
 -- a row is its key and its value
 row-whole : (r : ℕ) → packed (keyOf r) (valueOf r) ≡ r

@@ -19,14 +19,15 @@ use Rattle.page.proofs.Layouts.{and-left, and-right}
 use Rattle.page.proofs.Searching.{clash, by-test}
 use Rattle.sort.specs.Arranged.{timesIn}
 use Rattle.sort.specs.Ascending.{In, Ascends}
+use Rattle.sort.specs.Lists.{joined}
 use Rattle.sort.proofs.Ascending.{ascends-in}
+use Rattle.sort.proofs.Lists.{Given, keep-in, keep-of, keep-ascends, each-in, each-of}
 use Rattle.chunk.specs.Live.{liveIds}
 use Rattle.chunk.proofs.Living.{live-ids-ascend}
 use Rattle.tree.specs.Objects.{root, parentOf, standOf, isStanding}
-use Rattle.tree.specs.Paths.{Entry, each, mostDepth, childrenOf, stepTo, entryOf, under, listed}
+use Rattle.tree.specs.Paths.{Entry, mostDepth, childrenOf, stepTo, entryOf, under, listed}
 use Rattle.tree.specs.Ways.{goesOn, up}
 use Rattle.tree.specs.Tree.{isIn}
-use Rattle.tree.proofs.Lists.{Has, keep-in, keep-of, keep-ascends, each-in, each-of}
 use Rattle.tree.proofs.Standing.{standing-live, goes-on, on-goes}
 use Rattle.sort.proofs.Times.{times-joined, times-out}
 use Rattle.tree.proofs.Ways.{up-first}
@@ -34,14 +35,14 @@ use Rattle.tree.proofs.Ways.{up-first}
 -- ---- an object in a list of entries
 
 -- an object is in a list where an entry is its
-pub has-in : (o : ℕ) (e : Entry) (L : List Entry) → Has e L → e .object ≡ o → isIn o L ≡ true
+pub has-in : (o : ℕ) (e : Entry) (L : List Entry) → In e L → e .object ≡ o → isIn o L ≡ true
 unfolding isIn
 has-in o e [] i q = absurd i
 has-in o e (x ∷ L) (inl p) q = rw (← p, eq-eqb (e .object) o q)
 has-in o e (x ∷ L) (inr i) q = by-test (eqb (x .object) o) _ (λ t. rw t) (λ t. rw t (has-in o e L i q))
 
 -- and nowhere else
-pub in-has : (o : ℕ) (L : List Entry) → isIn o L ≡ true → (e : Entry) × Has e L × (e .object ≡ o)
+pub in-has : (o : ℕ) (L : List Entry) → isIn o L ≡ true → (e : Entry) × In e L × (e .object ≡ o)
 unfolding isIn
 in-has o [] i = clash (cc)
 in-has o (x ∷ L) i =
@@ -83,19 +84,19 @@ module _ (says : ℕ → Record) (names : ℕ → List ℕ) (n : ℕ) where
   module _ (below : (path : List ℕ) (object : ℕ) → List Entry) (path : List ℕ) (c : ℕ) (e : Entry) where
     -- the entries of a child are its own, and those below it if it stands as a directory
     entry-of :
-        Has e (entryOf says names n below path c) →
-        (e ≡ entryAt path c) ⊎ ((isStanding (standOf says n c) ≡ true) × Has e (below (path ++ stepTo says names n c) c))
+        In e (entryOf says names n below path c) →
+        (e ≡ entryAt path c) ⊎ ((isStanding (standOf says n c) ≡ true) × In e (below (path ++ stepTo says names n c) c))
     unfolding entryOf
     entry-of (inl q) = inl q
     entry-of (inr h) = by-test (isStanding (standOf says n c)) _ (λ t. inr (t, rw t at h)) (λ t. absurd (rw t at h))
 
     -- those below a child that stands as a directory are among them
-    entry-in : isStanding (standOf says n c) ≡ true → Has e (below (path ++ stepTo says names n c) c) → Has e (entryOf says names n below path c)
+    entry-in : isStanding (standOf says n c) ≡ true → In e (below (path ++ stepTo says names n c) c) → In e (entryOf says names n below path c)
     unfolding entryOf
     entry-in t h = inr (rw t h)
 
   -- and so is its own
-  entry-own : (below : (path : List ℕ) (object : ℕ) → List Entry) (path : List ℕ) (c : ℕ) → Has (entryAt path c) (entryOf says names n below path c)
+  entry-own : (below : (path : List ℕ) (object : ℕ) → List Entry) (path : List ℕ) (c : ℕ) → In (entryAt path c) (entryOf says names n below path c)
   unfolding entryOf
   entry-own below path c = inl refl
 
@@ -170,30 +171,30 @@ module _ (says : ℕ → Record) (names : ℕ → List ℕ) (n : ℕ) where
 
   -- the entries of a directory are those of its children
   under-of :
-      (k : ℕ) (path : List ℕ) (d : ℕ) (e : Entry) → Has e (under says names n (suc k) path d) →
-      (c : ℕ) × In c (childrenOf says names n d) × Has e (entryOf says names n (under says names n k) path c)
+      (k : ℕ) (path : List ℕ) (d : ℕ) (e : Entry) → In e (under says names n (suc k) path d) →
+      Given (entryOf says names n (under says names n k) path) (childrenOf says names n d) e
   unfolding under
   under-of k path d e h = each-of _ e (childrenOf says names n d) h
 
   -- and whatever is an entry of a child is one of the directory
   under-child :
       (k : ℕ) (path : List ℕ) (d c : ℕ) (e : Entry) → In c (childrenOf says names n d) →
-      Has e (entryOf says names n (under says names n k) path c) → Has e (under says names n (suc k) path d)
+      In e (entryOf says names n (under says names n k) path c) → In e (under says names n (suc k) path d)
   unfolding under
   under-child k path d c e i h = each-in _ e c (childrenOf says names n d) i h
 
   -- the path of an entry has the names of the objects on its way, in order
-  pub path-names : (k : ℕ) (path : List ℕ) (d : ℕ) (e : Entry) → Has e (under says names n k path d) → Placed k path d e
+  pub path-names : (k : ℕ) (path : List ℕ) (d : ℕ) (e : Entry) → In e (under says names n k path d) → Placed k path d e
   unfolding under
   path-names zero path d e h = absurd h
   path-names (suc k) path d e h =
       let r = under-of k path d e h in
-      let c = r .0 in
+      let c = r .by in
       ⊎-elim
-      (λ (q : e ≡ entryAt path c). rw q (child-placed k path d c (r .1)))
-      (λ (w : (isStanding (standOf says n c) ≡ true) × Has e (under says names n k (path ++ stepTo says names n c) c)).
-      deeper-placed k path d c (r .1) e (w .0) (path-names k (path ++ stepTo says names n c) c e (w .1)))
-      (entry-of (under says names n k) path c e (r .2))
+      (λ (q : e ≡ entryAt path c). rw q (child-placed k path d c (r .there)))
+      (λ (w : (isStanding (standOf says n c) ≡ true) × In e (under says names n k (path ++ stepTo says names n c) c)).
+      deeper-placed k path d c (r .there) e (w .0) (path-names k (path ++ stepTo says names n c) c e (w .1)))
+      (entry-of (under says names n k) path c e (r .gives))
 
   -- what is in the entries of a directory is below it
   pub in-under : (k : ℕ) (path : List ℕ) (d o : ℕ) → isIn o (under says names n k path d) ≡ true → Below says n k d o
@@ -205,7 +206,7 @@ module _ (says : ℕ → Record) (names : ℕ → List ℕ) (n : ℕ) where
   below-has :
       (k : ℕ) (path : List ℕ) (d o j : ℕ) → In o (liveIds says n) → (o ≡ root → ⊥) → j < k → up says n (suc j) o ≡ d →
       ((i : ℕ) → 1 ≤ i → i ≤ j → goesOn says n (up says n i o) ≡ true) →
-      (e : Entry) × Has e (under says names n k path d) × (e .object ≡ o)
+      (e : Entry) × In e (under says names n k path d) × (e .object ≡ o)
   unfolding up
   below-has zero path d o j l r m a g = absurd (not-suc-le-zero m)
   below-has (suc k) path d o zero l r m a g =
@@ -272,22 +273,22 @@ module _ (o : ℕ) where
 
   module _ (f : ℕ → List Entry) where
     -- not once in what each of a list gives, where none gives it
-    each-none : (L : List ℕ) → ((c : ℕ) → In c L → isIn o (f c) ≡ false) → timesListed o (each f L) ≡ 0
-    unfolding each timesIn
+    each-none : (L : List ℕ) → ((c : ℕ) → In c L → isIn o (f c) ≡ false) → timesListed o (joined f L) ≡ 0
+    unfolding joined timesIn
     each-none [] h = refl
     each-none (x ∷ L) h =
         let a = times-none (f x) (h x (inl refl)) in
         let b = each-none L (λ c i. h c (inr i)) in
-        rw (times-join (f x) (each f L)) (omega arith)
+        rw (times-join (f x) (joined f L)) (omega arith)
 
     -- at most once, where no more than one of them gives it, and each at most once
     each-once :
         (b : ℕ) (L : List ℕ) → Ascends b L → ((c : ℕ) → In c L → timesListed o (f c) ≤ 1) →
-        ((c d : ℕ) → In c L → In d L → isIn o (f c) ≡ true → isIn o (f d) ≡ true → c ≡ d) → timesListed o (each f L) ≤ 1
-    unfolding each timesIn
+        ((c d : ℕ) → In c L → In d L → isIn o (f c) ≡ true → isIn o (f d) ≡ true → c ≡ d) → timesListed o (joined f L) ≤ 1
+    unfolding joined timesIn
     each-once b [] a one same = zero-le
     each-once b (x ∷ L) a one same =
-        rw (times-join (f x) (each f L))
+        rw (times-join (f x) (joined f L))
         (by-test (isIn o (f x)) _
         (λ t.
         let first = one x (inl refl) in
@@ -400,7 +401,7 @@ module _ (says : ℕ → Record) (names : ℕ → List ℕ) (n : ℕ) where
       ⊎-elim
       (λ (q : w .0 ≡ entryAt says names n path c).
       record { steps = 0; arrives = sym (w .2) ∙ ap (λ (e : Entry). e .object) q; on = λ j s l. absurd (omega arith) })
-      (λ (v : (isStanding (standOf says n c) ≡ true) × Has (w .0) (under says names n k (path ++ stepTo says names n c) c)).
+      (λ (v : (isStanding (standOf says n c) ≡ true) × In (w .0) (under says names n k (path ++ stepTo says names n c) c)).
       below-climbs says n k c o
       (in-under says names n k (path ++ stepTo says names n c) c o (has-in o (w .0) _ (v .1) (w .2)))
       (on-goes says n c r (v .0)))

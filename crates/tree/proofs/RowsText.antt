@@ -18,6 +18,7 @@ use Rattle.page.specs.declared.record.Record.{Record}
 use Rattle.page.proofs.Layouts.{and-left}
 use Rattle.page.proofs.Searching.{clash, by-test, count-le}
 use Rattle.sort.specs.Ascending.{In}
+use Rattle.sort.specs.Lists.{joined}
 use Rattle.sort.specs.Packed.{wordValues, packed}
 use Rattle.sort.proofs.Packing.{packed-key, packed-value}
 use Rattle.chunk.specs.Live.{liveIds}
@@ -30,7 +31,7 @@ use Rattle.chunk.proofs.Meaning.{newest-found}
 use Rattle.chunk.proofs.Records.{of-object}
 use Rattle.tree.specs.Heads.{isHead}
 use Rattle.tree.specs.Objects.{root, pageOf, standOf, isStanding, saysBy, namesOf}
-use Rattle.tree.specs.Paths.{Entry, mostDepth, slash, each, childrenOf, stepTo, entryOf, under, listed}
+use Rattle.tree.specs.Paths.{Entry, mostDepth, slash, childrenOf, stepTo, entryOf, under, listed}
 use Rattle.tree.specs.Rows.{mostKey, keyBehind, numberOf, reasonAt, eachAt, rowsAt, rowsUnder, listedRows, otherRows, treeRows}
 use Rattle.tree.specs.Rows.{nameOn, objectIn, pathIn, pathAt, rowLines, linesTo, rowsText}
 use Rattle.tree.specs.Tree.{pathLines, reasonLines, others, treeText}
@@ -63,8 +64,8 @@ module _ (g : Geometry) (dump : List ℕ) where
   -- where each of a list has its lines at its position, the lines of all are those of each
   lines-of :
       {A : Type 0} (rows : List ℕ) (m : ℕ) (f : A → List ℕ) (xs : List A) (at : ℕ) → AllAt (λ i x. rowLines g dump rows m i ≡ f x) xs at →
-      linesTo g dump rows m (at + length xs) ≡ linesTo g dump rows m at ++ each f xs
-  unfolding each
+      linesTo g dump rows m (at + length xs) ≡ linesTo g dump rows m at ++ joined f xs
+  unfolding joined
   lines-of rows m f [] at h = rw (add-zero, append-nil)
   lines-of rows m f (x ∷ xs) at h =
       let e : at + suc (length xs) ≡ at + 1 + length xs = omega arith in
@@ -161,8 +162,8 @@ module _ (g : Geometry) (dump : List ℕ) where
         children-told :
             (key e : ℕ) (path : List ℕ) → e + suc k ≤ mostDepth → Leads key e path → (cs : List ℕ) → ((o : ℕ) → In o cs → Tells o) → (at : ℕ) →
             AllAt (StandsAt rows) (eachAt (rowsAt says names n (rowsUnder says names n k) key) at cs) at →
-            AllAt Told (each (entryOf says names n (under says names n k) path) cs) at
-        unfolding eachAt each
+            AllAt Told (joined (entryOf says names n (under says names n k) path) cs) at
+        unfolding eachAt joined
         children-told key e path h l [] w at r = tt
         children-told key e path h l (o ∷ cs) w at r =
             let here = rowsAt says names n (rowsUnder says names n k) key at o in
@@ -170,7 +171,7 @@ module _ (g : Geometry) (dump : List ℕ) where
             row-length says names n (rowsUnder says names n k) (under says names n k) (rows-length says names n k) key path at o in
             all-join Told (entryOf says names n (under says names n k) path o) _ at
             (entry-told key e o at path h l (w o (inl refl)) (all-left (StandsAt rows) here _ at r))
-            (subst (λ (j : ℕ). AllAt Told (each (entryOf says names n (under says names n k) path) cs) (at + j)) same
+            (subst (λ (j : ℕ). AllAt Told (joined (entryOf says names n (under says names n k) path) cs) (at + j)) same
             (children-told key e path h l cs (λ c i. w c (inr i)) (at + length here) (all-right (StandsAt rows) here _ at r)))
 
       -- so each directory's rows tell its entries
@@ -238,7 +239,7 @@ module _ (g : Geometry) (dump : List ℕ) where
           let all : length rows ≡ many + length (others says names n) =
           length-append (listedRows says names n) (otherRows says names n) ∙ ap (λ (k : ℕ). many + k) (other-rows-length says names n) in
           let first : many ≡ 0 + length (listed says names n) = omega (arith, listed-rows-length says names n) in
-          let front : linesTo g dump rows many many ≡ each (λ e. pathLines (e .object) (e .path)) (listed says names n) =
+          let front : linesTo g dump rows many many ≡ joined (λ e. pathLines (e .object) (e .path)) (listed says names n) =
           ap (linesTo g dump rows many) first ∙ lines-of rows many _ (listed says names n) 0 listed-lines ∙ rw (lines-none g dump rows many) in
           ap (linesTo g dump rows many) all ∙ lines-of rows many _ (others says names n) many other-lines ∙ rw front
 

@@ -1,4 +1,5 @@
--- The row of a key, by a search for the key's first number in rows that ascend.
+-- The row of a key, by a search for the key's first number in rows that ascend: all rows before the place have lower keys, and if the row there has
+-- another key, so have all behind it.
 use Prim.Native.Nat.{ℕ, _≤_, _<_}
 use mathlib.Core.List.{List}
 use mathlib.Core.Path.{_≡_}

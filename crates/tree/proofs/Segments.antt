@@ -14,6 +14,7 @@ use Rattle.page.proofs.Layouts.{and-right}
 use Rattle.sort.specs.Ascending.{In, Ascends}
 use Rattle.sort.specs.Packed.{wordValues, packed, keyOf, valueOf}
 use Rattle.sort.proofs.Ascending.{same-members}
+use Rattle.sort.proofs.Lists.{keep-ascends}
 use Rattle.sort.proofs.Making.{map-at}
 use Rattle.sort.proofs.Packing.{packed-value}
 use Rattle.sort.proofs.Places.{in-at, at-in, ascends-at, at-ascends}
@@ -29,7 +30,6 @@ use Rattle.tree.specs.Rows.{mostKey}
 use Rattle.sort.specs.Search.{Sorted, Parted}
 use Rattle.tree.proofs.Entries.{children-sorted, children-ascend, child-at, is-child, child-is}
 use Rattle.tree.proofs.HeadRows.{parent-at, objects-rise, head-stands, row-live}
-use Rattle.tree.proofs.Lists.{keep-ascends}
 use Rattle.tree.proofs.Paths.{child-of, child-in}
 use Rattle.tree.proofs.Standing.{head-below, head-of, parent-head}
 

@@ -2,7 +2,7 @@
 -- 0xFF here. What W's pages are is known from the crate of pages; of its names, that of page 4, the newest header, is read.
 use Prim.Native.Nat.{ℕ}
 use mathlib.Core.List.{List, _++_}
-use mathlib.Core.Path.{_≡_, refl, ap, _∙_, fun-ext}
+use mathlib.Core.Path.{_≡_, refl, ap, _∙_}
 use lib.ListN.{getD}
 use Rattle.page.specs.Asked.{textIn}
 use Rattle.page.specs.Headers.{textOf}
@@ -20,6 +20,7 @@ use Rattle.page.specs.declared.kind.Kind.the-variants.{Blank}
 use Rattle.page.specs.declared.record.Record.{Record}
 use Rattle.page.proofs.Marked as pages
 use Rattle.sort.specs.Arranged.{ascend, arranged}
+use Rattle.sort.specs.Lists.{keep, joined}
 use Rattle.chunk.specs.Gather.{gather}
 use Rattle.chunk.specs.Live.{passed, idsOf, liveIds}
 use Rattle.chunk.specs.Newest.{newestWhere}
@@ -27,12 +28,8 @@ use Rattle.text.specs.Decimal.{digits, decimal}
 use Rattle.text.specs.Lines.{fieldOf, lineOf}
 use Rattle.text.specs.Quoted.{bytesOf}
 use Rattle.tree.specs.Objects.{parentOf, standOf}
-use Rattle.tree.specs.Paths.{upToZero, keep, each, childrenOf, stepTo, entryOf, under, listed}
+use Rattle.tree.specs.Paths.{upToZero, childrenOf, stepTo, entryOf, under, listed}
 use Rattle.tree.specs.Tree.{pathLines, isIn, others, treeText}
-
--- what W's pages say
-says : recordAt shelfGeometry shelf ≡ (λ i. recordOf (getD shelfKinds i Blank))
-says = fun-ext pages.shelf-record
 
 -- the name on page 4
 name : textIn Name shelfGeometry shelf 4 ≡ erased 256
@@ -46,11 +43,11 @@ expected = bytesOf "object=257\npath=/" ++ erased 256 ++ bytesOf "\n"
 
 -- it is so whatever the other names are
 computed : (names : ℕ → List ℕ) → names 4 ≡ erased 256 → treeText (λ i. recordOf (getD shelfKinds i Blank)) names 8 ≡ expected
-unfolding treeText pathLines isIn others listed under entryOf stepTo childrenOf each keep upToZero parentOf standOf liveIds idsOf passed arranged
+unfolding treeText pathLines isIn others listed under entryOf stepTo childrenOf joined keep upToZero parentOf standOf liveIds idsOf passed arranged
     ascend gather newestWhere lineOf fieldOf decimal digits shelfKinds
 computed names e = rw e
 
 -- and so on W
 pub shelf-tree : treeText (recordAt shelfGeometry shelf) (textIn Name shelfGeometry shelf) 8 ≡ expected
 shelf-tree =
-    ap (λ (s : ℕ → Record). treeText s (textIn Name shelfGeometry shelf) 8) says ∙ computed (textIn Name shelfGeometry shelf) name
+    ap (λ (s : ℕ → Record). treeText s (textIn Name shelfGeometry shelf) 8) pages.shelf-says ∙ computed (textIn Name shelfGeometry shelf) name

@@ -13,7 +13,7 @@ use Rattle.page.proofs.Layouts.{and-left, and-right}
 use Rattle.page.proofs.Searching.{clash, by-test}
 use Rattle.sort.specs.Ascending.{In}
 use Rattle.chunk.specs.Live.{liveIds}
-use Rattle.chunk.specs.Records.{isOf, headerOf, goneUnder, isGone}
+use Rattle.chunk.specs.Records.{isOf, headerOf, isGone}
 use Rattle.chunk.proofs.Living.{live-in}
 use Rattle.chunk.proofs.Meaning.{newest-found}
 use Rattle.chunk.proofs.Records.{of-object}
@@ -22,12 +22,6 @@ use Rattle.tree.specs.Objects.{given, headOf, pageOf, parentOf, standOf}
 use Rattle.tree.specs.Ways.{goesOn}
 
 -- ---- what a page says
-
--- a page is gone by the parent that it names
-pub gone-parent : (r : Record) → isGone r ≡ goneUnder (parentIn r)
-gone-parent Other = refl
-gone-parent (Header h) = refl
-gone-parent (Data d) = refl
 
 -- a page that is no header does not stand as a directory
 pub other-standing : (r : Record) → isHeader r ≡ false → isStanding (standBy r) ≡ false

@@ -1,5 +1,4 @@
--- Laws for the functions that put the text of rows: how far a name goes, what a path is by its row's key, and what one
--- row more adds.
+-- Laws for the functions that put the text of rows: how far a name goes, what a path is by its row's key, and what one row more adds.
 use Prim.Native.Nat.{ℕ, zero, suc, _+_, _-_, _<_}
 use mathlib.Core.Bool.{Bool, true, false}
 use mathlib.Core.List.{List, [], _∷_, _++_}

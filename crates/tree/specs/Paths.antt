@@ -1,10 +1,11 @@
 -- The first list of the tree (document 02, item 13): the live objects as paths from the root, each directory's entries right after its own lines.
 use Prim.Native.Nat.{ℕ, zero, suc}
-use mathlib.Core.Bool.{Bool, not, _&&_}
+use mathlib.Core.Bool.{not, _&&_}
 use mathlib.Core.List.{List, [], _∷_, _++_}
 use lib.Dec.{eqb}
 use Rattle.page.specs.Choice.{pick}
 use Rattle.page.specs.declared.record.Record.{Record}
+use Rattle.sort.specs.Lists.{keep, joined}
 use Rattle.chunk.specs.Live.{liveIds}
 use Rattle.tree.specs.Objects.{root, headOf, given, parentOf, standOf, isStanding}
 
@@ -20,16 +21,6 @@ slash = 47
 unfoldable pub upToZero : List ℕ → List ℕ
 upToZero [] = []
 upToZero (x ∷ rest) = let more = upToZero rest in pick (eqb x 0) [] (x ∷ more)
-
--- those of a list that pass a test
-unfoldable pub keep : {A : Type 0} → (A → Bool) → List A → List A
-keep test [] = []
-keep test (x ∷ rest) = let more = keep test rest in pick (test x) (x ∷ more) more
-
--- what each of a list gives, one behind the other
-unfoldable pub each : {A B : Type 0} → (A → List B) → List A → List B
-each f [] = []
-each f (x ∷ rest) = f x ++ each f rest
 
 -- an entry of the first list
 pub record Entry : Type 0 where
@@ -55,7 +46,7 @@ module _ (says : ℕ → Record) (names : ℕ → List ℕ) (n : ℕ) where
   -- the entries of a directory of a path, so many steps deep
   unfoldable pub under : (depth : ℕ) (path : List ℕ) (object : ℕ) → List Entry
   under zero path d = []
-  under (suc k) path d = each (entryOf (under k) path) (childrenOf d)
+  under (suc k) path d = joined (entryOf (under k) path) (childrenOf d)
 
   -- the first list
   unfoldable pub listed : List Entry

@@ -4,11 +4,12 @@ use mathlib.Core.Bool.{Bool, not, _&&_, _||_, false}
 use mathlib.Core.List.{List, [], _∷_, _++_}
 use lib.Dec.{eqb}
 use Rattle.page.specs.declared.record.Record.{Record}
+use Rattle.sort.specs.Lists.{keep, joined}
 use Rattle.chunk.specs.Live.{liveIds}
 use Rattle.text.specs.Quoted.{bytesOf}
 use Rattle.text.specs.Lines.{lineOf, newline}
 use Rattle.tree.specs.Objects.{root}
-use Rattle.tree.specs.Paths.{Entry, keep, each, listed}
+use Rattle.tree.specs.Paths.{Entry, listed}
 use Rattle.tree.specs.Ways.{reasonOf}
 use Rattle.tree.specs.declared.reason.Reason.{Reason}
 use Rattle.tree.specs.declared.reason.Reason.the-variants as reason
@@ -42,4 +43,4 @@ module _ (says : ℕ → Record) (names : ℕ → List ℕ) (n : ℕ) where
 
   -- the text of both lists
   unfoldable pub treeText : List ℕ
-  treeText = each (λ e. pathLines (e .object) (e .path)) (listed says names n) ++ each (λ o. reasonLines o (reasonOf says n o)) others
+  treeText = joined (λ e. pathLines (e .object) (e .path)) (listed says names n) ++ joined (λ o. reasonLines o (reasonOf says n o)) others

@@ -1,9 +1,7 @@
 // What the whole crate asks of an object: whether it is the root, and what its newest header says of it as an entry and as a directory.
 ghost use mathlib.Core.Path.{_≡_};
-ghost use Rattle.chunk.specs.Records.{isGone};
 ghost use Rattle.tree.specs.Objects.{parentIn, standBy, isStanding};
 use chunk::record::gone_under;
-use page::number::ObjectId;
 use page::record::Record;
 
 // The id of the root.
@@ -22,13 +20,6 @@ pub(crate) fn parent_in(r: Record) -> u32
         Record::Header(h) => h.parent.0,
         Record::Data(_) => 0,
     }
-}
-
-// Whether an object is unlinked or deleted, by its newest header.
-pub(crate) fn is_gone(r: Record) -> bool
-    ensures { λ b. ⌜ b ≡ isGone r ⌝ }
-{
-    gone_under(ObjectId(parent_in(r)))
 }
 
 // Whether an object stands as a directory, by its newest header.

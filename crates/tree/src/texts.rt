@@ -23,6 +23,7 @@ use page::number::PageNumber;
 use page::record::record_at;
 use page::refusal::Refusal;
 use sort::rows::key_of;
+use sort::rows::row_at;
 use sort::rows::value_of;
 use text::put::put_byte;
 use text::put::put_line;
@@ -62,16 +63,6 @@ fn put_name(dump: &[u8], g: Geometry, p: PageNumber, buf: &mut [u8], at: usize) 
     let bytes = text_in(dump, g, p, Text::Name);
     let end = name_length(bytes);
     put_text(buf, at, &bytes[..end])
-}
-
-// Row i; 0 where there is none.
-fn row_at(rows: &[u64], i: usize) -> u64
-    ensures { λ r. ⌜ r ≡ getD (now (rows .entry)) i 0 ⌝ }
-{
-    if i < rows.len() {
-        return rows[i];
-    }
-    0
 }
 
 // Puts the last step of a row's path: a slash and the name on its page.

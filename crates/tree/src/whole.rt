@@ -21,6 +21,7 @@ use crate::objects::MOST_DEPTH;
 use crate::objects::ROOT;
 use crate::others::list_others;
 use chunk::moment::Moment;
+use chunk::record::lesser;
 use chunk::takes::Takes;
 use page::geometry::Geometry;
 use page::geometry::Opened;
@@ -31,13 +32,6 @@ use sort::room::clear;
 pub enum Grown {
     Rows(u32, u32),
     Refused(Refusal, u32),
-}
-
-// The lesser of two numbers.
-fn lesser(a: usize, b: usize) -> usize
-    ensures { λ r. ⌜ r ≡ min a b ⌝ }
-{
-    if a < b { a } else { b }
 }
 
 // The least of three numbers.

@@ -1,6 +1,8 @@
--- The loop's invariant: the rows of the children among the heads passed were put in front.
-use Prim.Native.Nat.{_≤_, _-_}
+-- The loop's invariant: the rows of the children among the heads passed were put in front. A head is passed over if it is the root's, if its page is no
+-- header, or if its object is deleted: then it is no child. In the end the rows are no more than the heads, so that all stand in front and are sorted.
+use Prim.Native.Nat.{ℕ, _≤_, _-_}
 use mathlib.Core.Bool.{true, false}
+use mathlib.Core.List.{List}
 use mathlib.Core.Path.{_≡_, sym, ap, _∙_}
 use native.Mathlib.Omega.{arith}
 use borrow.Author.Needs.{needs}
@@ -37,19 +39,23 @@ loop-again c =
     let t = root-no-child says (a .heads .now) (q .i) (sym (c .before .key-of .ensures) ∙ c .if1 .taken) in
     (search needs, rw (passed-skip (isChild says (a .heads .now)) (childRow says (a .heads .now)) (q .i) t) (q .inv .1))
 
--- what the newest header says that the row names
-said :
-    (c : tie.After-seen-at Inv-loop μ-loop) →
-    let q = c .before .before .before .before .before .before .loop in
-    let a = c .before .before .before .before .before .before .before .before .before .before .args in
-    saidAt (saysBy (a .g) (a .dump .now) (a .t)) (a .heads .now) (q .i) ≡ c .seen-at .result
-said c = sym (c .seen-at .ensures ∙ rw (c .before .value-of .ensures))
+-- once the header that a row names is read
+module _ (k : tie.After-seen-at Inv-loop μ-loop) where
+  abbrev turn : tie.At-loop Inv-loop μ-loop
+  turn = k .before .before .before .before .before .before
+
+  abbrev start : tie.Start Inv-loop μ-loop
+  start = turn .before .before .before .before
+
+  -- it is the newest of its object
+  said : saidAt (saysBy (start .args .g) (start .args .dump .now) (start .args .t)) (start .args .heads .now) (turn .loop .i) ≡ k .seen-at .result
+  said = sym (k .seen-at .ensures ∙ ap (saysBy (start .args .g) (start .args .dump .now) (start .args .t)) (k .before .value-of .ensures))
 
 loop-again-2 : tie.Need-loop-again-2 Inv-loop μ-loop
 loop-again-2 c =
     let k = c .before in
-    let q = k .before .before .before .before .before .before .loop in
-    let a = k .before .before .before .before .before .before .before .before .before .before .args in
+    let q = turn k .loop in
+    let a = start k .args in
     let says = saysBy (a .g) (a .dump .now) (a .t) in
     let t = page-no-child says (a .heads .now) (q .i) (rw (said k) (else-header (k .seen-at .result) (c .match .keys2))) in
     (search needs, rw (passed-skip (isChild says (a .heads .now)) (childRow says (a .heads .now)) (q .i) t) (q .inv .1))
@@ -58,8 +64,8 @@ loop-again-3 : tie.Need-loop-again-3 Inv-loop μ-loop
 loop-again-3 c =
     let m = c .before .before .before in
     let k = m .before .before in
-    let q = k .before .before .before .before .before .before .loop in
-    let a = k .before .before .before .before .before .before .before .before .before .before .args in
+    let q = turn k .loop in
+    let a = start k .args in
     let says = saysBy (a .g) (a .dump .now) (a .t) in
     let e : isGone (saidAt says (a .heads .now) (q .i)) ≡ true =
     ap isGone (said k ∙ m .r .given .1) ∙ sym (c .before .gone-under .ensures) ∙ c .if2 .taken in
@@ -72,8 +78,8 @@ loop-again-4 c =
     let f = p .before .before .before in
     let m = f .before .before .before in
     let k = m .before .before in
-    let q = k .before .before .before .before .before .before .loop in
-    let a = k .before .before .before .before .before .before .before .before .before .before .args in
+    let q = turn k .loop in
+    let a = start k .args in
     let says = saysBy (a .g) (a .dump .now) (a .t) in
     let e = said k ∙ m .r .given .1 in
     let g : isGone (saidAt says (a .heads .now) (q .i)) ≡ false = ap isGone e ∙ sym (f .before .gone-under .ensures) ∙ f .if2 .left in
@@ -84,29 +90,31 @@ loop-again-4 c =
     let more = passed-take (isChild says (a .heads .now)) (childRow says (a .heads .now)) (q .i) t in
     (search needs, rw (more, ← r) (also (q .inv .1) (p .put-row .ensures)))
 
--- all were put, and they are no more than the heads
-put-all :
-    (c : tie.After-loop Inv-loop μ-loop) →
-    let q = c .before .loop in
-    let a = c .before .before .before .before .before .args in
-    let says = saysBy (a .g) (a .dump .now) (a .t) in
-    Put (passed (isChild says (a .heads .now)) (childRow says (a .heads .now)) (length (a .heads .now))) (a .rows .now) 0 (q .rows) (q .at)
-put-all c =
-    let q = c .before .loop in
-    let e : q .i ≡ length (c .before .before .before .before .before .args .heads .now) = omega (arith, c .loop-test .left, q .inv .0) in
-    rw e at (q .inv .1)
+-- once all heads are passed
+module _ (l : tie.After-loop Inv-loop μ-loop) where
+  abbrev begun : tie.Start Inv-loop μ-loop
+  begun = l .before .before .before .before .before
 
-fits :
-    (c : tie.After-loop Inv-loop μ-loop) →
-    let a = c .before .before .before .before .before .args in
-    let says = saysBy (a .g) (a .dump .now) (a .t) in
-    length (passed (isChild says (a .heads .now)) (childRow says (a .heads .now)) (length (a .heads .now))) ≤ length (a .rows .now)
-fits c =
-    let s = c .before .before .before .before .before in
-    let a = s .args in
-    let says = saysBy (a .g) (a .dump .now) (a .t) in
-    let test = isChild says (a .heads .now) in
-    omega (arith, s .pre .1, passed-length test (childRow says (a .heads .now)) (length (a .heads .now)), count-le test (length (a .heads .now)))
+  -- the rows of all children
+  abbrev rows : List ℕ
+  rows =
+      let says = saysBy (begun .args .g) (begun .args .dump .now) (begun .args .t) in
+      passed (isChild says (begun .args .heads .now)) (childRow says (begun .args .heads .now)) (length (begun .args .heads .now))
+
+  -- were put
+  put-all : Put rows (begun .args .rows .now) 0 (l .before .loop .rows) (l .before .loop .at)
+  put-all =
+      let q = l .before .loop in
+      let e : q .i ≡ length (begun .args .heads .now) = omega (arith, l .loop-test .left, q .inv .0) in
+      rw e at (q .inv .1)
+
+  -- and are no more than the heads
+  fits : length rows ≤ length (begun .args .rows .now)
+  fits =
+      let says = saysBy (begun .args .g) (begun .args .dump .now) (begun .args .t) in
+      let heads = begun .args .heads .now in
+      let test = isChild says heads in
+      omega (arith, begun .pre .1, passed-length test (childRow says heads) (length heads), count-le test (length heads))
 
 returns : tie.Need-returns Inv-loop μ-loop
 unfolding childRows idsOf

@@ -1,6 +1,6 @@
 -- The root has its own code, and so has an object of which the search finds no row; where it finds one, the code is of its place and its header's
 -- kind.
-use Prim.Native.Nat.{_<_}
+use Prim.Native.Nat.{ℕ, _<_}
 use mathlib.Core.Path.{_≡_}
 use native.Mathlib.Omega.{arith}
 use borrow.Author.Needs.{needs}
@@ -10,12 +10,16 @@ use Rattle.tree.proofs.Climbing.{header-kind, leads-root, leads-none, l
 use Rattle.tree.proofs.climb.code_of.Statement.{statement}
 use Rattle.tree.proofs.climb.code_of.Tie as tie
 
--- the row that was found
-found :
-    (c : tie.After-known-told) →
-    let a = c .before .before .before .before .before .before .before .args in
-    (c .before .i .given .0 .0 < length (a .heads .now)) × (keyOf (getD (a .heads .now) (c .before .i .given .0 .0) 0) ≡ a .o)
-found c = rw (c .before .i .given .1) at (c .before .before .before .find .ensures)
+-- once a row is found
+module _ (k : tie.After-known-told) where
+  abbrev start : tie.Start
+  start = k .before .before .before .before .before .before .before
+
+  abbrev place : ℕ
+  place = k .before .i .given .0 .0
+
+  found : (place < length (start .args .heads .now)) × (keyOf (getD (start .args .heads .now) place 0) ≡ start .args .o)
+  found = rw (k .before .i .given .1) at (k .before .before .before .find .ensures)
 
 returns : tie.Need-returns
 returns c n w = leads-root _ n _ _ (c .if1 .taken)
@@ -23,18 +27,18 @@ returns c n w = leads-root _ n _ _ (c .if1 .taken)
 cast-result : tie.Need-cast-result
 cast-result c =
     let k = c .before .before in
-    record { fits = omega (arith, found k .0, k .before .before .before .before .before .before .before .pre .1) }
+    record { fits = omega (arith, found k .0, start k .pre .1) }
 
 mul-result : tie.Need-mul-result
 mul-result c =
     let k = c .before .before in
-    record { fits = omega (arith, found k .0, k .before .before .before .before .before .before .before .pre .1) }
+    record { fits = omega (arith, found k .0, start k .pre .1) }
 
 add-result : tie.Need-add-result
 add-result c =
     let k = c .before .before .before .before in
     let b : c .kind-of .result < 3 = rw (c .kind-of .ensures) (header-kind (c .before .seen-at .result)) in
-    record { fits = omega (arith, found k .0, k .before .before .before .before .before .before .before .pre .1) }
+    record { fits = omega (arith, found k .0, start k .pre .1) }
 
 returns-2 : tie.Need-returns-2
 returns-2 c n w =

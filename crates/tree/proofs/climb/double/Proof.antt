@@ -1,4 +1,5 @@
--- The loop's invariant is `Doubling`: the words of the rows that are passed have gone more than twice the steps.
+-- A pass goes over the words in place. The loop's invariant is `Doubling`: the words of the rows passed have gone more than twice the steps. A word
+-- takes over what the word that it has come to knows; that one has gone as many steps at least, whether it was passed already or not.
 use Prim.Native.Nat.{_-_, _/_, _<_}
 use native.Mathlib.Omega.{arith}
 use borrow.Author.Needs.{needs}

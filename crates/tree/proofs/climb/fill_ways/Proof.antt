@@ -1,4 +1,5 @@
--- The loop's invariant is `Filled`: the words of the rows that are passed have gone a step.
+-- Row by row the code of its object's parent is stored twice: as the parent's own, and as where the way has come to. The loop's invariant is `Filled`:
+-- the words of the rows that are passed have gone a step.
 use Prim.Native.Nat.{_-_}
 use mathlib.Core.Path.{sym, _∙_}
 use native.Mathlib.Omega.{arith}

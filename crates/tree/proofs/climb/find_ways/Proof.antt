@@ -1,4 +1,4 @@
--- The words are filled, and then go up.
+-- The words are filled with the first step of each way, and then go up for as many steps as there are pages.
 use native.Mathlib.Omega.{arith}
 use borrow.Author.Needs.{needs}
 use Rattle.tree.specs.Climbs.{Ways}

@@ -1,4 +1,5 @@
--- The loop's invariant is `Tracked`: the way of the row's object has gone so many steps, and come to the code.
+-- The way goes up parent by parent, at most 32 steps. The loop's invariant is `Tracked`: the way of the row's object has gone so many steps, and come
+-- to the code. It is in the first list exactly if the way comes to the root by then.
 use Prim.Native.Nat.{_-_, _/_, _<_}
 use native.Mathlib.Omega.{arith}
 use borrow.Author.Needs.{needs}

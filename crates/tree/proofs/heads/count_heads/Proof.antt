@@ -1,4 +1,4 @@
--- The loop's invariant: the count of the headers passed.
+-- The loop's invariant: the count is that of the headers among the first i pages. One page more adds one exactly if it is a header.
 use Prim.Native.Nat.{_≤_, _-_}
 use mathlib.Core.Bool.{true, false}
 use mathlib.Core.Path.{_≡_, sym, ap, _∙_}

@@ -1,13 +1,13 @@
--- The rows of all headers, in order, and of these the newest of each object.
-use mathlib.Core.Path.{_≡_, ap, _∙_}
+-- The rows of all headers are gathered and sorted, so that those of one object stand side by side; of these the newest is kept.
+use mathlib.Core.Path.{_≡_, sym, ap, _∙_}
 use native.Mathlib.Omega.{arith}
 use borrow.Author.Needs.{needs}
 use lib.ListN.{length}
 use Rattle.sort.specs.Arranged.{arranged}
+use Rattle.sort.proofs.Splitting.{all-first}
 use Rattle.chunk.specs.Live.{idsOf}
 use Rattle.tree.specs.Heads.{isHead, headRow, headRows}
 use Rattle.tree.specs.Objects.{saysBy}
-use Rattle.tree.proofs.Fronts.{sorted-all}
 use Rattle.tree.proofs.heads.fill_heads.Statement.{statement}
 use Rattle.tree.proofs.heads.fill_heads.Tie as tie
 
@@ -21,7 +21,7 @@ returns c =
     let says = saysBy (a .g) (a .dump .now) (a .t) in
     let made = h .gather-heads .last .1 .1 .1 .1 .0 in
     let sorted : s .sort .last .0 ≡ idsOf (isHead says) (headRow says) (a .pages) =
-    sorted-all (length made) made (s .sort .last .0) (s .sort .ensures) (omega arith) ∙ ap arranged (h .gather-heads .ensures) in
+    s .sort .ensures ∙ sym (all-first (length made) made (omega arith)) ∙ ap arranged (h .gather-heads .ensures) in
     (omega (arith, k .keep-newest .ensures .0, s .sort .kept .0, h .gather-heads .kept .1 .1 .1 .1 .0), rw (← sorted) (k .keep-newest .ensures .1))
 
 pub fill-heads-spec : {M : Type 1} → statement M

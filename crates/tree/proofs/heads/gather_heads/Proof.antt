@@ -1,4 +1,5 @@
--- The loop's invariant: the rows of the headers passed were put in front.
+-- The loop's invariant: the rows of the headers passed were put in front. There are as many words as headers, so that in the end the rows are all of
+-- them.
 use Prim.Native.Nat.{_≤_, _-_}
 use mathlib.Core.Bool.{true, false}
 use mathlib.Core.Path.{_≡_, sym, ap, _∙_}

@@ -1,11 +1,12 @@
--- The loop's invariant is `Kept`: what was kept stands in front, and the newest row so far of the object at hand is `best`.
+-- The loop's invariant is `Kept`: what was kept stands in front, and the newest row so far of the object at hand is `best`. Rows of one object stand
+-- side by side: so a row of another object means that the one at hand is done, and `best` is kept.
 use Prim.Native.Nat.{_-_}
 use mathlib.Core.Path.{_≡_, sym, _∙_}
 use native.Mathlib.Omega.{arith}
 use borrow.Author.Needs.{needs}
 use lib.ListN.{length, length-set}
 use Rattle.tree.specs.Objects.{saysBy}
-use Rattle.tree.proofs.Keeping.{Kept, kept-none, kept-same, kept-other, kept-end, newest-none}
+use Rattle.tree.proofs.NewestEach.{Kept, kept-none, kept-same, kept-other, kept-end, newest-none}
 use Rattle.tree.proofs.heads.keep_newest.Statement.{statement}
 use Rattle.tree.proofs.heads.keep_newest.Tie as tie
 

@@ -5,7 +5,7 @@ use borrow.Author.Needs.{needs}
 use Rattle.sort.specs.Packed.{valueOf}
 use Rattle.chunk.specs.Records.{ageOf}
 use Rattle.tree.specs.Objects.{saysBy}
-use Rattle.tree.proofs.Keeping.{newer-next, newer-first}
+use Rattle.tree.proofs.NewestEach.{newer-next, newer-first}
 use Rattle.tree.proofs.heads.newer_row.Statement.{statement}
 use Rattle.tree.proofs.heads.newer_row.Tie as tie
 

@@ -11,7 +11,7 @@ use Rattle.text.proofs.Putting.{nothing, kept}
 use Rattle.tree.specs.Heads.{objectAt}
 use Rattle.tree.specs.Objects.{saysBy, namesOf}
 use Rattle.tree.specs.Paths.{childrenOf}
-use Rattle.tree.proofs.Listing.{no-level, Done, done-none, done-more, done-all, Learnt, plain-put, standing-put}
+use Rattle.tree.proofs.FirstList.{no-level, Done, done-none, done-more, done-all, Learnt, plain-put, standing-put}
 use Rattle.tree.proofs.Segments.{Segment, rows-sorted, row-inside, row-segment}
 use Rattle.tree.proofs.list.list_directory.Reads as list-directory
 use Rattle.tree.proofs.list.list_directory.Kinds as list-directory-kinds
@@ -74,6 +74,10 @@ abbrev μ-loop : list-directory-lts.MeasureT-loop
 μ-loop dump g t pages heads children directory depth key rows₀ at first end next₀ i₀ rows next i = end - i
 
 module _ (t : ℕ) where
+  -- the entry of the call, by what is known once both places are found
+  abbrev begun : list-directory-lts.After-first-from2 (directory-claims t) (list-directory-at t) list-directory.Post Inv-loop μ-loop → list-directory-lts.Start (directory-claims t) (list-directory-at t) list-directory.Post Inv-loop μ-loop
+  begun c = c .before .before .before .before .before .before .before .before .before
+
   -- no step is left
   none-left : list-directory-lts.Need-returns (directory-claims t) (list-directory-at t) list-directory.Post Inv-loop μ-loop
   none-left c = rw (no-level _ _ _ _ _ _ _ (c .if1 .taken)) (nothing _ _ (omega arith) (omega arith))
@@ -84,7 +88,7 @@ module _ (t : ℕ) where
       let l = c .before in
       let f = l .before in
       let p = f .before in
-      let s = p .before .before .before .before .before .before in
+      let s = begun c in
       let a = s .args in
       let says = saysBy (a .g) (a .dump .now) (a .t) in
       let names = namesOf (a .g) (a .dump .now) in
@@ -101,7 +105,7 @@ module _ (t : ℕ) where
   entry-requires : list-directory-lts.Need-list-entry-requires (directory-claims t) (list-directory-at t) list-directory.Post Inv-loop μ-loop
   entry-requires c κs =
       let q = c .before .before .loop in
-      let s = c .before .before .before .before .before .before .before .before .before .before .before .before in
+      let s = begun (c .before .before .before) in
       (omega arith, (s .pre .1 .0, (s .pre .1 .1, omega (arith, c .before .loop-test .taken, q .inv .segment .inside))))
 
   loop-again : list-directory-lts.Need-loop-again (directory-claims t) (list-directory-at t) list-directory.Post Inv-loop μ-loop
@@ -140,32 +144,37 @@ entry-claims t = (
 )
 
 module _ (t : ℕ) where
-  -- the place of its row among the heads
-  place-inside :
-      (c : list-entry-lts.After-value-of (entry-claims t) (list-entry-at t) list-entry.Post) →
-      let a = c .before .before .before .before .before .before .args in
-      c .value-of .result < length (a .heads .now)
-  place-inside c =
-      let s = c .before .before .before .before .before .before in
-      let a = s .args in
-      let e = s .pre .1 in
-      rw (c .value-of .ensures)
-      (row-inside (saysBy (a .g) (a .dump .now) (a .t)) (namesOf (a .g) (a .dump .now)) (a .pages) (omega (arith, s .fits)) (a .heads .now) (e .0)
-      (a .children .now) (a .i) (e .1 .0) (e .1 .1))
+  -- once its place among the heads is read
+  module _ (u : list-entry-lts.After-value-of (entry-claims t) (list-entry-at t) list-entry.Post) where
+    abbrev start : list-entry-lts.Start (entry-claims t) (list-entry-at t) list-entry.Post
+    start = u .before .before .before .before .before .before
+
+    place-inside : u .value-of .result < length (start .args .heads .now)
+    place-inside =
+        let a = start .args in
+        let e = start .pre .1 in
+        let inside =
+        row-inside (saysBy (a .g) (a .dump .now) (a .t)) (namesOf (a .g) (a .dump .now)) (a .pages) (omega (arith, start .fits)) (a .heads .now) (e .0)
+        (a .children .now) (a .i) (e .1 .0) (e .1 .1) in
+        omega (arith, u .value-of .ensures, inside)
+
+  -- the same, by what is known once it is asked whether it stands
+  abbrev placed : list-entry-lts.After-is-standing (entry-claims t) (list-entry-at t) list-entry.Post → list-entry-lts.After-value-of (entry-claims t) (list-entry-at t) list-entry.Post
+  placed k = k .before .before .before .before .before .before .before .before .before
 
   -- what is known of it when its row is put
   learnt :
       (c : list-entry-lts.After-is-standing (entry-claims t) (list-entry-at t) list-entry.Post) →
       let p = c .before .before .before .before .before in
       let v = p .before .before in
-      let u = v .before .before in
-      let a = u .before .before .before .before .before .before .args in
+      let u = placed c in
+      let a = start u .args in
       Learnt (saysBy (a .g) (a .dump .now) (a .t)) (namesOf (a .g) (a .dump .now)) (a .pages) (a .heads .now) (a .children .now) (a .i) (a .key)
       (u .value-of .result) (v .value-of2 .result) (c .before .seen-at .result) (p .pack .result) (c .is-standing .result)
   learnt c =
       let p = c .before .before .before .before .before in
       let v = p .before .before in
-      let u = v .before .before in
+      let u = placed c in
       record {
         inside = place-inside u;
         its-place = u .value-of .ensures;
@@ -180,15 +189,13 @@ module _ (t : ℕ) where
   plain c =
       let k = c .before in
       let p = k .before .before .before .before in
-      let s = p .before .before .before .before .before .before .before .before .before .before .before in
-      plain-put _ _ _ _ _ (s .pre .1 .0) _ _ _ _ _ _ _ (learnt k) _ _ _ _ _ (p .put-row .ensures) (not-true (k .is-standing .result) (c .if1 .taken))
+      plain-put _ _ _ _ _ (start (placed k) .pre .1 .0) _ _ _ _ _ _ _ (learnt k) _ _ _ _ _ (p .put-row .ensures) (not-true (k .is-standing .result) (c .if1 .taken))
 
   -- a directory is listed in turn
   directory-requires : list-entry-lts.Need-list-directory-requires (entry-claims t) (list-entry-at t) list-entry.Post
   directory-requires c κs =
-      let p = c .before .before .before .before .before .before .before .before in
-      let s = p .before .before .before .before .before .before .before .before .before .before .before in
-      (omega arith, (s .pre .1 .0, s .pre .1 .1 .0))
+      let p = start (placed (c .before .before .before .before)) .pre in
+      (omega arith, (p .1 .0, p .1 .1 .0))
 
   standing : list-entry-lts.Need-returns-2 (entry-claims t) (list-entry-at t) list-entry.Post
   standing c =
@@ -197,8 +204,7 @@ module _ (t : ℕ) where
       let e = b .before .before in
       let k = e .before in
       let p = k .before .before .before .before in
-      let s = p .before .before .before .before .before .before .before .before .before .before .before in
-      standing-put _ _ _ _ _ (s .pre .1 .0) _ _ _ _ _ _ _ (learnt k) _ _ _ _ _ (p .put-row .ensures) _ _ _ _
+      standing-put _ _ _ _ _ (start (placed k) .pre .1 .0) _ _ _ _ _ _ _ (learnt k) _ _ _ _ _ (p .put-row .ensures) _ _ _ _
       (not-false (k .is-standing .result) (e .if1 .left)) (b .before .key-of .ensures) (b .key-behind .ensures) (l .list-directory .ensures)
 
 pub +list-directory+list-entry-spec : {M : Type 1} → statement M

@@ -1,7 +1,7 @@
 -- The root is tested first, then the header's parent; of another object it is asked whether the first list has it.
 use mathlib.Core.Path.{sym, _∙_}
 use borrow.Author.Needs.{needs}
-use Rattle.tree.proofs.Othering.{tells-root, tells-gone, tells-else}
+use Rattle.tree.proofs.SecondList.{tells-root, tells-gone, tells-else}
 use Rattle.tree.proofs.others.is_other.Statement.{statement}
 use Rattle.tree.proofs.others.is_other.Tie as tie
 

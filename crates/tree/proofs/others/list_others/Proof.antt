@@ -1,11 +1,12 @@
--- The loop's invariant is `Listing`: the rows of those objects of the rows passed that are in the second list are put.
+-- The loop's invariant is `Listing`: of the rows passed, those of objects that are in the second list are put, each with its reason. It is asked of the
+-- words, and what these tell is said for every dump whose rows these are.
 use Prim.Native.Nat.{_-_}
 use native.Mathlib.Omega.{arith}
 use borrow.Author.Needs.{needs}
 use borrow.Author.Tests.{not-true, not-false}
 use lib.ListN.{length}
 use Rattle.tree.specs.Objects.{saysBy}
-use Rattle.tree.proofs.Othering.{Listing, listing-none, listing-pass, listing-more, listing-all}
+use Rattle.tree.proofs.SecondList.{Listing, listing-none, listing-pass, listing-more, listing-all}
 use Rattle.tree.proofs.others.list_others.Statement.{statement}
 use Rattle.tree.proofs.others.list_others.Tie as tie
 

@@ -37,4 +37,4 @@ find-spec =
     (search needs)
     (search needs)
     returns-2
-    (λ c. search needs))
+    (search needs))

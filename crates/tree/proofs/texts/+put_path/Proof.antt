@@ -10,8 +10,8 @@ use Rattle.tree.proofs.texts.put_path.Reads as put-path
 use Rattle.tree.proofs.texts.put_path.Kinds as put-path-kinds
 use Rattle.tree.proofs.texts.+put_path.Lts-put_path as put-path-lts
 use Rattle.sort.proofs.rows.key_of.Reads as key-of-reads
+use Rattle.sort.proofs.rows.row_at.Reads as row-at-reads
 use Rattle.tree.proofs.texts.put_step.Reads as put-step-reads
-use Rattle.tree.proofs.texts.row_at.Reads as row-at-reads
 use Rattle.tree.proofs.texts.+put_path.{statement}
 use Rattle.tree.proofs.texts.+put_path.Tie.{close}
 

@@ -1,4 +1,4 @@
--- The line of the object, and then the parts of the other line.
+-- The pieces are put one behind the other: the line of the object, the key of the other line, the reason in words and the end of the line.
 use borrow.Author.Needs.{needs}
 use Rattle.text.proofs.Putting.{also}
 use Rattle.tree.specs.Tree.{reasonLines}

@@ -1,4 +1,4 @@
--- The children in order, and then the listing from the root.
+-- The children are put in order in the words to work in, and the listing goes down from the root by them.
 use mathlib.Core.Path.{sym}
 use native.Mathlib.Omega.{arith}
 use borrow.Author.Needs.{needs}

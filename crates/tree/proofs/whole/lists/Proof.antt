@@ -10,28 +10,30 @@ use Rattle.tree.proofs.Joined.{Joined, joined}
 use Rattle.tree.proofs.whole.lists.Statement.{statement}
 use Rattle.tree.proofs.whole.lists.Tie as tie
 
+-- the entry, by what is known once the first list is put
+abbrev start : tie.After-first-list → tie.Start
+start f = f .before .before .before .before .before .before .before
+
 second-list-requires : tie.Need-second-list-requires
 second-list-requires c κs =
     let f = c .before .before .before .before .before .before in
-    let s = f .before .before .before .before .before .before .before in
-    (s .pre .0, (s .pre .1 .0, f .first-list .kept .1 .1 .1 .1 .1 .0 ∙ s .pre .1 .1 .0))
+    let p = start f .pre in
+    (p .0, (p .1 .0, f .first-list .kept .1 .1 .1 .1 .1 .0 ∙ p .1 .1 .0))
 
--- both lists were put
-put :
-    (c : tie.After-second-list) →
-    let f = c .before .before .before .before .before .before .before in
-    let a = f .before .before .before .before .before .before .before .args in
-    Joined (saysBy (a .g) (a .dump .now) (a .t)) (namesOf (a .g) (a .dump .now)) (a .pages) (a .rows .now) (c .second-list .last .1 .1 .1 .1 .1 .1 .0)
-    (f .first-list .result) (c .second-list .result)
-put c =
-    let f = c .before .before .before .before .before .before .before in
-    let s = f .before .before .before .before .before .before .before in
-    joined _ _ _ _ _ _ _ _ (f .first-list .ensures) (c .second-list .ensures) (s .pre .1 .1 .1)
+-- once both are put
+module _ (c : tie.After-second-list) where
+  abbrev listed : tie.After-first-list
+  listed = c .before .before .before .before .before .before .before
 
--- and their rows are no more than pages
-few : (c : tie.After-second-list) → c .second-list .result < wordValues
-few c =
-    omega (arith, put c .few, c .before .before .before .before .before .before .before .before .before .before .before .before .before .before .fits)
+  put :
+      let a = start listed .args in
+      Joined (saysBy (a .g) (a .dump .now) (a .t)) (namesOf (a .g) (a .dump .now)) (a .pages) (a .rows .now) (c .second-list .last .1 .1 .1 .1 .1 .1 .0)
+      (listed .first-list .result) (c .second-list .result)
+  put = joined _ _ _ _ _ _ _ _ (listed .first-list .ensures) (c .second-list .ensures) (start listed .pre .1 .1 .1)
+
+  -- their rows are no more than pages
+  few : c .second-list .result < wordValues
+  few = omega (arith, put .few, start listed .fits)
 
 sub-others : tie.Need-sub-others
 sub-others c = let j = put (c .before .before .before .before) in omega (arith, j .first, j .both)

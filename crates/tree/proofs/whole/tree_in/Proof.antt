@@ -21,81 +21,71 @@ returns c =
     page-refused (a .g) (a .dump .now) (a .m) (a .rows .now) (a .heads .now) (a .work .now) (a .pages) (s .pre)
     (sym (c .before .is-missing .ensures) ∙ c .if1 .taken)
 
--- how many headers there are
-needed :
-    (c : tie.After-least) →
-    let a = c .before .before .before .before .before .before .before .before .before .args in
-    c .before .count-heads .result ≡ headCount (saysAt (a .g) (a .dump .now) (a .m)) (a .pages)
-needed c = rw (← c .before .before .takes .ensures) (c .before .count-heads .ensures)
+-- once the room is measured
+module _ (l : tie.After-least) where
+  abbrev start : tie.Start
+  start = l .before .before .before .before .before .before .before .before .before
 
--- the dump has the moment's page
-there :
-    (c : tie.After-least) →
-    let a = c .before .before .before .before .before .before .before .before .before .args in
-    isMissing (a .pages) (a .m) ≡ false
-there c = sym (c .before .before .before .before .is-missing .ensures) ∙ c .before .before .before .if1 .left
+  -- how many headers there are
+  abbrev need : ℕ
+  need = l .before .count-heads .result
+
+  needed : need ≡ headCount (saysAt (start .args .g) (start .args .dump .now) (start .args .m)) (start .args .pages)
+  needed = rw (← l .before .before .takes .ensures) (l .before .count-heads .ensures)
+
+  -- the dump has the moment's page
+  there : isMissing (start .args .pages) (start .args .m) ≡ false
+  there = sym (l .before .before .before .before .is-missing .ensures) ∙ l .before .before .before .if1 .left
 
 returns-2 : tie.Need-returns-2
 returns-2 c =
     let l = c .before in
-    let s = l .before .before .before .before .before .before .before .before .before in
-    let a = s .args in
+    let a = start l .args in
     rw (needed l)
-    (room-refused (a .g) (a .dump .now) (a .m) (a .rows .now) (a .heads .now) (a .work .now) (a .pages) (s .pre) (there l)
+    (room-refused (a .g) (a .dump .now) (a .m) (a .rows .now) (a .heads .now) (a .work .now) (a .pages) (start l .pre) (there l)
     (rw (← needed l, ← l .least .ensures) (c .if2 .taken)))
 
--- each slice has room
-enough :
-    (c : tie.Else2) →
-    let l = c .before in
-    let a = l .before .before .before .before .before .before .before .before .before .args in
-    let k = l .before .count-heads .result in
-    (k ≤ length (a .rows .now)) × (k ≤ length (a .heads .now)) × (k ≤ length (a .work .now))
-enough c =
-    let h = c .if2 .left in
-    let e = c .before .least .ensures in
-    (omega (arith, h, e), omega (arith, h, e), omega (arith, h, e))
+-- once there is room
+module _ (c : tie.Else2) where
+  abbrev measured : tie.After-least
+  measured = c .before
 
--- so does the part of it that is lent on
-heads-part :
-    (c : tie.Else2) →
-    let l = c .before in
-    let k = l .before .count-heads .result in
-    length (take k (l .before .before .before .before .before .before .before .before .before .args .heads .now)) ≡ k
-heads-part c =
-    length-take-le _ (c .before .before .before .before .before .before .before .before .before .before .args .heads .now) (enough c .1)
+  -- in each slice
+  in-rows : need measured ≤ length (start measured .args .rows .now)
+  in-rows = omega (arith, c .if2 .left, measured .least .ensures)
 
-work-part :
-    (c : tie.Else2) →
-    let l = c .before in
-    let k = l .before .count-heads .result in
-    length (take k (l .before .before .before .before .before .before .before .before .before .args .work .now)) ≡ k
-work-part c =
-    length-take-le _ (c .before .before .before .before .before .before .before .before .before .before .args .work .now) (enough c .2)
+  in-heads : need measured ≤ length (start measured .args .heads .now)
+  in-heads = omega (arith, c .if2 .left, measured .least .ensures)
+
+  in-work : need measured ≤ length (start measured .args .work .now)
+  in-work = omega (arith, c .if2 .left, measured .least .ensures)
+
+  -- the parts that are lent on have a word for each header
+  heads-part : length (take (need measured) (start measured .args .heads .now)) ≡ need measured
+  heads-part = length-take-le _ (start measured .args .heads .now) in-heads
+
+  work-part : length (take (need measured) (start measured .args .work .now)) ≡ need measured
+  work-part = length-take-le _ (start measured .args .work .now) in-work
 
 both-lists-requires : tie.Need-both-lists-requires
 both-lists-requires c κs =
     let e = c .before .before .before in
-    let l = e .before in
-    let s = l .before .before .before .before .before .before .before .before .before in
+    let s = start (measured e) in
     let a = s .args in
-    let n = l .before .count-heads .ensures in (
+    let n = measured e .before .count-heads .ensures in (
       opened-pages (a .g) (length (a .dump .now)) (a .pages) (s .pre),
-      (omega (arith, n, enough e .0), (heads-part e ∙ n, work-part e ∙ n)),
+      (omega (arith, n, in-rows e), (heads-part e ∙ n, work-part e ∙ n)),
     )
 
 returns-3 : tie.Need-returns-3
 returns-3 c =
     let b = c .before .before .before .before .before .before in
     let e = b .before .before .before .before in
-    let l = e .before in
-    let s = l .before .before .before .before .before .before .before .before .before in
-    let a = s .args in
-    let k = l .before .count-heads .result in
-    let room = enough e in
+    let l = measured e in
+    let a = start l .args in
     let f = b .both-lists .ensures in
-    room-enough (a .g) (a .dump .now) (a .m) (a .rows .now) (a .heads .now) (a .work .now) (a .pages) (s .pre) (there l)
-    (omega (arith, needed l, room .0, room .1, room .2)) _ (l .before .before .takes .ensures) k (needed l) _ _ _ _ (f .0) (f .1 .0)
+    room-enough (a .g) (a .dump .now) (a .m) (a .rows .now) (a .heads .now) (a .work .now) (a .pages) (start l .pre) (there l)
+    (omega (arith, needed l, in-rows e, in-heads e, in-work e)) _ (l .before .before .takes .ensures) (need l) (needed l) _ _ _ _ (f .0) (f .1 .0)
     (f .1 .1 .0 ∙ ap (λ (j : ℕ). replicate {A = ℕ} j 0) (heads-part e))
     (f .1 .1 .1 ∙ ap (λ (j : ℕ). replicate {A = ℕ} j 0) (work-part e))
 
@@ -110,9 +100,9 @@ tree-in-spec =
     (search needs)
     (search needs)
     returns-2
-    (λ c. enough (c .before) .1)
+    (λ c. in-heads (c .before))
     (λ c. sym (heads-part (c .before .before)))
-    (λ c. enough (c .before .before) .2)
+    (λ c. in-work (c .before .before))
     (λ c. sym (work-part (c .before .before .before)))
     both-lists-requires
     (search needs)

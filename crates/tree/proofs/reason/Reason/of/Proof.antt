@@ -1,4 +1,4 @@
--- The first test that holds decides, as in the definition.
+-- The tests are those of the definition, in its order: at each return those before have failed, and its own holds.
 use borrow.Author.Tests.{eq-eqb, ne-eqb}
 use borrow.Author.Needs.{needs}
 use Rattle.tree.specs.Rows.{reasonAt}

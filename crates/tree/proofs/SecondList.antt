@@ -11,8 +11,10 @@ use lib.ListN.{length, getD, take}
 use lib.Seq.{take-all}
 use Rattle.page.specs.declared.record.Record.{Record}
 use Rattle.page.proofs.Searching.{by-test}
+use Rattle.sort.specs.Lists.{keep}
 use Rattle.sort.specs.Packed.{wordValues, packed, keyOf, valueOf}
 use Rattle.sort.proofs.Ascending.{same-members}
+use Rattle.sort.proofs.Lists.{keep-twice, keep-in, keep-of, map-keep, kept-ascends, made-pass, made-more}
 use Rattle.sort.proofs.Making.{in-map, map-in, map-made}
 use Rattle.sort.proofs.Packing.{packed-key, packed-value}
 use Rattle.sort.proofs.Places.{at-in}
@@ -23,12 +25,11 @@ use Rattle.text.specs.Put.{most, Put}
 use Rattle.text.proofs.Putting.{nothing, also, kept}
 use Rattle.tree.specs.Climbs.{Headed, Ways, TellsListed, reasonIn, isOther, otherRow, TellsOther, PutsOthers}
 use Rattle.tree.specs.Objects.{root, pageOf}
-use Rattle.tree.specs.Paths.{keep, listed}
+use Rattle.tree.specs.Paths.{listed}
 use Rattle.tree.specs.Rows.{numberOf, otherRows}
 use Rattle.tree.specs.Tree.{isIn, others}
 use Rattle.tree.specs.Ways.{reasonOf}
 use Rattle.tree.proofs.HeadRows.{row-live}
-use Rattle.tree.proofs.Lists.{keep-twice, keep-in, keep-of, map-keep, kept-ascends, made-pass, made-more}
 use Rattle.tree.proofs.Settled.{settled-reason}
 use Rattle.tree.proofs.Standing.{head-below}
 
