@@ -10,10 +10,10 @@ use crate::layout::Geometry;
 use crate::layout::geometry_at;
 use crate::trees::TextAnswer;
 use compare::answer::Compared;
+use compare::answer::Which;
 use compare::prepare::Prepared;
 use compare::whole::next;
 use dumps::both::compare_dumps;
-use dumps::object::compare_object;
 use dumps::prepare::prepare_dump;
 use page::number::ObjectId;
 
@@ -116,8 +116,8 @@ pub extern "C" fn lohenarr_compare_object(
     ensures { λ r. ⌜ r ≡ comparedAnswer (comparedOn (geometryAt geometry1) (length (now (dump1 .entry))) (geometryAt geometry2) (length (now (dump2 .entry))) (sidesReport (geometryAt geometry1) (now (dump1 .entry)) (geometryAt geometry2) (now (dump2 .entry)) object (now (order1 .entry)) (now (copies1 .entry)) (now (order2 .entry)) (now (copies2 .entry))) (length (now (buf .entry)))) ⌝ }
     ensures { λ _. ⌜ now (buf .exit) ≡ bytesLeft (geometryAt geometry1) (length (now (dump1 .entry))) (geometryAt geometry2) (length (now (dump2 .entry))) (sidesReport (geometryAt geometry1) (now (dump1 .entry)) (geometryAt geometry2) (now (dump2 .entry)) object (now (order1 .entry)) (now (copies1 .entry)) (now (order2 .entry)) (now (copies2 .entry))) (now (buf .entry)) ⌝ }
 {
-    compared_answer(compare_object(
-        ObjectId(object),
+    compared_answer(compare_dumps(
+        Which::One(ObjectId(object)),
         dump1,
         geometry_at(geometry1),
         order1,
@@ -147,6 +147,7 @@ pub extern "C" fn lohenarr_compare(
     ensures { λ _. ⌜ now (buf .exit) ≡ bytesLeft (geometryAt geometry1) (length (now (dump1 .entry))) (geometryAt geometry2) (length (now (dump2 .entry))) (listsReport (geometryAt geometry1) (now (dump1 .entry)) (geometryAt geometry2) (now (dump2 .entry)) (now (order1 .entry)) (now (copies1 .entry)) (now (order2 .entry)) (now (copies2 .entry))) (now (buf .entry)) ⌝ }
 {
     compared_answer(compare_dumps(
+        Which::All,
         dump1,
         geometry_at(geometry1),
         order1,

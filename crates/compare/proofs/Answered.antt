@@ -14,15 +14,17 @@ use Rattle.page.specs.declared.geometry.Opened.{Opened}
 use Rattle.page.specs.declared.geometry.Opened.the-variants as opened
 use Rattle.page.proofs.Searching.{clash}
 use Rattle.sort.specs.Ascending.{In}
+use Rattle.sort.specs.Lists.{joined}
 use Rattle.sort.specs.Packed.{packed}
 use Rattle.chunk.specs.Live.{objectIds}
 use Rattle.compare.specs.Lists.{listsReport}
 use Rattle.compare.specs.Prepared as prepared
 use Rattle.compare.specs.Prepared.{recordsIn, recordsOf, orderOf, copiesOf, isRoom, preparedOn, orderLeft, copiesLeft}
-use Rattle.compare.specs.Report.{joined, wholeReport}
+use Rattle.compare.specs.Report.{wholeReport}
 use Rattle.compare.specs.declared.prepare.Prepared.the-variants.{Records, Refused}
 use Rattle.compare.proofs.Filling.{copies-length}
 use Rattle.compare.proofs.OrderWords.{order-length}
+use Rattle.compare.proofs.Reporting.{listed-good}
 use Rattle.compare.proofs.Told.{lists-whole}
 
 -- lists of the same lengths, joined
@@ -41,15 +43,18 @@ module _ (g : Geometry) (dump words rows work : List ℕ) where
     pub order : take m (orderLeft g dump words (length rows) (length work)) ≡ prepared.order (recordAt g dump) pages
     pub copies : take m (copiesLeft g dump rows (length words) (length work)) ≡ prepared.copies (recordAt g dump) pages (g .layout .«data»)
 
+  -- there are as many rows as words
   copies-long : (n : ℕ) → openedOf g (length dump) ≡ opened.Pages n → length (prepared.copies (recordAt g dump) n (g .layout .«data»)) ≡ length (prepared.order (recordAt g dump) n)
   unfolding prepared.copies prepared.order
   copies-long n e =
       joined-lengths (copiesOf (recordAt g dump) n (g .layout .«data»)) (orderOf (recordAt g dump) n) (objectIds (recordAt g dump) n)
-      (λ o i. copies-length g dump n (g .layout .«data») e o i ∙ sym (length-map (recordsOf (recordAt g dump) n o) (packed o)))
+      (λ o i. copies-length g dump n (g .layout .«data») e o (listed-good g dump n o i) ∙ sym (length-map (recordsOf (recordAt g dump) n o) (packed o)))
 
+  -- an answer has one number
   records-same : (a b : ℕ) → Records a ≡ Records b → a ≡ b
   records-same a b e = cc
 
+  -- whatever dump was answered so is
   pub ready : (m : ℕ) → preparedOn g dump (length words) (length rows) (length work) ≡ Records m → Ready m
   unfolding preparedOn orderLeft copiesLeft
   ready m q = go (openedOf g (length dump)) refl

@@ -1,4 +1,5 @@
--- How long the report of an object is at most: a few lines, and one for each stretch. A line has its key, the digits of a number and its end.
+-- How long the report of an object is at most. A line has its key, the digits of a number and its end; a number below a power of ten has so many digits
+-- at most. So the lines that an object can have once are bounded together, and each stretch has one line.
 use Prim.Native.Nat.{ℕ, zero, suc, _+_, _*_, _^_, _≤_, _<_, min, zero-le}
 use mathlib.Core.Bool.{Bool, true, false, _&&_}
 use mathlib.Core.List.{List, [], map}
@@ -12,6 +13,7 @@ use lib.ListN.{length, length-append}
 use Rattle.page.specs.Records.{recordAt}
 use Rattle.page.specs.declared.geometry.Geometry.{Geometry}
 use Rattle.page.proofs.Searching.{by-test}
+use Rattle.sort.specs.Lists.{joined}
 use Rattle.sort.specs.Packed.{valueOf}
 use Rattle.text.specs.Lines.{lineOf}
 use Rattle.text.specs.Quoted.{bytesOf}
@@ -20,7 +22,7 @@ use Rattle.compare.specs.Bounds.{lineBytes, mostOf, Small}
 use Rattle.compare.specs.Differences.{Difference, Side, first, second, only, deleted, headless, field, stretch, onOne, lacks, fieldDiffers, fieldsOf, sizesOf, stretchDiffers, stretchesIn, stretchesTo, stretchesOf, differencesOf}
 use Rattle.compare.specs.Fields.{fields, placeOf}
 use Rattle.compare.specs.Heads.{headFrom, sizeBy, sizeAs}
-use Rattle.compare.specs.Report.{linesOf, joined, sideNumber}
+use Rattle.compare.specs.Report.{linesOf, sideNumber}
 use Rattle.compare.specs.Sides.{sideOf}
 use Rattle.compare.specs.declared.head.Head.{Head}
 use Rattle.compare.specs.declared.head.Size.{Size}
@@ -28,10 +30,11 @@ use Rattle.compare.specs.Views.{View}
 use Rattle.compare.proofs.Heads.{head-size}
 use Rattle.compare.proofs.Lining.{five, name-short}
 use Rattle.compare.proofs.Meaning.{fields-inside}
-use Rattle.compare.proofs.Passing.{linesTo, lines-none, lines-more}
+use Rattle.compare.proofs.PassedLines.{linesTo, lines-none, lines-more}
 
 -- lines of no more than so many bytes each
 module _ {A : Type 0} (lines : A → List ℕ) (of : ℕ → A) (test : ℕ → Bool) (id : ℕ → ℕ) (c : ℕ) where
+  -- are no more bytes than so many for each
   passed-most : (n : ℕ) → ((i : ℕ) → i < n → length (lines (of (id i))) ≤ c) → length (linesTo lines of test id n) ≤ n * c
   passed-most zero h = rw (lines-none lines of test id) zero-le
   passed-most (suc n) h =
@@ -47,6 +50,7 @@ module _ {A : Type 0} (lines : A → List ℕ) (of : ℕ → A) (test : ℕ → 
 
 -- what is so on one side only
 module _ (d : Side → Difference) (c : ℕ) (one : (s : Side) → length (linesOf (d s)) ≤ c) where
+  -- has no more bytes than its line
   side-most : (a b : Bool) → length (joined linesOf (onOne d a b)) ≤ c
   unfolding joined
   side-most true true = zero-le
@@ -54,22 +58,27 @@ module _ (d : Side → Difference) (c : ℕ) (one : (s : Side) → length (lines
   side-most false true = rw length-append (omega (arith, one second))
   side-most false false = zero-le
 
+-- the number of a side has one digit
 number-few : (s : Side) → sideNumber s < 10 ^ 1
 number-few first = omega arith
 number-few second = omega arith
 
+-- that it is there
 only-most : (a b : Bool) → length (joined linesOf (onOne only a b)) ≤ 20
 unfolding linesOf
 only-most = side-most only 20 (λ s. omega (arith, line-length (bytesOf "only=") 0 (sideNumber s) (number-few s)))
 
+-- that it is deleted
 deleted-most : (a b : Bool) → length (joined linesOf (onOne deleted a b)) ≤ 20
 unfolding linesOf
 deleted-most = side-most deleted 20 (λ s. omega (arith, line-length (bytesOf "deleted=") 0 (sideNumber s) (number-few s)))
 
+-- that it has no header
 headless-most : (a b : Bool) → length (joined linesOf (onOne headless a b)) ≤ 20
 unfolding linesOf
 headless-most = side-most headless 20 (λ s. omega (arith, line-length (bytesOf "noheader=") 0 (sideNumber s) (number-few s)))
 
+-- where nothing differs there are no bytes
 none-most : {n : ℕ} → length (joined linesOf []) ≤ n
 unfolding joined
 none-most = zero-le

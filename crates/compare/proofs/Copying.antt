@@ -40,11 +40,12 @@ use Rattle.file.proofs.Listing.{along-few}
 use Rattle.file.proofs.Shown.{copies-same, copy-unvisited}
 use Rattle.compare.specs.Prepared.{recordsOf, rowsOf}
 
--- a list with a member is longer than none, and one without any is empty
+-- a list with a member is longer than none
 in-some : (x : ℕ) (L : List ℕ) → In x L → 0 < length L
 in-some x [] i = absurd i
 in-some x (y ∷ L) i = omega arith
 
+-- a list without members is empty
 in-none : (L : List ℕ) → ((x : ℕ) → In x L → ⊥) → L ≡ []
 in-none [] h = refl
 in-none (x ∷ L) h = absurd (h x (inl refl))
@@ -54,6 +55,7 @@ module _ (g : Geometry) (dump : List ℕ) (n : ℕ) (e : openedOf g (length dump
   abbrev says : ℕ → Record
   says = recordAt g dump
 
+  -- the pages are no more than a word tells apart
   few : n ≤ 4294967296
   few = omega (arith, pages-most g dump n e)
 
@@ -62,12 +64,15 @@ module _ (g : Geometry) (dump : List ℕ) (n : ℕ) (e : openedOf g (length dump
     abbrev list : List ℕ
     list = recordsOf says n o
 
+    -- its id is not 0
     pos : 0 < o
     pos = object-within o good .least
 
+    -- along its records its size is that of the lookup
     pub size-recorded : sizeWalk (recordAt g dump) P (fromList (recordsOf (recordAt g dump) n o)) ≡ sizedOf (recordAt g dump) o n P
     size-recorded = size-seen says n few (ages-below g dump n e) (λ _. true) o pos P ∙ sym (size-by-file says o n P good)
 
+    -- and the copies are those of its chunks' lookups
     pub copies-recorded :
         (z v : ℕ) → sizedOf (recordAt g dump) o n P ≡ sized.Size z v →
         copiesAlong (recordAt g dump) P z (recordsOf (recordAt g dump) n o) ≡ copiesTo (lookedOf (recordAt g dump) o n P) (chunksIn P z)
@@ -80,12 +85,13 @@ module _ (g : Geometry) (dump : List ℕ) (n : ℕ) (e : openedOf g (length dump
         ap (copyIn c) (walk-ahead says P c z v (b .1) (fromList list) (size-recorded ∙ s) ∙ ap unvisited seen)
         ∙ copy-unvisited c (lookedOf says o n P c))
 
-    -- the rows of its copies
+    -- the rows of a live file are those of these copies
     pub rows-sized :
         (z v : ℕ) → sizedOf (recordAt g dump) o n P ≡ sized.Size z v →
         rowsOf (recordAt g dump) n P o ≡ map packedCopy (copiesAlong (recordAt g dump) P z (recordsOf (recordAt g dump) n o))
     rows-sized z v s = rw s (ap (map packedCopy) (sym (copies-recorded z v s)))
 
+    -- what is no live file has none
     pub rows-refused : (r : Refusal) (v : ℕ) → sizedOf (recordAt g dump) o n P ≡ sized.Refused r v → rowsOf (recordAt g dump) n P o ≡ []
     rows-refused r v s = rw s refl
 
@@ -105,6 +111,7 @@ module _ (g : Geometry) (dump : List ℕ) (n : ℕ) (e : openedOf g (length dump
 
   -- another has none, and no size
   module _ (o : ℕ) (good : badObject o ≡ false) (out : In o (objectIds (recordAt g dump) n) → ⊥) where
+    -- it has no records
     pub out-unrecorded : recordsOf (recordAt g dump) n o ≡ []
     out-unrecorded =
         in-none (recordsOf says n o)
@@ -113,6 +120,7 @@ module _ (g : Geometry) (dump : List ℕ) (n : ℕ) (e : openedOf g (length dump
         let some : objectAt says q ≡ 0 → ⊥ = λ z. absurd (omega (arith, object-within o good .least, w .1)) in
         out (rw (w .1) at (objects-in says n q (w .0) some)))
 
+    -- and its size is refused
     pub out-refused : (P : ℕ) → sizedOf (recordAt g dump) o n P ≡ sized.Refused NoObject 0
     unfolding sizeWalk sizeReached reach fromList
     out-refused P = sym (size-recorded o good P) ∙ rw out-unrecorded

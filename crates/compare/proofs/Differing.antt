@@ -30,11 +30,12 @@ eqb-swap x y =
     (λ t. t ∙ sym (ne-eqb y x (λ e. eqb-false x y t (sym e))))
 
 module _ (a b : ℕ → ℕ) where
-  -- no byte, and one byte more
+  -- of no bytes none differ
   pub differing-none : (from : ℕ) → differing a b from 0 ≡ 0
   unfolding differing
   differing-none from = count-none _
 
+  -- one byte more counts where it differs
   differing-more : (from n : ℕ) → differing a b from (n + 1) ≡ differing a b from n + more (not (eqb (a (from + n)) (b (from + n)))) 0
   unfolding differing
   differing-more from n = count-step (λ i. not (eqb (a (from + i)) (b (from + i)))) n ∙ more-sum (not (eqb (a (from + n)) (b (from + n)))) (differing a b from n)
@@ -48,6 +49,7 @@ module _ (a b : ℕ → ℕ) where
   pub counted : (from n sum one : ℕ) → sum ≡ differing a b from n → one ≡ more (not (eqb (a (from + n)) (b (from + n)))) 0 → sum + one ≡ differing a b from (n + 1)
   counted from n sum one e f = rw (e, f) (sym (differing-more from n))
 
+  -- and the count is no more than the bytes
   pub counted-le : (from n sum one : ℕ) → sum ≡ differing a b from n → one ≡ more (not (eqb (a (from + n)) (b (from + n)))) 0 → sum + one ≤ n + 1
   counted-le from n sum one e f = rw (counted from n sum one e f) (differing-le from (n + 1))
 
@@ -59,6 +61,7 @@ module _ (a b : ℕ → ℕ) where
       let last = rw add-assoc at (differing-more (from + m) n) in
       rw (← add-one n, ← add-assoc m n 1) (omega (arith, step, last, differing-add from m n))
 
+  -- some differ where the count is above 0
   differ-in : (from n : ℕ) → differIn a b from n ≡ ltb 0 (differing a b from n)
   unfolding differing differIn
   differ-in from n = refl
@@ -87,6 +90,7 @@ module _ (a b : ℕ → ℕ) where
       let e : differing a b i (all - i) ≡ differing a b 0 all = omega (arith, parts-of i all h) in
       differ-in i (all - i) ∙ ap (ltb 0) e ∙ sym (differ-in 0 all)
 
+  -- as its count says
   pub differ-last : (i all sum : ℕ) → i ≤ all → differing a b 0 i ≡ 0 → sum ≡ differing a b i (all - i) → ltb 0 sum ≡ differIn a b 0 all
   differ-last i all sum h d e = ap (ltb 0) e ∙ sym (differ-in i (all - i)) ∙ differ-rest i all h d
 
@@ -96,6 +100,7 @@ module _ (a b : ℕ → ℕ) where
   differing-equal from (suc n) s =
       rw (← add-one n, differing-more from n, differing-equal from n (λ i h. s i (omega arith)), eq-eqb _ _ (s n (omega arith)))
 
+  -- nor does any of them differ
   pub differ-equal : (from n : ℕ) → ((i : ℕ) → i < n → a (from + i) ≡ b (from + i)) → differIn a b from n ≡ false
   differ-equal from n s = differ-in from n ∙ rw (differing-equal from n s)
 
@@ -110,6 +115,7 @@ differing-same a b f g p q (suc n) s t =
     let before = differing-same a b f g p q n (λ i h. s i (omega arith)) (λ i h. t i (omega arith)) in
     rw (← add-one n, differing-more a b p n, differing-more f g q n, before, s n (omega arith), t n (omega arith))
 
+-- so do they for whether some differ
 pub differ-same :
     (a b f g : ℕ → ℕ) (p q n : ℕ) →
     ((i : ℕ) → i < n → a (p + i) ≡ f (q + i)) →
@@ -123,6 +129,7 @@ differing-swap a b from zero = differing-none a b from ∙ sym (differing-none b
 differing-swap a b from (suc n) =
     rw (← add-one n, differing-more a b from n, differing-more b a from n, differing-swap a b from n, eqb-swap (a (from + n)) (b (from + n)))
 
+-- nor for whether some differ
 pub differ-swap : (a b : ℕ → ℕ) (from n : ℕ) → differIn a b from n ≡ differIn b a from n
 differ-swap a b from n = differ-in a b from n ∙ ap (ltb 0) (differing-swap a b from n) ∙ sym (differ-in b a from n)
 

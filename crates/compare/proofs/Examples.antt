@@ -26,6 +26,7 @@ use Rattle.page.specs.declared.geometry.Opened.the-variants as opened
 use Rattle.page.specs.declared.refusal.Refusal.the-variants.{BadLayout, BadLength, Deleted, NoHeader}
 use Rattle.page.proofs.Marked as pages
 use Rattle.sort.specs.Arranged.{ascend, arranged, timesIn}
+use Rattle.sort.specs.Lists.{keep, joined}
 use Rattle.chunk.specs.Answers.{validPart, partBy}
 use Rattle.chunk.specs.Cuts.{cutOf, lowestCut}
 use Rattle.chunk.specs.Gather.{gather}
@@ -45,7 +46,7 @@ use Rattle.compare.specs.declared.answer.Both.the-variants as both
 use Rattle.compare.specs.Differences.{second, only, field, sizes, stretch, differIn, fieldsOf, stretchesOf, differencesOf}
 use Rattle.compare.specs.Fields.{fieldPlaces, fieldLengths, placeOf, lengthOf}
 use Rattle.compare.specs.Views.{byteOf, bytesOn, isDeleted, sizeIn, shownAt, viewOf}
-use Rattle.compare.specs.Report.{joined, linesOf, objectLines, others, inEither, idsIn, objectReport, wholeReport}
+use Rattle.compare.specs.Report.{linesOf, objectLines, others, inEither, idsIn, objectReport, wholeReport}
 use Rattle.compare.proofs.Meaning.{means-differ}
 use Rattle.compare.proofs.Reporting.{whole-itself}
 
@@ -65,6 +66,7 @@ changed =
     5 (set (dataPage 4098 1 300) 0 0))
     6 (erased 512 ++ tagged 4098 258 1 10))
 
+-- its kinds
 unfoldable pub changedKinds : List Kind
 changedKinds =
     set
@@ -75,6 +77,7 @@ changedKinds =
 unfoldable pub unlinked : List ℕ
 unlinked = dumpOf (headed (set (headerPage 4098 300 1) 4 3))
 
+-- its kinds
 unfoldable pub unlinkedKinds : List Kind
 unlinkedKinds =
     set shelfKinds 4
@@ -91,9 +94,11 @@ unlinkedKinds =
 unfoldable pub headless : List ℕ
 headless = dumpOf (set (set (headed blankPage) 3 blankPage) 0 blankPage)
 
+-- its kinds
 unfoldable pub headlessKinds : List Kind
 headlessKinds = set (set (set shelfKinds 4 Blank) 3 Blank) 0 Blank
 
+-- these are their kinds
 kinds :
     (kindsFrom shelfGeometry changed 0 8 ≡ changedKinds)
     × (kindsFrom shelfGeometry unlinked 0 8 ≡ unlinkedKinds)
@@ -103,14 +108,12 @@ unfolding changed changedKinds unlinked unlinkedKinds headless headlessKinds she
     tagBytes le32
 kinds = (refl, refl, refl)
 
+-- and they are as long as W
 lengths : (length changed ≡ 4224) × (length unlinked ≡ 4224) × (length headless ≡ 4224)
 unfolding changed unlinked headless shelfPages dumpOf headerPage dataPage blankPage tagged wordBytes
 lengths = (refl, refl, refl)
 
 -- what pages say whose kinds are known
-shelf-says : recordAt shelfGeometry shelf ≡ (λ i. recordOf (getD shelfKinds i Blank))
-shelf-says = fun-ext pages.shelf-record
-
 known : (dump : List ℕ) (kinds : List Kind) → kindsFrom shelfGeometry dump 0 8 ≡ kinds → length dump ≡ 4224 → recordAt shelfGeometry dump ≡ (λ i. recordOf (getD kinds i Blank))
 unfolding recordAt
 known dump kinds e l =
@@ -129,6 +132,7 @@ record Seen : Type 0 where
   one : Looked
   two : Looked
 
+-- what is seen of a dump
 seen : (says : ℕ → Record) → Seen
 seen says = record {
   ids = objectIds says 8;
@@ -155,7 +159,7 @@ shelf-seen :
     }
 unfolding seen shelfKinds idsOf passed arranged ascend sizedOf sizedBy lookedOf lookedBy chunkBy copyBy copyAt fileOf fileBy fileAt sizeOf dataEnd lowestCut
     cutOf since newestWhere gather badObject badChunk
-shelf-seen = ap seen shelf-says
+shelf-seen = ap seen pages.shelf-says
 
 changed-seen :
     seen (recordAt shelfGeometry changed)
@@ -207,6 +211,7 @@ headless-seen = ap seen (known headless headlessKinds (kinds .2) (lengths .2))
 
 -- how an object is shown, by what is seen
 module _ (dump : List ℕ) {s : Seen} (e : seen (recordAt shelfGeometry dump) ≡ s) where
+  -- object 257
   first-view :
       viewOf shelfGeometry dump 8 257
       ≡ record {
@@ -229,10 +234,12 @@ module _ (dump : List ℕ) {s : Seen} (e : seen (recordAt shelfGeometry dump) �
       })
       e
 
+  -- whether object 258 is there
   second-has : viewOf shelfGeometry dump 8 258 .has ≡ not (eqb (s .second) 0)
   unfolding viewOf seen
   second-has = ap (λ (s : Seen). not (eqb (s .second) 0)) e
 
+  -- the ids
   ids-seen : objectIds (recordAt shelfGeometry dump) 8 ≡ s .ids
   unfolding seen
   ids-seen = ap (λ (s : Seen). s .ids) e
@@ -247,18 +254,22 @@ header-fields = refl
 
 -- the bytes shown at the begin of the first two stretches
 module _ (dump : List ℕ) {s : Seen} (e : seen (recordAt shelfGeometry dump) ≡ s) where
+  -- that of the first
   shown-first : shownAt shelfGeometry dump 8 257 0 ≡ byteOf (partBy shelfGeometry dump (s .one)) 0
   unfolding shownAt seen
   shown-first = ap (λ (s : Seen). byteOf (partBy shelfGeometry dump (s .one)) 0) e
 
+  -- that of the second
   shown-second : shownAt shelfGeometry dump 8 257 512 ≡ byteOf (partBy shelfGeometry dump (s .two)) 0
   unfolding shownAt seen
   shown-second = ap (λ (s : Seen). byteOf (partBy shelfGeometry dump (s .two)) 0) e
 
+-- of W
 shelf-shown : (shownAt shelfGeometry shelf 8 257 0 ≡ 255) × (shownAt shelfGeometry shelf 8 257 512 ≡ 0)
 unfolding partBy validPart pageIn pageAt roomy shelf shelfPages dumpOf headerPage dataPage blankPage tagged wordBytes
 shelf-shown = (shown-first shelf shelf-seen, shown-second shelf shelf-seen)
 
+-- of the changed W
 changed-shown : (shownAt shelfGeometry changed 8 257 0 ≡ 0) × (shownAt shelfGeometry changed 8 257 512 ≡ 255)
 unfolding partBy validPart pageIn pageAt roomy changed shelfPages dumpOf headerPage dataPage blankPage tagged wordBytes
 changed-shown = (shown-first changed changed-seen, shown-second changed changed-seen)
@@ -270,6 +281,7 @@ shown = shownAt shelfGeometry shelf 8 257
 abbrev shown′ : ℕ → ℕ
 shown′ = shownAt shelfGeometry changed 8 257
 
+-- in their first bytes
 both-stretches : stretchesOf shown shown′ (some 1034) (some 514) ≡ 0 ∷ 1 ∷ []
 unfolding stretchesOf passed gather
 both-stretches =
@@ -295,12 +307,13 @@ added-differences = rw (second-has shelf shelf-seen, second-has changed changed-
 pub changed-report :
     wholeReport shelfGeometry shelf 8 shelfGeometry changed 8
     ≡ bytesOf "object=257\nfield=268\nfield=292\nsize=1034\nsize=514\nstretch=0\nstretch=1\nobject=258\nonly=2\n"
-unfolding wholeReport idsIn objectReport inEither others timesIn arranged ascend joined objectLines linesOf lineOf fieldOf decimal digits
+unfolding wholeReport idsIn objectReport inEither others keep timesIn arranged ascend joined objectLines linesOf lineOf fieldOf decimal digits
 changed-report =
     rw (ids-seen shelf shelf-seen, ids-seen changed changed-seen, changed-differences, added-differences)
 
 -- ---- headers of which every byte differs
 
+-- every field is reported
 pub every-field :
     fieldsOf (some (replicate 512 0)) (some (replicate 512 1))
     ≡ 0 ∷ 4 ∷ 10 ∷ 268 ∷ 272 ∷ 276 ∷ 280 ∷ 284 ∷ 288 ∷ 292 ∷ 296 ∷ 300 ∷ 460 ∷ 464 ∷ 472 ∷ 480 ∷ 504 ∷ 508 ∷ []
@@ -311,7 +324,7 @@ every-field = refl
 
 -- deleted on the first side, without a header on the second
 pub lost-report : wholeReport shelfGeometry unlinked 8 shelfGeometry headless 8 ≡ bytesOf "object=257\ndeleted=1\nnoheader=2\n"
-unfolding wholeReport idsIn objectReport inEither others timesIn arranged ascend joined objectLines linesOf lineOf fieldOf decimal digits differencesOf fieldsOf
+unfolding wholeReport idsIn objectReport inEither others keep timesIn arranged ascend joined objectLines linesOf lineOf fieldOf decimal digits differencesOf fieldsOf
     stretchesOf
 lost-report =
     rw (

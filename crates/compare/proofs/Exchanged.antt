@@ -1,4 +1,5 @@
--- Both dumps exchanged: the same differences, each with its sides exchanged.
+-- Both dumps exchanged: the same differences, each with its sides exchanged. Whether two bytes or two sizes differ does not depend on which is first,
+-- so the same parts are told; what is so on one side only is told of the other.
 use Prim.Native.Nat.{ℕ, _-_, _*_, min}
 use mathlib.Core.Bool.{Bool, true, false, _&&_, and-comm}
 use mathlib.Core.List.{List, [], _∷_, _++_, map, map-append}
@@ -29,12 +30,14 @@ swapped (stretch k) = stretch k
 
 -- ---- each part
 
+-- what is so on one side only is told of the other
 one-swap : (d : Side → Difference) → ((s : Side) → swapped (d s) ≡ d (otherSide s)) → (t u : Bool) → onOne d u t ≡ map swapped (onOne d t u)
 one-swap d e true true = refl
 one-swap d e true false = ap (λ (x : Difference). x ∷ []) (sym (e first))
 one-swap d e false true = ap (λ (x : Difference). x ∷ []) (sym (e second))
 one-swap d e false false = refl
 
+-- the same fields differ
 fields-swap : (s t : Option (List ℕ)) → fieldsOf t s ≡ fieldsOf s t
 unfolding fieldsOf
 fields-swap (some a) (some b) = λ j. passed (λ i. differ-swap (byteOf b) (byteOf a) (placeOf i) (lengthOf i) j) placeOf fields
@@ -42,6 +45,7 @@ fields-swap (some a) none = refl
 fields-swap none (some b) = refl
 fields-swap none none = refl
 
+-- the sizes stand the other way round
 sizes-swap : (s t : Option ℕ) → sizesOf t s ≡ map swapped (sizesOf s t)
 sizes-swap (some y) (some z) = by-test (eqb y z) _ (λ t. rw (t, eqb-swap z y ∙ t)) (λ t. rw (t, eqb-swap z y ∙ t))
 sizes-swap (some y) none = refl
@@ -49,9 +53,11 @@ sizes-swap none (some z) = refl
 sizes-swap none none = refl
 
 module _ (a b : ℕ → ℕ) where
+  -- the same stretches differ up to a size
   to-swap : (m : ℕ) → stretchesTo b a m ≡ stretchesTo a b m
   to-swap m = λ j. passed (λ k. differ-swap b a (stretchBytes * k) (min stretchBytes (m - stretchBytes * k)) j) (λ k. k) (stretchesIn m)
 
+  -- which is the same size
   stretches-swap : (s t : Option ℕ) → stretchesOf b a t s ≡ stretchesOf a b s t
   unfolding stretchesOf
   stretches-swap (some y) (some z) = let m : min z y ≡ min y z = omega arith in rw m (to-swap (min y z))
@@ -59,11 +65,12 @@ module _ (a b : ℕ → ℕ) where
   stretches-swap none (some z) = refl
   stretches-swap none none = refl
 
--- names of fields and of stretches have no side
+-- names of fields have no side
 map-fields : (L : List ℕ) → map field L ≡ map swapped (map field L)
 map-fields [] = refl
 map-fields (x ∷ L) = ap (λ (r : List Difference). field x ∷ r) (map-fields L)
 
+-- nor of stretches
 map-stretches : (L : List ℕ) → map stretch L ≡ map swapped (map stretch L)
 map-stretches [] = refl
 map-stretches (x ∷ L) = ap (λ (r : List Difference). stretch x ∷ r) (map-stretches L)
@@ -81,6 +88,7 @@ map-five A B C D E =
 
 -- ---- all of them
 
+-- all differences, each with its sides exchanged
 pub exchanged : (v w : View) → differencesOf w v ≡ map swapped (differencesOf v w)
 unfolding differencesOf
 exchanged v w =

@@ -23,6 +23,7 @@ use Rattle.sort.specs.Room.{inRoom, clearedIn}
 use Rattle.sort.proofs.Ascending.{ascends-in}
 use Rattle.sort.proofs.Clearing.{clear-inside}
 use Rattle.sort.proofs.Packing.{packed-key}
+use Rattle.sort.specs.Lists.{joined}
 use Rattle.chunk.specs.Live.{objectIds}
 use Rattle.chunk.specs.Lookups.{sizedOf}
 use Rattle.chunk.specs.Records.{ageOf}
@@ -37,7 +38,6 @@ use Rattle.file.specs.Copies.{packedCopy}
 use Rattle.compare.specs.Lists.{runOf}
 use Rattle.compare.specs.Prepared as prepared
 use Rattle.compare.specs.Prepared.{recordsOf, orderOf, rowsOf, copiesOf}
-use Rattle.compare.specs.Report.{joined}
 use Rattle.compare.specs.Rows.{padded, rowsIn, copiesIn}
 use Rattle.compare.proofs.Copying.{size-recorded, copies-recorded, rows-few, ids-recorded}
 use Rattle.compare.proofs.Running.{values-back, run-words, run-others}
@@ -120,6 +120,7 @@ module _ (g : Geometry) (dump : List ℕ) (n P : ℕ) (e : openedOf g (length du
   abbrev ids : List ℕ
   ids = objectIds says n
 
+  -- the pages of its records fit a word
   pages-below : (o p : ℕ) → In p (recordsOf says n o) → p < wordValues
   pages-below o p i = omega (arith, recs-of (objects says) (ageOf says) o n p i .0, opened-pages g (length dump) n e)
 
@@ -134,18 +135,21 @@ module _ (g : Geometry) (dump : List ℕ) (n P : ℕ) (e : openedOf g (length du
       let own = values-back o (recordsOf says n o) (pages-below o) in
       rw (own, size-recorded g dump n e o good P, s) refl
 
+  -- and behind them zeros
   copies-own : (o : ℕ) → In o ids → copiesIn says P (orderOf says n o) ≡ copiesOf says n P o
   copies-own o i = rw (rows-own o (listed-good g dump n o i) _ refl, length-map (recordsOf says n o) (packed o))
 
-  pub copies-length : (o : ℕ) → In o ids → length (copiesOf says n P o) ≡ length (recordsOf says n o)
-  copies-length o i =
+  -- they have as many words as its records
+  pub copies-length : (o : ℕ) → badObject o ≡ false → length (copiesOf says n P o) ≡ length (recordsOf says n o)
+  copies-length o good =
       let rows = rowsOf says n P o in
       length-append rows (replicate (length (recordsOf says n o) - length rows) 0)
       ∙ rw (length-replicate {A = ℕ} (length (recordsOf says n o) - length rows) 0)
-      (omega (arith, rows-few g dump n e o (listed-good g dump n o i) P))
+      (omega (arith, rows-few g dump n e o good P))
 
   -- the words of its records
   module _ (list : List ℕ) (is : list ≡ prepared.order says n) where
+    -- at the begin none are written, and all objects are left
     pub fill-start : (copies : List ℕ) → length copies ≡ length list → Filling g dump n P list copies 0
     unfolding prepared.order prepared.copies
     fill-start copies l =
@@ -193,7 +197,7 @@ module _ (g : Geometry) (dump : List ℕ) (n P : ℕ) (e : openedOf g (length du
           on written w =
               let C = copiesOf says n P o in
               let front : length (take i copies) ≡ i = length-take-le i copies (omega (arith, f .inside, f .long)) in
-              let long : length (take i copies ++ C) ≡ i + own = length-append (take i copies) C ∙ omega (arith, front, copies-length o known) in
+              let long : length (take i copies ++ C) ≡ i + own = length-append (take i copies) C ∙ omega (arith, front, copies-length o (listed-good g dump n o known)) in
               let parts : written ≡ (take i copies ++ C) ++ drop own (drop i copies) =
               w ∙ ap (λ (l : List ℕ). take i copies ++ (l ++ drop own (drop i copies))) (copies-own o known) ∙ sym (append-assoc (take i copies) C (drop own (drop i copies))) in
               record {
@@ -227,6 +231,7 @@ module _ (g : Geometry) (dump : List ℕ) (n P : ℕ) (e : openedOf g (length du
               }
               )
 
+      -- the first object that is left is that of word i
       turn-of :
           (left : List ℕ) (least : ℕ) → Ascends least left → ((x : ℕ) → In x left → In x ids) → drop i list ≡ joined (orderOf says n) left →
           prepared.copies says n P ≡ take i copies ++ joined (copiesOf says n P) left → i < length list →
@@ -239,6 +244,7 @@ module _ (g : Geometry) (dump : List ℕ) (n P : ℕ) (e : openedOf g (length du
           let same : o ≡ x = a ∙ key-is x more (up .1) known on rest filled in
           turn-next x more (up .1) known on rest filled run (b ∙ rw same (run-is x more (up .1) known on rest filled))
 
+      -- by what holds there
       pub turn-at : i < length list → (o run : ℕ) → o ≡ keyOf (getD list i 0) → run ≡ runOf o (drop i list) → Turn g dump n P list copies i run
       turn-at = turn-of (f .left) (f .least) (f .rises) (f .within) (f .rest) (f .filled)
 
@@ -260,5 +266,6 @@ module _ (g : Geometry) (dump : List ℕ) (n P : ℕ) (e : openedOf g (length du
             ids-recorded g dump n e x (within x (inl refl)),
           ))
 
+      -- by what holds there
       pub fill-end : length list ≤ i → copies ≡ prepared.copies (recordAt g dump) n P
       fill-end = end-of (f .left) (f .within) (f .rest) (f .filled)

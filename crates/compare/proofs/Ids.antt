@@ -1,7 +1,6 @@
 -- The ids in either of two lists: exactly the members of one of them, and where both ascend, ascending, each once. So they are the same for the
 -- lists exchanged, and they can be had by merging: the lesser of both first members is the first of them.
 use Prim.Native.Nat.{ℕ, suc, _≤_, zero-le}
-use mathlib.Core.Bool.{true}
 use mathlib.Core.List.{List, [], _∷_, _++_}
 use mathlib.Core.Logic.{_⊎_, inl, inr, ⊎-elim}
 use mathlib.Core.Path.{_≡_, refl, ap, _∙_}
@@ -12,6 +11,7 @@ use Rattle.page.proofs.Searching.{by-test}
 use Rattle.sort.specs.Arranged.{timesIn}
 use Rattle.sort.specs.Ascending.{In, Ascends}
 use Rattle.sort.proofs.Ascending.{ascends-in, ascends-lower, same-members}
+use Rattle.sort.proofs.Lists.{keep-in, keep-of, keep-ascends}
 use Rattle.sort.proofs.Times.{Once, times-joined, in-times, times-in, times-out, joined-in, in-joined, ascends-once, in-arranged, arranged-in, once-ascends}
 use Rattle.compare.specs.Report.{others, inEither}
 
@@ -24,34 +24,21 @@ module _ (A : List ℕ) where
   -- the others of a second list are its members that the first does not have
   others-of : (x : ℕ) (B : List ℕ) → In x (others A B) → In x B × (In x A → ⊥)
   unfolding others
-  others-of x [] i = absurd i
-  others-of x (y ∷ B) i =
-      by-test (eqb (timesIn y A) 0) _
-      (λ t.
-      ⊎-elim
-      (λ (e : x ≡ y). (inl e, λ k. let h = in-times x A k in let z = eqb-true (timesIn y A) 0 t in let q : timesIn x A ≡ 0 = rw e z in omega arith))
-      (λ (k : In x (others A B)). let r = others-of x B k in (inr (r .0), r .1))
-      (rw t at i))
-      (λ t. let r = others-of x B (rw t at i) in (inr (r .0), r .1))
+  others-of x B i =
+      let r = keep-of _ x B i in
+      (r .0, λ k. let z = eqb-true (timesIn x A) 0 (r .1) in absurd (omega (arith, in-times x A k)))
 
+  -- and whatever is so is one
   others-in : (x : ℕ) (B : List ℕ) → In x B → timesIn x A ≡ 0 → In x (others A B)
   unfolding others
-  others-in x [] i z = absurd i
-  others-in x (y ∷ B) (inl e) z = let t : eqb (timesIn y A) 0 ≡ true = rw e at (eq-eqb (timesIn x A) 0 z) in rw t (inl e)
-  others-in x (y ∷ B) (inr i) z =
-      by-test (eqb (timesIn y A) 0) _ (λ t. rw t (inr (others-in x B i z))) (λ t. rw t (others-in x B i z))
+  others-in x B i z = keep-in _ x B i (eq-eqb (timesIn x A) 0 z)
 
   -- they ascend where the second list does
   others-ascend : (b : ℕ) (B : List ℕ) → Ascends b B → Ascends b (others A B)
   unfolding others
-  others-ascend b [] a = tt
-  others-ascend b (y ∷ B) a =
-      let r : Ascends (suc y) (others A B) = others-ascend (suc y) B (a .1) in
-      by-test (eqb (timesIn y A) 0) _
-      (λ t. rw t (a .0, r))
-      (λ t. rw t (ascends-lower b (suc y) (others A B) (omega (arith, a .0)) r))
+  others-ascend b B a = keep-ascends _ b B a
 
-  -- a member of either is there, and nothing else is
+  -- a member of either is there
   pub either-in : (x : ℕ) (B : List ℕ) → In x A ⊎ In x B → In x (inEither A B)
   unfolding inEither
   either-in x B i =
@@ -63,6 +50,7 @@ module _ (A : List ℕ) where
       inr (others-in x B (⊎-elim (λ k. absurd (omega (arith, in-times x A k))) (λ k. k) i) z))
       (λ t. let z : timesIn x A ≡ 0 → ⊥ = eqb-false _ _ t in inl (times-in x A (omega arith)))))
 
+  -- and nothing else is there
   pub either-of : (x : ℕ) (B : List ℕ) → In x (inEither A B) → In x A ⊎ In x B
   unfolding inEither
   either-of x B i =
@@ -85,11 +73,12 @@ module _ (A : List ℕ) where
           let i = others-of y B (times-in y (others A B) (omega arith)) in
           omega (arith, times-out y A (i .1))))
 
--- the same in the other order
+-- either of two, in the other order
 swap : {P Q : Type 0} → P ⊎ Q → Q ⊎ P
 swap (inl p) = inr p
 swap (inr q) = inl q
 
+-- so the ids of both are the same, whichever list is the first
 pub either-swap : (A B : List ℕ) → Ascends 0 A → Ascends 0 B → inEither A B ≡ inEither B A
 either-swap A B a b =
     same-members 0 (inEither A B) (inEither B A) (either-ascends A B a b) (either-ascends B A b a)
@@ -98,13 +87,14 @@ either-swap A B a b =
 
 -- ---- merging
 
--- one list is empty
+-- where the second list is empty they are those of the first
 pub either-left : (A : List ℕ) → Ascends 0 A → inEither A [] ≡ A
 either-left A a =
     same-members 0 (inEither A []) A (either-ascends A [] a tt) a
     (λ x i. ⊎-elim (λ k. k) (λ k. absurd k) (either-of A x [] i))
     (λ x i. either-in A x [] (inl i))
 
+-- and where the first is empty those of the second
 pub either-right : (B : List ℕ) → Ascends 0 B → inEither [] B ≡ B
 either-right B b = either-swap [] B tt b ∙ either-left B b
 

@@ -1,15 +1,15 @@
--- What each of a list gives, one behind the other: which numbers are there, and when they ascend.
+-- What each of a list gives, one behind the other: what is made of it, and when it ascends: where each gives numbers of its own range, and the ranges
+-- ascend.
 use Prim.Native.Nat.{ℕ, suc, _*_, _≤_, _<_}
 use mathlib.Core.List.{List, [], _∷_, _++_, map, map-append}
-use mathlib.Core.Logic.{_⊎_, inl, inr, ⊎-elim}
+use mathlib.Core.Logic.{inl, inr}
 use mathlib.Core.Path.{_≡_, refl, ap₂, _∙_}
 use native.Mathlib.Nat.{mul-le-mul-right, suc-mul}
 use native.Mathlib.Omega.{arith}
 use lib.ListN.{length}
 use Rattle.sort.specs.Ascending.{In, Ascends}
-use Rattle.sort.proofs.Ascending.{ascends-lower}
-use Rattle.sort.proofs.Times as times
-use Rattle.compare.specs.Report.{joined}
+use Rattle.sort.proofs.Ascending.{ascends-lower, ascends-on}
+use Rattle.sort.specs.Lists.{joined}
 
 -- ---- lists
 
@@ -18,35 +18,9 @@ pub length-none : {A : Type 0} (L : List A) → length L ≡ 0 → L ≡ []
 length-none [] e = refl
 length-none (x ∷ L) e = absurd (omega arith)
 
--- two lists that ascend, the second from where the first ends
-pub ascends-on : (a b : ℕ) (L M : List ℕ) → a ≤ b → Ascends a L → ((x : ℕ) → In x L → x < b) → Ascends b M → Ascends a (L ++ M)
-ascends-on a b [] M h s f t = ascends-lower a b M h t
-ascends-on a b (x ∷ L) M h s f t = (s .0, ascends-on (suc x) b L M (f x (inl refl)) (s .1) (λ y i. f y (inr i)) t)
-
 -- ---- what each of a list gives
 
--- a number that one of a list gives
-pub record Given (f : ℕ → List ℕ) (L : List ℕ) (y : ℕ) : Type 0 where
-  pub by : ℕ
-  pub there : In by L
-  pub gives : In y (f by)
-
 module _ (f : ℕ → List ℕ) where
-  pub in-joined : (x y : ℕ) (L : List ℕ) → In x L → In y (f x) → In y (joined f L)
-  unfolding joined
-  in-joined x y [] i j = absurd i
-  in-joined x y (z ∷ L) (inl e) j = times.joined-in y (f z) (joined f L) (inl (rw e at j))
-  in-joined x y (z ∷ L) (inr i) j = times.joined-in y (f z) (joined f L) (inr (in-joined x y L i j))
-
-  pub joined-in : (y : ℕ) (L : List ℕ) → In y (joined f L) → Given f L y
-  unfolding joined
-  joined-in y [] i = absurd i
-  joined-in y (x ∷ L) i =
-      ⊎-elim
-      (λ k. record { by = x; there = inl refl; gives = k })
-      (λ k. let m = joined-in y L k in record { by = m .by; there = inr (m .there); gives = m .gives })
-      (times.in-joined y (f x) (joined f L) i)
-
   -- the numbers made of all of them
   pub joined-map : (g : ℕ → ℕ) (h : ℕ → List ℕ) (L : List ℕ) → ((x : ℕ) → In x L → map g (f x) ≡ h x) → map g (joined f L) ≡ joined h L
   unfolding joined

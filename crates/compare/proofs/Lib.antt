@@ -1,6 +1,6 @@
 -- numbers, lists and bytes
 pub mod Passes
-pub mod Passing
+pub mod PassedLines
 pub mod Joining
 pub mod Ids
 pub mod Parting

@@ -1,4 +1,5 @@
--- The turns of the report by words: each takes words from the front of one list or of both, so that it comes to an end.
+-- The turns of the report by words. Each takes the words of the next object from the front of one list or of both, at least one of them: so it comes to
+-- an end, and what was put and what is left are the whole report all the way.
 use Prim.Native.Nat.{ℕ, zero, suc, _+_, _-_, _≤_, _<_, min, zero-le}
 use mathlib.Core.Bool.{false, _&&_}
 use mathlib.Core.List.{List, [], _∷_, _++_, append-nil, append-assoc}
@@ -52,15 +53,19 @@ module _ (L : List ℕ) (i : ℕ) (L′ : List ℕ) (j : ℕ) where
   abbrev other : ℕ
   other = keyOf (getD L′ j 0)
 
+  -- both lists are at their end
   pub next-none : length L ≤ i → length L′ ≤ j → at ≡ 0
   next-none h k = rw (drop-of-length-le L h, drop-of-length-le L′ k)
 
+  -- the first is
   pub next-second : length L ≤ i → j < length L′ → at ≡ other
   next-second h k = rw (drop-of-length-le L h, drop-cons L′ j 0 k)
 
+  -- the second is
   pub next-first : i < length L → length L′ ≤ j → at ≡ one
   next-first h k = rw (drop-cons L i 0 h, drop-of-length-le L′ k)
 
+  -- neither is: the lesser id comes next
   pub next-both : i < length L → j < length L′ → at ≡ min one other
   next-both h k = rw (drop-cons L i 0 h, drop-cons L′ j 0 k)
 
@@ -72,6 +77,7 @@ module _ (g : Geometry) (dump : List ℕ) (g′ : Geometry) (dump′ : List ℕ)
   reports-none zero L C L′ C′ e = refl
   reports-none (suc k) L C L′ C′ e = rw (eq-eqb (length L) 0 (omega arith), eq-eqb (length L′) 0 (omega arith))
 
+  -- where a word is left, the turns go on
   some : (L L′ : List ℕ) → 0 < length L + length L′ → eqb (length L) 0 && eqb (length L′) 0 ≡ false
   some L L′ h =
       by-test (eqb (length L) 0) _
@@ -123,12 +129,15 @@ module _ (g : Geometry) (dump : List ℕ) (g′ : Geometry) (dump′ : List ℕ)
       abbrev b : ℕ
       b = runOf o (drop j L′)
 
+      -- the words of this turn are there, in the first list
       pub few : i + a ≤ length L
       few = omega (arith, run-most o (drop i L), length-drop i L, u .first)
 
+      -- and in the second
       pub few′ : j + b ≤ length L′
       few′ = omega (arith, run-most o (drop j L′), length-drop j L′, u .second)
 
+      -- some word is left
       left : i + j < length L + length L′ → 0 < length (drop i L) + length (drop j L′)
       left h = omega (arith, length-drop i L, length-drop j L′, u .first, u .second)
 
@@ -182,8 +191,10 @@ module _ (g : Geometry) (dump : List ℕ) (g′ : Geometry) (dump′ : List ℕ)
           let p₂ = rw e at p₁ in
           rw e (under-turn h p₂)
 
+      -- so the words of that answer are there
       pub turn-few : (t : Turn) → t ≡ nextIn (drop i L) (drop j L′) → (i + t .first ≤ length L) × (j + t .second ≤ length L′)
       turn-few t e = rw e (few, few′)
 
+      -- and it goes on
       pub turn-onward : (t : Turn) → t ≡ nextIn (drop i L) (drop j L′) → i + j < length L + length L′ → i + j < (i + t .first) + (j + t .second)
       turn-onward t e h = rw e (onward h)

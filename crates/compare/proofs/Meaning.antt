@@ -29,13 +29,14 @@ module _ (a b : ℕ → ℕ) where
     pub inside : at < bytes
     pub apart : a (from + at) ≡ b (from + at) → ⊥
 
-  -- so it is where the test says so, and only there
+  -- where the test says so one differs
   pub differ-means : (from n : ℕ) → differIn a b from n ≡ true → Differs from n
   unfolding differIn
   differ-means from n e =
       let w = counted-passes (λ i. not (eqb (a (from + i)) (b (from + i)))) n e in
       record { at = w .at; inside = w .inside; apart = eqb-false _ _ (not-true _ (w .passes)) }
 
+  -- and where one differs the test says so
   pub means-differ : (from n : ℕ) → Differs from n → differIn a b from n ≡ true
   unfolding differIn
   means-differ from n w =
@@ -62,7 +63,7 @@ module _ (a b : ℕ → ℕ) where
     pub inside : position < m
     pub apart : a position ≡ b position → ⊥
 
-  -- a stretch is among those that differ exactly if it does
+  -- a stretch among those that differ does
   pub stretch-means : (m k : ℕ) → In k (stretchesTo a b m) → StretchDiffers m k
   stretch-means m k i =
       let p = passed-of (stretchDiffers a b m) (λ k. k) (stretchesIn m) k i in
@@ -75,6 +76,7 @@ module _ (a b : ℕ → ℕ) where
         apart = d .apart;
       }
 
+  -- and one that does is among them
   pub means-stretch : (m k : ℕ) → StretchDiffers m k → In k (stretchesTo a b m)
   means-stretch m k w =
       let x = w .position in
@@ -106,7 +108,7 @@ pub record FieldDiffers (a b : List ℕ) (offset : ℕ) : Type 0 where
   pub inside : at < lengthOf number
   pub apart : byteOf a (placeOf number + at) ≡ byteOf b (placeOf number + at) → ⊥
 
--- a field is among those that differ exactly if it does
+-- a field among those that differ does
 pub field-means : (a b : List ℕ) (offset : ℕ) → In offset (fieldsOf (some a) (some b)) → FieldDiffers a b offset
 unfolding fieldsOf
 field-means a b offset i =
@@ -121,6 +123,7 @@ field-means a b offset i =
       apart = d .apart;
     }
 
+-- and one that does is among them
 pub means-field : (a b : List ℕ) (offset : ℕ) → FieldDiffers a b offset → In offset (fieldsOf (some a) (some b))
 unfolding fieldsOf
 means-field a b offset w =
@@ -146,14 +149,16 @@ leftOut x = from-to 0x8 0xA x || from-to 0x10A 0x10C x || from-to 0x1E8 0x1F8 x
 abbrev pub headerLength : ℕ
 headerLength = 512
 
--- no byte of a header is in both, or in neither
+-- whether byte x is in both, or in neither
 misplaced : (x : ℕ) → Bool
 misplaced x = pick (inField x) (leftOut x) (not (leftOut x))
 
+-- counted: none is
 none-misplaced : ltb 0 (count misplaced headerLength) ≡ false
 unfolding misplaced inField count placeOf lengthOf fieldPlaces fieldLengths
 none-misplaced = refl
 
+-- of two tests exactly one holds
 placed : (t u : Bool) → pick t u (not u) ≡ false → t ≡ not u
 placed true true e = e
 placed true false e = refl
@@ -165,42 +170,50 @@ pub bytes-compared : (x : ℕ) → x < headerLength → inField x ≡ not (leftO
 unfolding misplaced
 bytes-compared x h = placed (inField x) (leftOut x) (uncounted misplaced headerLength none-misplaced x h)
 
--- each field lies in the header
+-- whether field i sticks out of the header
 sticksOut : (i : ℕ) → Bool
 sticksOut i = ltb headerLength (placeOf i + lengthOf i)
 
+-- counted: none sticks out
 none-out : ltb 0 (count sticksOut fields) ≡ false
 unfolding sticksOut count placeOf lengthOf fieldPlaces fieldLengths
 none-out = refl
 
+-- so each ends within it
 pub fields-inside : (i : ℕ) → i < fields → placeOf i + lengthOf i ≤ headerLength
 unfolding sticksOut
 fields-inside i h = ltb-false _ _ (uncounted sticksOut fields none-out i h)
 
--- and ends where the next begins, or before
+-- whether a later field begins before the end of field i
 early : (i j : ℕ) → Bool
 early i j = ltb i j && leb (placeOf j) (placeOf i + (lengthOf i - 1))
 
+-- some field begins before the end of field i
 anyEarly : (i : ℕ) → Bool
 anyEarly i = ltb 0 (count (early i) fields)
 
+-- counted: none does
 none-early : ltb 0 (count anyEarly fields) ≡ false
 unfolding anyEarly early count placeOf lengthOf fieldPlaces fieldLengths
 none-early = refl
 
+-- where two tests do not both hold, and the first does, the second does not
 later : (t u : Bool) → t && u ≡ false → t ≡ true → u ≡ false
 later true u e f = e
 later false u e f = clash (cc)
 
+-- so the last byte of a field stands before the next field
 last-before : (i j : ℕ) → i < j → j < fields → placeOf i + (lengthOf i - 1) < placeOf j
 unfolding anyEarly early
 last-before i j h k =
     let e = uncounted (early i) fields (uncounted anyEarly fields none-early i (omega arith)) j k in
     leb-false _ _ (later (ltb i j) (leb (placeOf j) (placeOf i + (lengthOf i - 1))) e (lt-ltb i j h))
 
+-- a field ends where the next begins, or before
 pub fields-apart : (i j : ℕ) → i < j → j < fields → placeOf i + lengthOf i ≤ placeOf j
 fields-apart i j h k = omega (arith, last-before i j h k)
 
+-- and begins before it
 pub places-rise : (i j : ℕ) → i < j → j < fields → placeOf i < placeOf j
 places-rise i j h k = omega (arith, last-before i j h k)
 
@@ -211,7 +224,7 @@ fields-ascend (some a) (some b) = passed-ascends (fieldDiffers a b) placeOf fiel
 fields-ascend (some a) none = tt
 fields-ascend none other = tt
 
--- where none differs, every byte that is compared is the same, and the other way round
+-- where none differs, every byte that is compared is the same
 pub fields-same : (a b : List ℕ) → fieldsOf (some a) (some b) ≡ [] → (x : ℕ) → x < headerLength → leftOut x ≡ false → byteOf a x ≡ byteOf b x
 unfolding fieldsOf inField
 fields-same a b e x h out =
@@ -223,6 +236,7 @@ fields-same a b e x h out =
     rw at at
     (differ-none (byteOf a) (byteOf b) (placeOf i) (lengthOf i) (nothing-passed (fieldDiffers a b) placeOf fields e i (w .inside)) (x - placeOf i) (omega arith))
 
+-- where every byte that is compared is the same, none differs
 pub same-fields : (a b : List ℕ) → ((x : ℕ) → x < headerLength → leftOut x ≡ false → byteOf a x ≡ byteOf b x) → fieldsOf (some a) (some b) ≡ []
 unfolding fieldsOf inField
 same-fields a b f =

@@ -6,6 +6,7 @@ use native.Mathlib.Omega.{arith}
 use lib.ListN.{length, take, drop, length-take, length-drop}
 use lib.Seq.{ext-getD, getD-take}
 
+-- a begin behind their end, and a length beyond it, make no difference
 pub clipped : (s : List ℕ) (from n a k : ℕ) → a ≡ min from (length s) → k ≡ min n (length s - a) → take k (drop a s) ≡ take n (drop from s)
 clipped s from n a k p q =
     ext-getD 0 _ _ (simp (length-take, length-drop) (omega arith))

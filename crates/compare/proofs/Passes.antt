@@ -2,8 +2,7 @@
 -- rise.
 use Prim.Native.Nat.{ℕ, zero, suc, _≤_, _<_, zero-le}
 use mathlib.Core.Bool.{Bool, true, false}
-use mathlib.Core.List.{List, [], _∷_, _++_}
-use mathlib.Core.Logic.{inl, inr}
+use mathlib.Core.List.{[], _∷_}
 use mathlib.Core.Path.{_≡_, refl, sym, ap, _∙_}
 use native.Mathlib.Nat.{le-refl}
 use native.Mathlib.Numerals.{add-one}
@@ -12,6 +11,7 @@ use borrow.Author.Tests.{lt-ltb, ltb-true}
 use lib.Dec.{ltb}
 use Rattle.page.specs.Search.{count}
 use Rattle.page.proofs.Searching.{clash, by-test, count-none}
+use Rattle.sort.proofs.Ascending.{ascends-on}
 use Rattle.sort.specs.Ascending.{In, Ascends}
 use Rattle.sort.proofs.Times.{in-arranged, arranged-in}
 use Rattle.chunk.specs.Live.{passed, idsOf}
@@ -47,11 +47,12 @@ module _ (test : ℕ → Bool) where
       (λ t. t)
 
   module _ (id : ℕ → ℕ) where
-    -- the ids of those that pass, and no others
+    -- the id of each that passes is there
     pub passed-in : (n x : ℕ) → Bears test id n x → In x (passed test id n)
     unfolding idsOf
     passed-in n x w = arranged-in x (passed test id n) (ids-in test id x n w)
 
+    -- and each of them is the id of one that passes
     pub passed-of : (n x : ℕ) → In x (passed test id n) → Bears test id n x
     unfolding idsOf
     passed-of n x i = ids-of test id x n (in-arranged x (passed test id n) i)
@@ -69,11 +70,6 @@ module _ (test : ℕ → Bool) where
         (λ t. absurd (rw e at (passed-in n (id i) (record { page = i; inside = h; passes = t; bears = refl }))))
         (λ t. t)
 
--- a number above all of an ascending list goes behind it
-ascends-behind : (b x : ℕ) (L : List ℕ) → b ≤ x → Ascends b L → ((y : ℕ) → In y L → y < x) → Ascends b (L ++ (x ∷ []))
-ascends-behind b x [] h a f = (h, tt)
-ascends-behind b x (y ∷ L) h a f = (a .0, ascends-behind (suc y) x L (f y (inl refl)) (a .1) (λ z i. f z (inr i)))
-
 -- the ids ascend where ids of greater numbers are greater
 pub passed-ascends :
     (test : ℕ → Bool) (id : ℕ → ℕ) (m : ℕ) → ((i j : ℕ) → i < j → j < m → id i < id j) → (n : ℕ) → n ≤ m → Ascends 0 (passed test id n)
@@ -84,9 +80,10 @@ passed-ascends test id m rise (suc n) h =
     (by-test (test n) _
     (λ t.
     rw (passed-take test id n t)
-    (ascends-behind 0 (id n) (passed test id n) zero-le a
+    (ascends-on 0 (id n) (passed test id n) (id n ∷ []) zero-le a
     (λ y i.
     let w = passed-of test id n y i in
     let e = w .bears in
-    omega (arith, rise (w .page) n (w .inside) h))))
+    omega (arith, rise (w .page) n (w .inside) h))
+    (le-refl _, tt)))
     (λ t. rw (passed-skip test id n t) a))

@@ -85,6 +85,7 @@ module _ (says : ℕ → Record) where
 module _ (says : ℕ → Record) (o n P : ℕ) where
   -- a copy is on a page of the dump, and no more bytes are valid than a page has data
   module _ (c h z : ℕ) (p : PageNumber) (a s v : ℕ) where
+    -- by the newest copy of the chunk
     copy-within : copyBy says o n P c h (shownOf P c z) (newestCopy says o c n) ≡ looked.Copy p a s v → (p .0 < n) × (a ≤ P)
     copy-within e = go (newestCopy says o c n) refl e
       where
@@ -101,6 +102,7 @@ module _ (says : ℕ → Record) (o n P : ℕ) where
 
   -- likewise where the chunk is looked up
   module _ (good : badObject o ≡ false) where
+    -- whatever the lookup answers
     looked-within : (c : ℕ) (p : PageNumber) (a s v : ℕ) → lookedOf says o n P c ≡ looked.Copy p a s v → (p .0 < n) × (a ≤ P)
     looked-within c p a s v e =
         by-test (badChunk c) _
@@ -115,15 +117,17 @@ module _ (says : ℕ → Record) (o n P : ℕ) where
             (λ t.
             copy-within c (h .0) (sizeOf says P o (h .0) n) p a s v (sym (looked-inside says o n P c h w (leb-false _ _ t)) ∙ e))
 
-    -- the size, by what the object is
+    -- of what is no file no size
     size-none : (r : Refusal) (v : ℕ) → fileOf says o n ≡ file.Refused r v → sizedOf says o n P ≡ sized.Refused r v
     size-none r v e = size-by-file says o n P good ∙ ap (sizedBy says o n P) e ∙ sized-refused says o n P r v
 
+    -- of a file the size by its newest header
     size-file : (h : PageNumber) (v : ℕ) → fileOf says o n ≡ file.Header h v → sizedOf says o n P ≡ sized.Size (sizeOf says P o (h .0) n) v
     size-file h v e = size-by-file says o n P good ∙ ap (sizedBy says o n P) e ∙ sized-file says o n P h v
 
     -- no bytes are lent of what is no file, nor behind a file's chunks
     module _ (g : Geometry) (dump : List ℕ) (c : ℕ) where
+      -- none of what is no file
       part-none : (r : Refusal) (v : ℕ) → fileOf says o n ≡ file.Refused r v → partBy g dump (lookedOf says o n P c) ≡ []
       part-none r v e =
           by-test (badChunk c) _
@@ -132,6 +136,7 @@ module _ (says : ℕ → Record) (o n P : ℕ) where
           ap (partBy g dump) (chunk-by-file says o n P c good t ∙ ap (lookedBy says o n P c) e ∙ looked-refused says o n P c r v)
           ∙ part-refused g dump r v 0)
 
+      -- none behind a file's chunks
       part-past :
           (h : PageNumber) (v : ℕ) → fileOf says o n ≡ file.Header h v → 0 < P → chunksIn P (sizeOf says P o (h .0) n) < c →
           partBy g dump (lookedOf says o n P c) ≡ []
@@ -166,12 +171,15 @@ module _ (g : Geometry) (dump : List ℕ) (n : ℕ) (e : openedOf g (length dump
   abbrev L : List ℕ
   L = recordsOf says n o
 
+  -- an id is not 0
   pos : 0 < o
   pos = object-within o good .least
 
+  -- the pages of its records fit a word
   pub record-words : (x : ℕ) → In x L → x < wordValues
   record-words x i = let b = recs-of (objects says) (ageOf says) o n x i .0 in omega (arith, pages-most g dump n e)
 
+  -- they are its records by the rules
   own : Listed says says o n top L
   own = added-listed says n (omega (arith, pages-most g dump n e)) (ages-below g dump n e) (λ p. true) o pos
 

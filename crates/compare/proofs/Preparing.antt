@@ -2,13 +2,12 @@
 -- are known, and so is what is left of all three slices.
 use Prim.Native.Nat.{ℕ, _-_, _≤_}
 use mathlib.Core.Bool.{true, false, _&&_}
-use mathlib.Core.List.{List, [], _∷_, _++_, append-nil}
-use mathlib.Core.Path.{_≡_, refl, ap, _∙_}
-use native.Mathlib.Nat.{le-refl}
+use mathlib.Core.List.{List, _∷_, _++_}
+use mathlib.Core.Path.{_≡_}
 use native.Mathlib.Omega.{arith}
 use borrow.Author.Tests.{leb-true}
 use lib.Dec.{leb}
-use lib.ListN.{length, take, drop, replicate, drop-of-length-le}
+use lib.ListN.{length, drop, replicate}
 use Rattle.page.specs.Lengths.{openedOf}
 use Rattle.page.specs.Records.{recordAt}
 use Rattle.page.specs.declared.geometry.Geometry.{Geometry}
@@ -16,23 +15,9 @@ use Rattle.page.specs.declared.geometry.Opened.the-variants as opened
 use Rattle.page.specs.declared.refusal.Refusal.{Refusal}
 use Rattle.page.specs.declared.refusal.Refusal.the-variants.{ShortBuffer}
 use Rattle.page.proofs.Layouts.{and-left, and-right}
-use Rattle.sort.specs.Room.{inRoom, clearedIn}
-use Rattle.sort.proofs.Clearing.{clear-inside}
 use Rattle.compare.specs.Prepared.{order, copies, workFor, isRoom, recordsIn, preparedOn, orderLeft, copiesLeft, workLeft}
 use Rattle.compare.specs.declared.prepare.Prepared.{Prepared}
 use Rattle.compare.specs.declared.prepare.Prepared.the-variants.{Records, Refused}
-
--- ---- words that are cleared whole
-
-room-whole : (words : List ℕ) → inRoom (take 0 words) (length words) words ≡ replicate (length words) 0
-room-whole [] = refl
-room-whole (x ∷ L) =
-    let e : drop (length L) L ≡ [] = drop-of-length-le L (le-refl (length L)) in
-    let m : length (x ∷ L) - 0 ≡ length (x ∷ L) = omega arith in
-    rw (e, append-nil) (ap (λ (k : ℕ). replicate {A = ℕ} k 0) m)
-
-pub cleared-whole : (words after : List ℕ) → after ≡ clearedIn 0 (length words) words → after ≡ replicate (length words) 0
-cleared-whole words after e = e ∙ clear-inside 0 (length words) words (omega arith) (le-refl (length words)) ∙ room-whole words
 
 -- ---- room
 

@@ -1,22 +1,20 @@
--- Exactly what differs is reported: each difference that is reported of an object is so, and each that is so is reported.
+-- Exactly what differs is reported: each difference that is reported of an object is so, and each that is so is reported. The report of an object that
+-- both have is five lists, one for each kind of difference; each list is looked at by itself.
 use Prim.Native.Nat.{ℕ, min}
 use mathlib.Core.Bool.{Bool, true, false, _&&_, and-false}
-use mathlib.Core.List.{List, [], _∷_, _++_, map}
+use mathlib.Core.List.{List, _∷_, _++_, map}
 use mathlib.Core.Logic.{_⊎_, inl, inr, ⊎-elim}
 use mathlib.Core.Option.{Option, none, some}
-use mathlib.Core.Path.{_≡_, refl, ap}
+use mathlib.Core.Path.{_≡_, refl}
 use borrow.Author.Tests.{eqb-false, ne-eqb}
 use lib.Dec.{eqb}
 use Rattle.page.proofs.Searching.{clash, by-test}
+use Rattle.sort.proofs.Making.{in-map, map-in}
+use Rattle.sort.proofs.Times.{joined-in, in-joined}
 use Rattle.sort.specs.Ascending.{In}
 use Rattle.compare.specs.Views.{View}
 use Rattle.compare.specs.Differences.{Side, first, second, Difference, only, deleted, headless, field, sizes, stretch, onOne, lacks, fieldsOf, sizesOf, stretchesOf, differencesOf}
 use Rattle.compare.proofs.Meaning.{FieldDiffers, field-means, means-field, StretchDiffers, stretch-means, means-stretch}
-
--- a difference is in a list
-abbrev pub Has : Difference → List Difference → Type 0
-Has d [] = ⊥
-Has d (e ∷ ds) = (d ≡ e) ⊎ Has d ds
 
 -- of the two, the one of a side, and the other
 abbrev pub ofSide : {A : Type 0} → Side → (one other : A) → A
@@ -73,31 +71,11 @@ module _ (v w : View) where
     in-both : v .has ≡ true → w .has ≡ true → BothDiffer d → IsSo d
     in-one : OneHas d → IsSo d
 
--- ---- lists
-
-has-left : (d : Difference) (L M : List Difference) → Has d L → Has d (L ++ M)
-has-left d [] M i = absurd i
-has-left d (e ∷ L) M (inl q) = inl q
-has-left d (e ∷ L) M (inr i) = inr (has-left d L M i)
-
-has-right : (d : Difference) (L M : List Difference) → Has d M → Has d (L ++ M)
-has-right d [] M i = i
-has-right d (e ∷ L) M i = inr (has-right d L M i)
-
-has-either : (d : Difference) (L M : List Difference) → Has d (L ++ M) → Has d L ⊎ Has d M
-has-either d [] M i = inr i
-has-either d (e ∷ L) M (inl q) = inl (inl q)
-has-either d (e ∷ L) M (inr i) = ⊎-elim (λ k. inl (inr k)) (λ k. inr k) (has-either d L M i)
-
-has-map : (f : ℕ → Difference) (x : ℕ) (L : List ℕ) → In x L → Has (f x) (map f L)
-has-map f x [] i = absurd i
-has-map f x (y ∷ L) (inl e) = inl (ap f e)
-has-map f x (y ∷ L) (inr i) = inr (has-map f x L i)
-
 -- ---- each part says what is so
 
 module _ (P : Difference → Type 0) where
-  one-says : (d : Side → Difference) (t u : Bool) → ((s : Side) → OnlyOn s t u → P (d s)) → (x : Difference) → Has x (onOne d t u) → P x
+  -- what is told of one side is so there only
+  one-says : (d : Side → Difference) (t u : Bool) → ((s : Side) → OnlyOn s t u → P (d s)) → (x : Difference) → In x (onOne d t u) → P x
   one-says d true true f x i = absurd i
   one-says d true false f x (inl e) = rw e (f first (record { here = refl; not-there = refl }))
   one-says d true false f x (inr i) = absurd i
@@ -105,12 +83,12 @@ module _ (P : Difference → Type 0) where
   one-says d false true f x (inr i) = absurd i
   one-says d false false f x i = absurd i
 
-  map-says : (g : ℕ → Difference) (L : List ℕ) → ((y : ℕ) → In y L → P (g y)) → (x : Difference) → Has x (map g L) → P x
-  map-says g [] f x i = absurd i
-  map-says g (y ∷ L) f x (inl e) = rw e (f y (inl refl))
-  map-says g (y ∷ L) f x (inr i) = map-says g L (λ z j. f z (inr j)) x i
+  -- what is told of each of a list
+  map-says : (g : ℕ → Difference) (L : List ℕ) → ((y : ℕ) → In y L → P (g y)) → (x : Difference) → In x (map g L) → P x
+  map-says g L f x i = let m = map-in g x L i in rw (← m .made) (f (m .from) (m .there))
 
-  sizes-says : (s t : Option ℕ) → ((a b : ℕ) → SizesDiffer s t a b → P (sizes a b)) → (x : Difference) → Has x (sizesOf s t) → P x
+  -- two sizes that are told differ
+  sizes-says : (s t : Option ℕ) → ((a b : ℕ) → SizesDiffer s t a b → P (sizes a b)) → (x : Difference) → In x (sizesOf s t) → P x
   sizes-says (some a) (some b) f x i =
       by-test (eqb a b) _
       (λ t. absurd (rw t at i))
@@ -122,7 +100,8 @@ module _ (P : Difference → Type 0) where
   sizes-says (some a) none f x i = absurd i
   sizes-says none t f x i = absurd i
 
-says-one : (d : Side → Difference) (s : Side) (t u : Bool) → OnlyOn s t u → Has (d s) (onOne d t u)
+-- what is so on one side only is told
+says-one : (d : Side → Difference) (s : Side) (t u : Bool) → OnlyOn s t u → In (d s) (onOne d t u)
 says-one d first true false o = inl refl
 says-one d second false true o = inl refl
 says-one d first true true o = let e = o .not-there in clash (cc)
@@ -130,29 +109,35 @@ says-one d second true true o = let e = o .not-there in clash (cc)
 says-one d first false u o = let e = o .here in clash (cc)
 says-one d second t false o = let e = o .here in clash (cc)
 
+-- and is not so on both
 not-both : (s : Side) (t u : Bool) → OnlyOn s t u → t && u ≡ false
 not-both first t u o = rw (o .not-there) (and-false t)
 not-both second t u o = rw (o .not-there)
 
+-- a field that is told differs
 fields-say : (s t : Option (List ℕ)) (at : ℕ) → In at (fieldsOf s t) → FieldsDiffer s t at
 unfolding fieldsOf
 fields-say (some a) (some b) at i = record { a = a; b = b; one-is = refl; other-is = refl; differs = field-means a b at i }
 fields-say (some a) none at i = absurd i
 fields-say none t at i = absurd i
 
+-- and one that differs is told
 say-fields : (s t : Option (List ℕ)) (at : ℕ) → FieldsDiffer s t at → In at (fieldsOf s t)
 say-fields s t at d = rw (d .one-is, d .other-is) (means-field (d .a) (d .b) at (d .differs))
 
-say-sizes : (s t : Option ℕ) (a b : ℕ) → SizesDiffer s t a b → Has (sizes a b) (sizesOf s t)
+-- two sizes that differ are told
+say-sizes : (s t : Option ℕ) (a b : ℕ) → SizesDiffer s t a b → In (sizes a b) (sizesOf s t)
 say-sizes s t a b d = rw (d .one-is, d .other-is, ne-eqb a b (d .apart)) (inl refl)
 
 module _ (f g : ℕ → ℕ) where
+  -- a stretch that is told differs
   stretches-say : (s t : Option ℕ) (k : ℕ) → In k (stretchesOf f g s t) → StretchesDiffer f g s t k
   unfolding stretchesOf
   stretches-say (some a) (some b) k i = record { a = a; b = b; one-is = refl; other-is = refl; differs = stretch-means f g (min a b) k i }
   stretches-say (some a) none k i = absurd i
   stretches-say none t k i = absurd i
 
+  -- and one that differs is told
   say-stretches : (s t : Option ℕ) (k : ℕ) → StretchesDiffer f g s t k → In k (stretchesOf f g s t)
   unfolding stretchesOf
   say-stretches s t k d = rw (d .one-is, d .other-is) (means-stretch f g (min (d .a) (d .b)) k (d .differs))
@@ -177,7 +162,7 @@ module _ (v w : View) where
   E = map stretch (stretchesOf (v .shows) (w .shows) (v .size) (w .size))
 
   -- whatever is reported of it is so
-  both-says : (x : Difference) → Has x (A ++ B ++ C ++ D ++ E) → BothDiffer v w x
+  both-says : (x : Difference) → In x (A ++ B ++ C ++ D ++ E) → BothDiffer v w x
   both-says x i =
       ⊎-elim
       (λ to-D.
@@ -188,27 +173,32 @@ module _ (v w : View) where
       ⊎-elim
       (λ k. one-says (BothDiffer v w) deleted _ _ (λ s o. o) x k)
       (λ k. one-says (BothDiffer v w) headless _ _ (λ s o. o) x k)
-      (has-either x A B to-B))
+      (in-joined x A B to-B))
       (λ k. map-says (BothDiffer v w) field (fieldsOf (v .header) (w .header)) (fields-say (v .header) (w .header)) x k)
-      (has-either x (A ++ B) C to-C))
+      (in-joined x (A ++ B) C to-C))
       (λ k. sizes-says (BothDiffer v w) (v .size) (w .size) (λ a b o. o) x k)
-      (has-either x (A ++ B ++ C) D to-D))
+      (in-joined x (A ++ B ++ C) D to-D))
       (λ k. map-says (BothDiffer v w) stretch (stretchesOf (v .shows) (w .shows) (v .size) (w .size)) (stretches-say (v .shows) (w .shows) (v .size) (w .size)) x k)
-      (has-either x (A ++ B ++ C ++ D) E i)
+      (in-joined x (A ++ B ++ C ++ D) E i)
+
+  -- what is among the first three is among all
+  up-to-fields : (x : Difference) → In x (A ++ B) ⊎ In x C → In x (A ++ B ++ C ++ D ++ E)
+  up-to-fields x i = joined-in x (A ++ B ++ C ++ D) E (inl (joined-in x (A ++ B ++ C) D (inl (joined-in x (A ++ B) C i))))
 
   -- and what is so is reported
-  says-both : (x : Difference) → BothDiffer v w x → Has x (A ++ B ++ C ++ D ++ E)
+  says-both : (x : Difference) → BothDiffer v w x → In x (A ++ B ++ C ++ D ++ E)
   says-both (only s) o = absurd o
   says-both (deleted s) o =
-      has-left _ (A ++ B ++ C ++ D) E (has-left _ (A ++ B ++ C) D (has-left _ (A ++ B) C (has-left _ A B (says-one deleted s _ _ o))))
+      up-to-fields _ (inl (joined-in _ A B (inl (says-one deleted s _ _ o))))
   says-both (headless s) o =
-      has-left _ (A ++ B ++ C ++ D) E (has-left _ (A ++ B ++ C) D (has-left _ (A ++ B) C (has-right _ A B (says-one headless s _ _ o))))
+      up-to-fields _ (inl (joined-in _ A B (inr (says-one headless s _ _ o))))
   says-both (field at) o =
-      has-left _ (A ++ B ++ C ++ D) E (has-left _ (A ++ B ++ C) D (has-right _ (A ++ B) C (has-map field at (fieldsOf (v .header) (w .header)) (say-fields _ _ at o))))
-  says-both (sizes a b) o = has-left _ (A ++ B ++ C ++ D) E (has-right _ (A ++ B ++ C) D (say-sizes _ _ a b o))
-  says-both (stretch k) o = has-right _ (A ++ B ++ C ++ D) E (has-map stretch k (stretchesOf (v .shows) (w .shows) (v .size) (w .size)) (say-stretches (v .shows) (w .shows) _ _ k o))
+      up-to-fields _ (inr (in-map field at (fieldsOf (v .header) (w .header)) (say-fields _ _ at o)))
+  says-both (sizes a b) o = joined-in _ (A ++ B ++ C ++ D) E (inl (joined-in _ (A ++ B ++ C) D (inr (say-sizes _ _ a b o))))
+  says-both (stretch k) o = joined-in _ (A ++ B ++ C ++ D) E (inr (in-map stretch k (stretchesOf (v .shows) (w .shows) (v .size) (w .size)) (say-stretches (v .shows) (w .shows) _ _ k o)))
 
-  pub difference-means : (x : Difference) → Has x (differencesOf v w) → IsSo v w x
+  -- what is reported of an object is so
+  pub difference-means : (x : Difference) → In x (differencesOf v w) → IsSo v w x
   unfolding differencesOf
   difference-means x i =
       by-test (v .has) _
@@ -218,7 +208,8 @@ module _ (v w : View) where
       (λ u. in-one (one-says (OneHas v w) only (v .has) (w .has) (λ s o. o) x (rw (t, u) (rw (t, u) at i)))))
       (λ t. in-one (one-says (OneHas v w) only (v .has) (w .has) (λ s o. o) x (rw t (rw t at i))))
 
-  pub means-difference : (x : Difference) → IsSo v w x → Has x (differencesOf v w)
+  -- and what is so is reported
+  pub means-difference : (x : Difference) → IsSo v w x → In x (differencesOf v w)
   unfolding differencesOf
   means-difference x (in-both t u o) = rw (t, u) (says-both x o)
   means-difference (only s) (in-one o) = rw (not-both s (v .has) (w .has) o) (says-one only s (v .has) (w .has) o)

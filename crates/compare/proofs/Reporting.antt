@@ -19,6 +19,7 @@ use Rattle.page.proofs.Within.{object-within}
 use Rattle.sort.specs.Arranged.{timesIn}
 use Rattle.sort.specs.Ascending.{In, Ascends}
 use Rattle.sort.proofs.Times.{in-times, times-in}
+use Rattle.sort.specs.Lists.{joined}
 use Rattle.chunk.specs.Live.{objectIds}
 use Rattle.chunk.specs.Newest.{records}
 use Rattle.chunk.specs.Records.{isOf}
@@ -27,7 +28,7 @@ use Rattle.chunk.proofs.Living.{record-some, objects-ascend, objects-in, object
 use Rattle.chunk.proofs.Records.{of-object, record-good}
 use Rattle.compare.specs.Views.{View, viewOf}
 use Rattle.compare.specs.Differences.{differencesOf}
-use Rattle.compare.specs.Report.{joined, objectLines, idsIn, objectReport, wholeReport}
+use Rattle.compare.specs.Report.{objectLines, idsIn, objectReport, wholeReport}
 use Rattle.compare.proofs.Ids.{either-in, either-of, either-ascends, either-swap}
 use Rattle.compare.proofs.Same.{joined-nil, itself, empty-report, report-none}
 use Rattle.compare.proofs.Exchanged.{swapped, exchanged}
@@ -71,11 +72,12 @@ module _ (g : Geometry) (dump : List ℕ) (n o : ℕ) where
   pub listed-some : In o ids → records says o n ≡ 0 → ⊥
   listed-some i = let w = objects-of says n o i .1 in record-some says o (w .page) n (w .inside) (w .passes)
 
-  -- so exactly those objects are listed that the dump has
+  -- so the dump has each object that is listed
   pub listed-has : In o ids → viewOf g dump n o .has ≡ true
   unfolding viewOf
   listed-has i = rw (ne-eqb (records says o n) 0 (listed-some i))
 
+  -- and none else
   pub has-listed : viewOf g dump n o .has ≡ true → In o ids
   unfolding viewOf
   has-listed t =
@@ -116,11 +118,12 @@ module _ (g : Geometry) (dump : List ℕ) (n : ℕ) (g′ : Geometry) (dump′ :
   abbrev other : (object : ℕ) → View
   other o = viewOf g′ dump′ n′ o
 
-  -- the ids are those of the objects that one of both has
+  -- an id is that of an object which one of both has
   pub ids-either : (o : ℕ) → In o (idsIn g dump n g′ dump′ n′) → (one o .has ≡ true) ⊎ (other o .has ≡ true)
   unfolding idsIn
   ids-either o i = ⊎-elim (λ k. inl (listed-has g dump n o k)) (λ k. inr (listed-has g′ dump′ n′ o k)) (either-of _ o _ i)
 
+  -- and the other way round
   pub either-ids : (o : ℕ) → (one o .has ≡ true) ⊎ (other o .has ≡ true) → In o (idsIn g dump n g′ dump′ n′)
   unfolding idsIn
   either-ids o h = either-in _ o _ (⊎-elim (λ k. inl (has-listed g dump n o k)) (λ k. inr (has-listed g′ dump′ n′ o k)) h)
@@ -135,7 +138,7 @@ module _ (g : Geometry) (dump : List ℕ) (n : ℕ) (g′ : Geometry) (dump′ :
   unfolding differencesOf
   unseen v w t u = rw (t, u)
 
-  -- the report is empty exactly if no object differs
+  -- where the report is empty no object differs
   pub report-empty : wholeReport g dump n g′ dump′ n′ ≡ [] → (o : ℕ) → differencesOf (one o) (other o) ≡ []
   unfolding wholeReport objectReport
   report-empty e o =
@@ -145,15 +148,17 @@ module _ (g : Geometry) (dump : List ℕ) (n : ℕ) (g′ : Geometry) (dump′ :
       (λ t. there (inl t))
       (λ t. by-test (other o .has) _ (λ u. there (inr u)) (λ u. unseen (one o) (other o) t u))
 
+  -- and the other way round
   pub empty-whole : ((o : ℕ) → differencesOf (one o) (other o) ≡ []) → wholeReport g dump n g′ dump′ n′ ≡ []
   unfolding wholeReport objectReport
   empty-whole f = empty-joined (objectReport g dump n g′ dump′ n′) (idsIn g dump n g′ dump′ n′) (λ o i. report-none o (differencesOf (one o) (other o)) (f o))
 
-  -- both dumps exchanged
+  -- both dumps exchanged have the same ids
   pub ids-exchanged : idsIn g′ dump′ n′ g dump n ≡ idsIn g dump n g′ dump′ n′
   unfolding idsIn
   ids-exchanged = either-swap _ _ (objects-ascend (recordAt g′ dump′) n′) (objects-ascend (recordAt g dump) n)
 
+  -- the report with the sides of each difference exchanged
   pub whole-exchanged :
       wholeReport g′ dump′ n′ g dump n ≡ joined (λ o. objectLines o (map swapped (differencesOf (one o) (other o)))) (idsIn g dump n g′ dump′ n′)
   unfolding wholeReport objectReport

@@ -11,11 +11,12 @@ use borrow.Author.Tests.{eqb-true, eq-eqb}
 use lib.Dec.{eqb}
 use lib.ListN.{length, length-append}
 use Rattle.page.proofs.Searching.{clash, by-test}
+use Rattle.sort.specs.Lists.{joined}
 use Rattle.text.specs.Lines.{newline, fieldOf, lineOf}
 use Rattle.text.specs.Quoted.{bytesOf}
 use Rattle.compare.specs.Views.{View, byteOf}
 use Rattle.compare.specs.Differences.{Side, Difference, deleted, headless, field, stretch, onOne, lacks, fieldsOf, sizesOf, stretchBytes, stretchesIn, stretchDiffers, stretchesOf, differencesOf}
-use Rattle.compare.specs.Report.{linesOf, joined, objectLines}
+use Rattle.compare.specs.Report.{linesOf, objectLines}
 use Rattle.compare.proofs.Passes.{passed-nothing, nothing-passed}
 use Rattle.compare.proofs.Differing.{differ-equal}
 use Rattle.compare.proofs.Meaning.{differ-none, headerLength, leftOut, fields-same, same-fields}
@@ -36,36 +37,42 @@ pub record Same (v w : View) : Type 0 where
 
 -- ---- each part of what differs is empty
 
--- two lists joined are empty exactly if both are
+-- where two lists joined are empty, both are
 pub joined-nil : {A : Type 0} (L M : List A) → L ++ M ≡ [] → (L ≡ []) × (M ≡ [])
 joined-nil [] M e = (refl, e)
 joined-nil (x ∷ L) M e = absurd (cons≢nil e)
 
+-- where nothing is made of a list, the list is empty
 map-nil : {A B : Type 0} (f : A → B) (L : List A) → map f L ≡ [] → L ≡ []
 map-nil f [] e = refl
 map-nil f (x ∷ L) e = absurd (cons≢nil e)
 
+-- nothing is told of one side: it is so on both or on neither
 one-nil : (d : Side → Difference) (t u : Bool) → onOne d t u ≡ [] → t ≡ u
 one-nil d true true e = refl
 one-nil d true false e = absurd (cons≢nil e)
 one-nil d false true e = absurd (cons≢nil e)
 one-nil d false false e = refl
 
+-- and the other way round
 nil-one : (d : Side → Difference) (t u : Bool) → t ≡ u → onOne d t u ≡ []
 nil-one d true true e = refl
 nil-one d true false e = clash (cc)
 nil-one d false true e = clash (cc)
 nil-one d false false e = refl
 
+-- no sizes are told: they are the same
 sizes-nil : (y z : ℕ) → sizesOf (some y) (some z) ≡ [] → y ≡ z
 sizes-nil y z e = by-test (eqb y z) _ (eqb-true y z) (λ t. absurd (cons≢nil (rw t at e)))
 
+-- and the other way round
 nil-sizes : (s t : Option ℕ) → ((y z : ℕ) → s ≡ some y → t ≡ some z → y ≡ z) → sizesOf s t ≡ []
 nil-sizes (some y) (some z) f = rw (eq-eqb y z (f y z refl refl))
 nil-sizes (some y) none f = refl
 nil-sizes none t f = refl
 
 module _ (a b : ℕ → ℕ) where
+  -- no stretch is told: every byte shown is the same
   pub stretches-nil : (y z : ℕ) → stretchesOf a b (some y) (some z) ≡ [] → (x : ℕ) → x < min y z → a x ≡ b x
   unfolding stretchesOf
   stretches-nil y z e x h =
@@ -76,6 +83,7 @@ module _ (a b : ℕ → ℕ) where
       (differ-none a b (stretchBytes * k) (min stretchBytes (m - stretchBytes * k))
       (nothing-passed (stretchDiffers a b m) (λ k. k) (stretchesIn m) e k (omega arith)) (x - stretchBytes * k) (omega arith))
 
+  -- and the other way round
   pub nil-stretches :
       (s t : Option ℕ) → ((y z : ℕ) → s ≡ some y → t ≡ some z → (x : ℕ) → x < min y z → a x ≡ b x) → stretchesOf a b s t ≡ []
   unfolding stretchesOf
@@ -85,6 +93,7 @@ module _ (a b : ℕ → ℕ) where
   nil-stretches (some y) none f = refl
   nil-stretches none t f = refl
 
+-- no byte that is compared differs: no field is told
 nil-fields :
     (s t : Option (List ℕ)) →
     ((a b : List ℕ) → s ≡ some a → t ≡ some b → (x : ℕ) → x < headerLength → leftOut x ≡ false → byteOf a x ≡ byteOf b x) →
@@ -106,7 +115,7 @@ module _ (v w : View) where
       ++ sizesOf (v .size) (w .size)
       ++ map stretch (stretchesOf (v .shows) (w .shows) (v .size) (w .size))
 
-  -- one after the other
+  -- nothing differs: all is the same, part after part
   shown-nil : inBoth ≡ [] → SameShown v w
   shown-nil e =
       let to-stretch = joined-nil _ (map stretch (stretchesOf (v .shows) (w .shows) (v .size) (w .size))) e in
@@ -123,6 +132,7 @@ module _ (v w : View) where
         shown = λ y z p q. stretches-nil (v .shows) (w .shows) y z (rw (p, q) at at-stretches);
       }
 
+  -- and the other way round
   nil-shown : SameShown v w → inBoth ≡ []
   nil-shown s =
       rw (
@@ -133,7 +143,7 @@ module _ (v w : View) where
         nil-stretches (v .shows) (w .shows) (v .size) (w .size) (s .shown),
       )
 
-  -- nothing differs exactly if both show the same
+  -- where nothing differs both show the same
   pub empty-same : differencesOf v w ≡ [] → Same v w
   unfolding differencesOf
   empty-same e =
@@ -147,6 +157,7 @@ module _ (v w : View) where
       (λ u. absurd (cons≢nil (rw (t, u) at e)))
       (λ u. record { has = t ∙ sym u; both = λ p q. let z : true ≡ false = sym p ∙ t in clash (cc) }))
 
+  -- and the other way round
   pub same-empty : Same v w → differencesOf v w ≡ []
   unfolding differencesOf
   same-empty s =
@@ -175,13 +186,14 @@ pub line-some : (key : List ℕ) (n : ℕ) → 0 < length (lineOf key n)
 unfolding lineOf
 line-some key n = rw (length-append (fieldOf key n) (newline ∷ [])) (omega arith)
 
--- so the lines of an object are empty exactly if nothing differs
+-- so where the lines of an object are empty nothing differs
 pub empty-report : (o : ℕ) (ds : List Difference) → objectLines o ds ≡ [] → ds ≡ []
 unfolding objectLines
 empty-report o [] e = refl
 empty-report o (d ∷ ds) e =
     let z = ap length (joined-nil (lineOf (bytesOf "object=") o) (joined linesOf (d ∷ ds)) e .0) in absurd (omega (arith, line-some (bytesOf "object=") o))
 
+-- and the other way round
 pub report-none : (o : ℕ) (ds : List Difference) → ds ≡ [] → objectLines o ds ≡ []
 unfolding objectLines
 report-none o ds e = rw e

@@ -31,6 +31,7 @@ use Rattle.compare.specs.Sides.{rowBegin, rowEnd, standing, stretchBegin
 
 -- ---- lists
 
+-- what holds of each of two lists holds of each of the joined one
 every-joined : (Q : ℕ → Type 0) (A B : List ℕ) → Every Q A → Every Q B → Every Q (A ++ B)
 every-joined Q [] B a b = b
 every-joined Q (x ∷ A) B a b = (a .0, every-joined Q A B (a .1) b)
@@ -123,14 +124,17 @@ module _ (g : Geometry) (dump : List ℕ) where
         abbrev theRow : ℕ
         theRow = packedCopy (record { chunk = c; page = p .0; valid = a })
 
+        -- chunk, page and valid bytes
         told : copyOf theRow ≡ record { chunk = c; page = p .0; valid = a }
         told =
             let w = within c p a s v e in
             copy-told (record { chunk = c; page = p .0; valid = a }) (record { chunk = omega arith; page = omega (arith, w .0); valid = omega (arith, w .1) })
 
+        -- it begins with its chunk
         told-begin : rowBegin P theRow ≡ baseOf P c
         told-begin = ap (λ (x : Copy). baseOf P (x .chunk)) told
 
+        -- and ends with its valid bytes
         told-end : rowEnd P theRow ≡ baseOf P c + a
         told-end = ap (λ (x : Copy). baseOf P (x .chunk) + x .valid) told
 
@@ -159,6 +163,7 @@ module _ (g : Geometry) (dump : List ℕ) where
         abbrev begin : ℕ
         begin = stretchBegin x
 
+        -- the chunk does not begin behind the stretch
         chunk-begins : q * P ≤ begin
         chunk-begins = stretch-in q w P x whole (div-mul-le-self x P)
 

@@ -30,29 +30,33 @@ use Rattle.compare.specs.Parts.{Shows, beginsIn, lineIf}
 use Rattle.compare.specs.Report.{linesOf}
 use Rattle.compare.specs.Sides.{rowBegin, rowEnd, standing, stretchBegin, byteBy, rowsShow}
 use Rattle.compare.proofs.Differing.{differ-same, differ-equal, part-shows}
-use Rattle.compare.proofs.Passing.{linesTo, lines-more}
+use Rattle.compare.proofs.PassedLines.{linesTo, lines-more}
 
 module _ (P : ℕ) where
-  -- a row that ends at or before a position does not stand there, and another does
+  -- a row that ends at or before a position does not stand there
   standing-past : (x r : ℕ) (rows : List ℕ) → rowEnd P r ≤ x → standing P x (r ∷ rows) ≡ standing P x rows
   unfolding standing
   standing-past x r rows h = rw (le-leb _ _ h)
 
+  -- another stands, and all behind it
   standing-first : (x r : ℕ) (rows : List ℕ) → x < rowEnd P r → standing P x (r ∷ rows) ≡ r ∷ rows
   unfolding standing
   standing-first x r rows h = rw (lt-leb _ _ h)
 
+  -- where there are no rows none stands
   standing-nil : (x : ℕ) → standing P x [] ≡ []
   unfolding standing
   standing-nil x = refl
 
-  -- the same of row i of a list, and behind its end
+  -- row i ends there
   pub standing-next : (x i : ℕ) (rows : List ℕ) → i < length rows → rowEnd P (getD rows i 0) ≤ x → standing P x (drop i rows) ≡ standing P x (drop (i + 1) rows)
   standing-next x i rows h e = rw (drop-cons rows i 0 h, standing-past x _ _ e, add-one)
 
+  -- row i stands
   pub standing-here : (x i : ℕ) (rows : List ℕ) → i < length rows → x < rowEnd P (getD rows i 0) → drop i rows ≡ standing P x (drop i rows)
   standing-here x i rows h e = rw (drop-cons rows i 0 h, standing-first x _ _ e)
 
+  -- there is no row i
   pub standing-end : (x i : ℕ) (rows : List ℕ) → length rows ≤ i → drop i rows ≡ standing P x (drop i rows)
   standing-end x i rows h = rw (drop-of-length-le rows h, standing-nil x)
 
@@ -70,6 +74,7 @@ module _ (P : ℕ) where
   pub begins-row : (last i : ℕ) (rows : List ℕ) → i < length rows → beginsIn P last (drop i rows) ≡ rowBegin P (getD rows i 0) / stretchBytes
   begins-row last i rows h = rw (drop-cons rows i 0 h)
 
+  -- where there is none, the last stretch is taken
   pub begins-none : (last i : ℕ) (rows : List ℕ) → length rows ≤ i → beginsIn P last (drop i rows) ≡ last
   begins-none last i rows h = rw (drop-of-length-le rows h)
 
@@ -82,11 +87,12 @@ begin-in : (k i : ℕ) → i < stretchBytes → stretchBegin (stretchBytes * k +
 begin-in k i h = omega arith
 
 module _ (g : Geometry) (dump : List ℕ) where
-  -- what the first of some rows shows in stretch k: nothing but zeros where it begins behind the stretch's begin, and else its valid bytes
+  -- what the first of some rows shows in stretch k: zeros where it begins behind the stretch's begin
   byte-before : (r k i : ℕ) (rows : List ℕ) → i < stretchBytes → stretchBytes * k < rowBegin (g .layout .«data») r → byteBy g dump (r ∷ rows) (stretchBytes * k + i) ≡ 0
   unfolding byteBy
   byte-before r k i rows h l = rw (begin-in k i h, lt-leb _ _ l)
 
+  -- its valid bytes, where it begins before
   byte-within :
       (r k i : ℕ) (rows : List ℕ) →
       i < stretchBytes →
@@ -95,10 +101,11 @@ module _ (g : Geometry) (dump : List ℕ) where
   unfolding byteBy
   byte-within r k i rows h l = rw (begin-in k i h, le-leb _ _ l)
 
-  -- the part that shows it
+  -- the part that shows it: an empty one
   pub part-before : (r k n : ℕ) → n ≤ stretchBytes → stretchBytes * k < rowBegin (g .layout .«data») r → Shows [] (byteBy g dump (r ∷ [])) (stretchBytes * k) n
   part-before r k n h l = record { short = omega arith; at = λ i j. sym (byte-before r k i [] (omega arith) l) }
 
+  -- or its valid bytes from there on
   pub part-within :
       (r k n begin : ℕ) (c : Copy) (bytes part : List ℕ) →
       n ≤ stretchBytes →
@@ -118,11 +125,12 @@ module _ (g : Geometry) (dump : List ℕ) where
             rw p (s .at i j ∙ rw (x, valid, copy, e) (sym (byte-within r k i [] (omega arith) (omega arith))));
       }
 
--- the line of a stretch that differs, and none of one that does not
+-- the line of a stretch that differs
 pub line-differs : (differs : Bool) (k : ℕ) → differs ≡ true → lineIf differs k ≡ lineOf (bytesOf "stretch=") k
 unfolding linesOf
 line-differs differs k e = rw e
 
+-- and none of one that does not differ
 pub line-same : (differs : Bool) (k : ℕ) → differs ≡ false → lineIf differs k ≡ []
 line-same differs k e = rw e
 
@@ -132,18 +140,21 @@ pub record Stands (P : ℕ) (rows : List ℕ) (k i : ℕ) : Type 0 where
   pub found : standing P (stretchBytes * k) rows ≡ standing P (stretchBytes * k) (drop i rows)
 
 module _ (P : ℕ) (rows : List ℕ) where
+  -- at the begin all are left
   pub stands-first : (k : ℕ) → Stands P rows k 0
   stands-first k = record { inside = zero-le; found = refl }
 
-  -- row j is the first that stands: so it is the first for a later stretch too, or one behind it
+  -- row j is the first that stands
   pub stands-at : {k i : ℕ} (j : ℕ) → Stands P rows k i → drop j rows ≡ standing P (stretchBytes * k) (drop i rows) → standing P (stretchBytes * k) rows ≡ drop j rows
   stands-at j s e = s .found ∙ sym e
 
+  -- so for a later stretch the search begins there
   pub stands-on : (k l j : ℕ) → k ≤ l → j ≤ length rows → standing P (stretchBytes * k) rows ≡ drop j rows → Stands P rows l j
   stands-on k l j h n e =
       record { inside = n; found = standing-later P (stretchBytes * k) (stretchBytes * l) rows (omega arith) ∙ ap (standing P (stretchBytes * l)) e }
 
 module _ (g : Geometry) (dump : List ℕ) where
+  -- a copy without bytes shows none
   no-bytes : (p : ℕ) → validPart g dump p 0 ≡ []
   unfolding validPart
   no-bytes p = by-test (pageIn g (length dump) p && leb 0 (g .layout .«data»)) _ (λ t. rw t) (λ t. rw t)
@@ -153,6 +164,7 @@ module _ (g : Geometry) (dump : List ℕ) where
   unfolding byteBy
   byte-none x = by-test (leb (rowBegin (g .layout .«data») 0) (stretchBegin x)) _ (λ t. rw (t, no-bytes)) (λ t. rw t)
 
+  -- so what the rows from i on show is what row i does
   byte-row : (i x : ℕ) (rows : List ℕ) → byteBy g dump (drop i rows) x ≡ byteBy g dump (getD rows i 0 ∷ []) x
   unfolding byteBy
   byte-row i x rows =

@@ -5,8 +5,7 @@ use mathlib.Core.Bool.{false}
 use mathlib.Core.List.{List, []}
 use mathlib.Core.Logic.{_⊎_, ⊎-elim}
 use mathlib.Core.Path.{_≡_, sym, ap, ap₂, _∙_}
-use native.Mathlib.Omega.{arith}
-use lib.ListN.{length, length-append, length-map, length-replicate}
+use lib.ListN.{length, length-map}
 use Rattle.page.specs.Lengths.{openedOf}
 use Rattle.page.specs.Numbers.{badObject}
 use Rattle.page.specs.Records.{recordAt}
@@ -14,14 +13,15 @@ use Rattle.page.specs.declared.geometry.Geometry.{Geometry}
 use Rattle.page.specs.declared.geometry.Opened.the-variants as opened
 use Rattle.page.specs.declared.record.Record.{Record}
 use Rattle.sort.specs.Ascending.{In}
+use Rattle.sort.specs.Packed.{packed}
 use Rattle.chunk.specs.Live.{objectIds}
 use Rattle.chunk.proofs.Living.{objects-ascend}
 use Rattle.compare.specs.Views.{viewOf}
 use Rattle.compare.specs.Report.{reportOf, inEither, idsIn, objectReport, wholeReport}
 use Rattle.compare.specs.Lists.{sidesReport, listsReport}
 use Rattle.compare.specs.Sides.{sideOf}
-use Rattle.compare.specs.Prepared.{recordsOf, orderOf, order, rowsOf, copiesOf, copies}
-use Rattle.compare.proofs.Copying.{rows-few}
+use Rattle.compare.specs.Prepared.{recordsOf, orderOf, order, copiesOf, copies}
+use Rattle.compare.proofs.Filling.{copies-length}
 use Rattle.compare.proofs.Ids.{either-of}
 use Rattle.compare.proofs.Joining.{length-none}
 use Rattle.compare.proofs.Running.{keys-back}
@@ -40,7 +40,7 @@ module _ (g : Geometry) (dump : List ℕ) (n : ℕ) (e : openedOf g (length dump
 
   -- an object's rows have as many words as its records
   copies-long : length (copiesOf says n P o) ≡ length (orderOf says n o)
-  copies-long = length-append (rowsOf says n P o) _ ∙ rw (length-replicate, length-map) (omega (arith, rows-few g dump n e o good P))
+  copies-long = copies-length g dump n P e o good ∙ sym (length-map (recordsOf says n o) (packed o))
 
   -- so the words of each are as the walk takes them
   object-words : Words (objectIds says n) (orderOf says n) (copiesOf says n P) o

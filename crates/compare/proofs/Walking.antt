@@ -14,8 +14,9 @@ use Rattle.sort.specs.Arranged.{Every}
 use Rattle.sort.specs.Ascending.{In, Ascends}
 use Rattle.sort.specs.Packed.{keyOf}
 use Rattle.sort.proofs.Ascending.{ascends-in, ascends-lower}
+use Rattle.sort.specs.Lists.{joined}
 use Rattle.text.proofs.Order.{le-or-lt}
-use Rattle.compare.specs.Report.{joined, inEither}
+use Rattle.compare.specs.Report.{inEither}
 use Rattle.compare.specs.Lists.{runOf, nextOf, sidesReport, reportsTo}
 use Rattle.compare.proofs.Ids.{either-left, either-less, either-both, either-more}
 use Rattle.compare.proofs.Listing.{reports-turn}
@@ -32,25 +33,28 @@ abbrev Later : (object : ℕ) (words : List ℕ) → Type 0
 Later o [] = Unit {0}
 Later o (w ∷ L) = o < keyOf w
 
--- how many words at the front are of object o
+-- later words are not of object o
 run-later : (o : ℕ) (L : List ℕ) → Later o L → runOf o L ≡ 0
 run-later o [] h = run-none o
 run-later o (w ∷ L) h = run-other o w L (λ e. omega arith)
 
+-- words of the object, and then later ones: as many as those of the object
 run-own : (o : ℕ) (M L : List ℕ) → Keyed o M → Later o L → runOf o (M ++ L) ≡ length M
 run-own o M L k h = run-keyed o M L k ∙ omega (arith, run-later o L h)
 
--- the next object: that of the first list, of the second, or of both
+-- the next object: that of the first list
 next-first : (o : ℕ) (M L L′ : List ℕ) → Keyed o M → (length M ≡ 0 → ⊥) → Later o L′ → nextOf (M ++ L) L′ ≡ o
 next-first o [] L L′ k s h = absurd (s refl)
 next-first o (w ∷ M) L [] k s h = k .0
 next-first o (w ∷ M) L (v ∷ L′) k s h = omega (arith, k .0)
 
+-- of the second
 next-second : (o : ℕ) (L M′ L′ : List ℕ) → Keyed o M′ → (length M′ ≡ 0 → ⊥) → Later o L → nextOf L (M′ ++ L′) ≡ o
 next-second o L [] L′ k s h = absurd (s refl)
 next-second o [] (w ∷ M′) L′ k s h = k .0
 next-second o (v ∷ L) (w ∷ M′) L′ k s h = omega (arith, k .0)
 
+-- of both
 next-both :
     (o : ℕ) (M L M′ L′ : List ℕ) → Keyed o M → (length M ≡ 0 → ⊥) → Keyed o M′ → (length M′ ≡ 0 → ⊥) → nextOf (M ++ L) (M′ ++ L′) ≡ o
 next-both o [] L M′ L′ k s j t = absurd (s refl)

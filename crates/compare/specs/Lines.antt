@@ -6,11 +6,12 @@ use mathlib.Core.Option.{Option}
 use Rattle.page.specs.Choice.{pick}
 use Rattle.page.specs.Records.{recordAt}
 use Rattle.page.specs.declared.geometry.Geometry.{Geometry}
+use Rattle.sort.specs.Lists.{joined}
 use Rattle.text.specs.Lines.{lineOf}
 use Rattle.text.specs.Quoted.{bytesOf}
 use Rattle.compare.specs.Differences.{lacks, fieldDiffers, fieldsOf, sizesOf, stretchesOf, field, stretch, first, second}
 use Rattle.compare.specs.Fields.{placeOf}
-use Rattle.compare.specs.Report.{linesOf, joined, sideNumber}
+use Rattle.compare.specs.Report.{linesOf, sideNumber}
 use Rattle.compare.specs.Views.{bytesOn, isDeleted}
 
 -- the line of field i, if it differs

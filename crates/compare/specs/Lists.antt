@@ -9,6 +9,8 @@ use Rattle.page.specs.declared.geometry.Geometry.{Geometry}
 use Rattle.sort.specs.Packed.{keyOf}
 use Rattle.compare.specs.Report.{reportOf}
 use Rattle.compare.specs.Sides.{sideOf}
+use Rattle.compare.specs.declared.answer.Which.{Which}
+use Rattle.compare.specs.declared.answer.Which.the-variants as which
 use Rattle.compare.specs.declared.whole.Turn.{Turn}
 
 -- how many words at the front of a list are of object o
@@ -43,6 +45,11 @@ module _ (g : Geometry) (dump : List ℕ) (g′ : Geometry) (dump′ : List ℕ)
   -- those of all: no more than there are words
   unfoldable pub listsReport : (order copies order′ copies′ : List ℕ) → List ℕ
   listsReport L C L′ C′ = reportsTo (length L + length L′) L C L′ C′
+
+  -- the one that is asked for
+  abbrev pub askedReport : Which → (order copies order′ copies′ : List ℕ) → List ℕ
+  askedReport which.All L C L′ C′ = listsReport L C L′ C′
+  askedReport (which.One o) L C L′ C′ = sidesReport (o .0) L C L′ C′
 
 -- the object that comes next, and how many words at the front of each list are of it
 abbrev pub nextIn : (one other : List ℕ) → Turn

@@ -12,6 +12,7 @@ use Rattle.page.specs.Search.{count}
 use Rattle.page.specs.declared.geometry.Geometry.{Geometry}
 use Rattle.page.specs.declared.record.Record.{Record}
 use Rattle.page.specs.declared.refusal.Refusal.the-variants.{ShortBuffer}
+use Rattle.sort.specs.Lists.{joined}
 use Rattle.sort.specs.Packed.{packed}
 use Rattle.sort.specs.Room.{inRoom}
 use Rattle.chunk.specs.Answers.{onPages}
@@ -25,7 +26,6 @@ use Rattle.index.specs.Chains.{objects}
 use Rattle.index.specs.Held.{recs}
 use Rattle.file.specs.Copies.{copiesTo, packedCopy}
 use Rattle.file.specs.Table.{chunksIn}
-use Rattle.compare.specs.Report.{joined}
 use Rattle.compare.specs.declared.prepare.Prepared.{Prepared}
 use Rattle.compare.specs.declared.prepare.Prepared.the-variants.{Records, Refused}
 

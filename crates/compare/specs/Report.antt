@@ -2,10 +2,10 @@
 use Prim.Native.Nat.{ℕ}
 use mathlib.Core.List.{List, [], _∷_, _++_}
 use lib.Dec.{eqb}
-use Rattle.page.specs.Choice.{pick}
 use Rattle.page.specs.Records.{recordAt}
 use Rattle.page.specs.declared.geometry.Geometry.{Geometry}
 use Rattle.sort.specs.Arranged.{arranged, timesIn}
+use Rattle.sort.specs.Lists.{keep, joined}
 use Rattle.chunk.specs.Live.{objectIds}
 use Rattle.text.specs.Lines.{lineOf}
 use Rattle.text.specs.Quoted.{bytesOf}
@@ -26,11 +26,6 @@ linesOf (field at) = lineOf (bytesOf "field=") at
 linesOf (sizes a b) = lineOf (bytesOf "size=") a ++ lineOf (bytesOf "size=") b
 linesOf (stretch k) = lineOf (bytesOf "stretch=") k
 
--- what each of a list gives, one behind the other
-unfoldable pub joined : {A : Type 0} → (A → List ℕ) → List A → List ℕ
-joined f [] = []
-joined f (x ∷ rest) = f x ++ joined f rest
-
 -- the lines of object o: none where nothing differs
 unfoldable pub objectLines : (object : ℕ) → List Difference → List ℕ
 objectLines o [] = []
@@ -42,8 +37,7 @@ reportOf o v w = objectLines o (differencesOf v w)
 
 -- the ids of a second list that a first does not have
 unfoldable pub others : (ids more : List ℕ) → List ℕ
-others ids [] = []
-others ids (x ∷ more) = let rest = others ids more in pick (eqb (timesIn x ids) 0) (x ∷ rest) rest
+others ids more = keep (λ x. eqb (timesIn x ids) 0) more
 
 -- the ids in either of two lists, ascending
 unfoldable pub inEither : (one other : List ℕ) → List ℕ

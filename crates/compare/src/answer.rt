@@ -1,5 +1,12 @@
-// What became of two dumps and of a report of them.
+// What is asked of two dumps, and what became of them and of the report.
+use page::number::ObjectId;
 use page::refusal::Refusal;
+
+// Which report is asked for: that of all objects, or that of one.
+pub enum Which {
+    All,
+    One(ObjectId),
+}
 
 // How many bytes were written; or a refusal, with the bytes that ShortBuffer needs.
 pub enum Compared {

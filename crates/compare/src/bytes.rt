@@ -2,23 +2,17 @@
 // processor does many of them at a time.
 ghost use mathlib.Core.Bool.{not};
 ghost use mathlib.Core.Path.{_≡_};
-ghost use Prim.Native.Nat.{min, max, _+_, _≤_};
+ghost use Prim.Native.Nat.{max, _+_, _≤_};
 ghost use lib.Dec.{eqb};
 ghost use lib.ListN.{length, take, drop};
 ghost use Rattle.page.specs.Search.{more};
 ghost use Rattle.compare.specs.Views.{byteOf};
 ghost use Rattle.compare.specs.Differences.{differIn};
 ghost use Rattle.compare.specs.Parts.{block, differing, zeros};
+use chunk::record::lesser;
 
 // The bytes of a block: no more than fit the count.
 const BLOCK: usize = 128;
-
-// The lesser of two numbers.
-pub(crate) fn lesser(a: usize, b: usize) -> usize
-    ensures { λ r. ⌜ r ≡ min a b ⌝ }
-{
-    if a < b { a } else { b }
-}
 
 // So many bytes from a place on, as many of them as there are.
 pub(crate) fn part(bytes: &[u8], from: usize, n: usize) -> &[u8]

@@ -2,11 +2,12 @@
 ghost use mathlib.Core.List.{map};
 ghost use mathlib.Core.Path.{_≡_};
 ghost use Prim.Native.Nat.{_<_};
+ghost use Rattle.sort.specs.Lists.{joined};
 ghost use Rattle.chunk.specs.Live.{passed};
 ghost use Rattle.text.specs.Put.{Put};
 ghost use Rattle.compare.specs.Differences.{field, fieldDiffers};
 ghost use Rattle.compare.specs.Fields.{fields, placeOf, lengthOf};
-ghost use Rattle.compare.specs.Report.{linesOf, joined};
+ghost use Rattle.compare.specs.Report.{linesOf};
 ghost use Rattle.compare.specs.Lines.{fieldLines};
 use crate::bytes::differ;
 use crate::bytes::part;

@@ -7,13 +7,13 @@ ghost use mathlib.Core.List.{map};
 ghost use Rattle.sort.specs.Packed.{valueOf};
 ghost use Rattle.compare.specs.Views.{isDeleted};
 ghost use Rattle.compare.specs.Differences.{lacks};
-ghost use Rattle.chunk.specs.Records.{isGone, isFile};
+ghost use Rattle.chunk.specs.Records.{isFile};
 ghost use Rattle.compare.specs.Heads.{headFrom, pageOf, sizeBy, sizeAs, headBytes};
 use chunk::answer::Looked;
 use chunk::read::part_of;
 use chunk::record::FILE;
 use chunk::record::file_size;
-use chunk::record::gone_under;
+use chunk::record::is_gone;
 use chunk::record::is_header;
 use chunk::record::larger;
 use index::walks::end_with;
@@ -34,17 +34,6 @@ pub enum Head {
 pub enum Size {
     Bytes(u64),
     Nothing,
-}
-
-// Whether a page is the header of an unlinked or deleted object.
-fn is_gone(r: Record) -> bool
-    ensures { λ b. ⌜ b ≡ isGone r ⌝ }
-{
-    match r {
-        Record::Other => false,
-        Record::Header(h) => gone_under(h.parent),
-        Record::Data(_) => false,
-    }
 }
 
 // Whether a page is the header of a file.

@@ -3,11 +3,12 @@
 ghost use mathlib.Core.Path.{_≡_};
 ghost use mathlib.Core.List.{[], _∷_, map};
 ghost use Prim.Native.Nat.{min, max, _+_, _-_, _*_, _≤_, _<_, _^_};
-ghost use lib.ListN.{length, drop, getD};
+ghost use lib.ListN.{length, drop};
+ghost use Rattle.sort.specs.Lists.{joined};
 ghost use Rattle.text.specs.Put.{Put};
 ghost use Rattle.compare.specs.Differences.{stretch, stretchBytes, stretchesIn, stretchDiffers, stretchesTo};
 ghost use Rattle.compare.specs.Parts.{Shows, beginsIn, lineIf};
-ghost use Rattle.compare.specs.Report.{linesOf, joined};
+ghost use Rattle.compare.specs.Report.{linesOf};
 ghost use Rattle.compare.specs.Sides.{rowBegin, rowEnd, standing, byteBy, rowsShow};
 use crate::bytes::differ;
 use crate::bytes::part;
@@ -20,6 +21,7 @@ use file::copy::Copy;
 use page::geometry::Geometry;
 use page::number::ChunkNumber;
 use page::number::PageNumber;
+use sort::rows::row_at;
 use text::put::put_line;
 
 // The bytes of a stretch.
@@ -48,16 +50,6 @@ fn end_of(g: Geometry, row: u64) -> u64
     ensures { λ r. ⌜ r ≡ rowEnd (g .layout .«data») row ⌝ }
 {
     begin_of(g, row) + (Copy::of(row).valid as u64)
-}
-
-// Row i; where there is none 0, the row of a copy without bytes.
-fn row_at(rows: &[u64], i: usize) -> u64
-    ensures { λ r. ⌜ r ≡ getD (now (rows .entry)) i 0 ⌝ }
-{
-    if i < rows.len() {
-        return rows[i];
-    }
-    0
 }
 
 // The place of the first row, from a place on, that does not end at or before stretch k; behind the last row where there is none.
@@ -136,7 +128,7 @@ fn put_stretch(
     at
 }
 
-// Puts the lines of the stretches that differ, up to the size m.
+// Puts the lines of the stretches that differ, up to the size m. Where no row stands any more, 0 is the row of a copy without bytes.
 pub(crate) fn put_stretches(
     dump: &[u8],
     g: Geometry,

@@ -3,6 +3,7 @@ ghost use mathlib.Core.Path.{_≡_};
 ghost use Prim.Native.Nat.{_+_, _≤_, min};
 ghost use lib.ListN.{length, take, drop};
 ghost use Rattle.page.specs.Lengths.{openedOf};
+ghost use Rattle.sort.specs.Lists.{joined};
 ghost use Rattle.text.specs.Lines.{lineOf};
 ghost use Rattle.text.specs.Put.{Put};
 ghost use Rattle.text.specs.Quoted.{bytesOf};
@@ -11,12 +12,12 @@ ghost use Rattle.compare.specs.Answers.{earlierOf, bothOf, comparedBy, c
 ghost use Rattle.compare.specs.Bounds.{mostOf, Small};
 ghost use Rattle.compare.specs.Differences.{differencesOf};
 ghost use Rattle.compare.specs.Heads.{sizeAs};
-ghost use Rattle.compare.specs.Report.{linesOf, joined};
+ghost use Rattle.compare.specs.Report.{linesOf};
 ghost use Rattle.compare.specs.Sides.{sideOf};
-ghost use Rattle.compare.specs.Lists.{nextOf, nextIn, sidesReport, listsReport};
+ghost use Rattle.compare.specs.Lists.{nextOf, nextIn, sidesReport, listsReport, askedReport};
 use crate::answer::Both;
 use crate::answer::Compared;
-use crate::bytes::lesser;
+use crate::answer::Which;
 use crate::head::Size;
 use crate::head::head_of;
 use crate::object::put_differences;
@@ -24,6 +25,7 @@ use crate::object::put_name;
 use crate::object::put_object;
 use crate::runs::run_of;
 use crate::stretches::stretches_in;
+use chunk::record::lesser;
 use chunk::record::smaller;
 use page::geometry::Geometry;
 use page::geometry::Opened;
@@ -279,6 +281,28 @@ fn write_object(
     write_measured(o, dump, g, order, rows, dump2, g2, order2, rows2, buf)
 }
 
+// Writes the report that is asked for, if it fits.
+fn write_asked(
+    w: Which,
+    dump: &[u8],
+    g: Geometry,
+    order: &[u64],
+    rows: &[u64],
+    dump2: &[u8],
+    g2: Geometry,
+    order2: &[u64],
+    rows2: &[u64],
+    buf: &mut [u8],
+) -> Written
+    ensures { λ r. ⌜ r ≡ writtenBy (length (now (buf .entry))) (askedReport g (now (dump .entry)) g2 (now (dump2 .entry)) w (now (order .entry)) (now (rows .entry)) (now (order2 .entry)) (now (rows2 .entry))) ⌝ }
+    ensures { λ _. ⌜ now (buf .exit) ≡ bytesBy (askedReport g (now (dump .entry)) g2 (now (dump2 .entry)) w (now (order .entry)) (now (rows .entry)) (now (order2 .entry)) (now (rows2 .entry))) (now (buf .entry)) ⌝ }
+{
+    match w {
+        Which::All => write_reports(dump, g, order, rows, dump2, g2, order2, rows2, buf),
+        Which::One(o) => write_object(o, dump, g, order, rows, dump2, g2, order2, rows2, buf),
+    }
+}
+
 // The answer by what became of a text.
 fn compared_by(w: Written) -> Compared
     ensures { λ r. ⌜ r ≡ comparedBy w ⌝ }
@@ -317,8 +341,10 @@ fn both(g: Geometry, bytes: usize, g2: Geometry, bytes2: usize) -> Both
     }
 }
 
-// Writes the whole report of two dumps by the words that they were prepared to, if it fits.
+// Writes the report of two dumps that is asked for, by the words that they were prepared to, if it fits. For one object these are its words on each
+// side.
 pub fn compare(
+    w: Which,
     dump: &[u8],
     g: Geometry,
     order: &[u64],
@@ -329,47 +355,14 @@ pub fn compare(
     rows2: &[u64],
     buf: &mut [u8],
 ) -> Compared
-    ensures { λ r. ⌜ r ≡ comparedOn g (length (now (dump .entry))) g2 (length (now (dump2 .entry))) (listsReport g (now (dump .entry)) g2 (now (dump2 .entry)) (now (order .entry)) (now (rows .entry)) (now (order2 .entry)) (now (rows2 .entry))) (length (now (buf .entry))) ⌝ }
-    ensures { λ _. ⌜ now (buf .exit) ≡ bytesLeft g (length (now (dump .entry))) g2 (length (now (dump2 .entry))) (listsReport g (now (dump .entry)) g2 (now (dump2 .entry)) (now (order .entry)) (now (rows .entry)) (now (order2 .entry)) (now (rows2 .entry))) (now (buf .entry)) ⌝ }
+    ensures { λ r. ⌜ r ≡ comparedOn g (length (now (dump .entry))) g2 (length (now (dump2 .entry))) (askedReport g (now (dump .entry)) g2 (now (dump2 .entry)) w (now (order .entry)) (now (rows .entry)) (now (order2 .entry)) (now (rows2 .entry))) (length (now (buf .entry))) ⌝ }
+    ensures { λ _. ⌜ now (buf .exit) ≡ bytesLeft g (length (now (dump .entry))) g2 (length (now (dump2 .entry))) (askedReport g (now (dump .entry)) g2 (now (dump2 .entry)) w (now (order .entry)) (now (rows .entry)) (now (order2 .entry)) (now (rows2 .entry))) (now (buf .entry)) ⌝ }
 {
     let b = both(g, dump.len(), g2, dump2.len());
     match b {
         Both::Refused(r) => Compared::Refused(r, 0),
-        Both::Accepted => compared_by(write_reports(
-            dump,
-            g,
-            order,
-            rows,
-            dump2,
-            g2,
-            order2,
-            rows2,
-            buf,
-        )),
-    }
-}
-
-// Writes the report of object o by its words on each side, if it fits.
-pub fn compare_object(
-    o: ObjectId,
-    dump: &[u8],
-    g: Geometry,
-    order: &[u64],
-    rows: &[u64],
-    dump2: &[u8],
-    g2: Geometry,
-    order2: &[u64],
-    rows2: &[u64],
-    buf: &mut [u8],
-) -> Compared
-    ensures { λ r. ⌜ r ≡ comparedOn g (length (now (dump .entry))) g2 (length (now (dump2 .entry))) (sidesReport g (now (dump .entry)) g2 (now (dump2 .entry)) (o .0) (now (order .entry)) (now (rows .entry)) (now (order2 .entry)) (now (rows2 .entry))) (length (now (buf .entry))) ⌝ }
-    ensures { λ _. ⌜ now (buf .exit) ≡ bytesLeft g (length (now (dump .entry))) g2 (length (now (dump2 .entry))) (sidesReport g (now (dump .entry)) g2 (now (dump2 .entry)) (o .0) (now (order .entry)) (now (rows .entry)) (now (order2 .entry)) (now (rows2 .entry))) (now (buf .entry)) ⌝ }
-{
-    let b = both(g, dump.len(), g2, dump2.len());
-    match b {
-        Both::Refused(r) => Compared::Refused(r, 0),
-        Both::Accepted => compared_by(write_object(
-            o,
+        Both::Accepted => compared_by(write_asked(
+            w,
             dump,
             g,
             order,

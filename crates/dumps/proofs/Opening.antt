@@ -45,22 +45,25 @@ slice-val s = sliceVal (s .ptr) (length (s .now))
 abbrev pub is-made : RefT (List ℕ) → Geometry → OpenDump → Type 0
 is-made s g r = (r .bytes ≡ s) × (r .geometry ≡ g)
 
--- what is so of an open dump is so of its slice and geometry; of two
+-- what is so of an open dump is so of its slice and geometry
 pub of-part : (Φ : RefT (List ℕ) → Geometry → Type 0) (s : RefT (List ℕ)) (g : Geometry) (r : OpenDump) → is-made s g r
     → Φ (r .bytes) (r .geometry) → Φ s g
 of-part Φ s g r e x = subst (λ m. Φ s m) (e .1) (subst (λ t. Φ t (r .geometry)) (e .0) x)
 
+-- the same of two
 pub of-parts : (Φ : RefT (List ℕ) → Geometry → RefT (List ℕ) → Geometry → Type 0) (s s′ : RefT (List ℕ)) (g g′ : Geometry) (r r′ : OpenDump)
     → is-made s g r → is-made s′ g′ r′ → Φ (r .bytes) (r .geometry) (r′ .bytes) (r′ .geometry) → Φ s g s′ g′
 of-parts Φ s s′ g g′ r r′ e e′ x = of-part (λ t m. Φ s g t m) s′ g′ r′ e′ (of-part (λ t m. Φ t m (r′ .bytes) (r′ .geometry)) s g r e x)
 
--- an open dump's type at a lifetime as `open` gives it back, and as a local of a body has it; and what it owns
+-- an open dump's type at a lifetime as `open` gives it back
 abbrev given-back : Lft → NamedLft
 given-back κ = namedLft 1 0 tt (κ, tt)
 
+-- and as a local of a body has it
 abbrev pub in-local : Lft → NamedLft
 in-local κ = record { mir = erased; lft = κ }
 
+-- what it owns
 abbrev pub dump-own : Lft → OpenDump → Val → Fml
 dump-own κ r u = T.the-row (given-back κ) .own r (u ∷ [])
 
@@ -93,15 +96,18 @@ module _ {M : Type 1} (𝓤 : URA M) (H : Heap 𝓤) (A : Atoms 𝓤) (W : Given
         answered 𝓤 H A W opens.ended (opens.clauses 𝓤 H A mem run) (to-open κ t s g) u k tt (is-made s g) (λ r ws. id⊢ 𝓤 _) (λ r e.
         peeks k (T.the-row (given-back κ)) (Is (T.the-row (given-back κ))) (shows 𝓤 H A (T.the-row (given-back κ))) r (u ∷ []) (λ is. next u r e is)))
 
+  -- what there is, with nothing beside it
   alone : (P : SProp 𝓤) → ent 𝓤 P (sep 𝓤 P (emp 𝓤))
   alone P = via 𝓤 (sep 𝓤 (emp 𝓤) P) (emp∗ 𝓤 P) (comm∗ 𝓤 (emp 𝓤) P)
 
+  -- what a dump's slice and its geometry own
   abbrev slice-own : Lft → RefT (List ℕ) → Fml
   slice-own κ s = ShrSlice (named 0) κ u8 .own s (slice-val s ∷ [])
 
   abbrev geometry-own : Geometry → Fml
   geometry-own g = P.the-row .own g (P′.lowered g ∷ [])
 
+  -- a token, a slice and a geometry are what `open` asks
   opening : (κ : Lft) (q : Share) (s : RefT (List ℕ)) (g : Geometry)
       → ent 𝓤 (sep 𝓤 (A .lft κ q) (sep 𝓤 (sem 𝓤 H A (slice-own κ s)) (sem 𝓤 H A (geometry-own g)))) (asks κ q s g)
   opening κ q s g =
@@ -114,6 +120,7 @@ module _ {M : Type 1} (𝓤 : URA M) (H : Heap 𝓤) (A : Atoms 𝓤) (W : Given
     abbrev pub behind : Item 𝓤
     behind = ‵ Z ⊛ raw (toks 𝓤 A n (κs .1) (qs .1))
 
+    -- what there is on entry is what `open` asks, and the others
     pub parted-one : (s : RefT (List ℕ)) (g : Geometry)
         → ent 𝓤 (sep 𝓤 (toks 𝓤 A (suc n) κs qs) (sem 𝓤 H A (fsep (slice-own (κs .0) s) (fsep (geometry-own g) Z)))) (mean 𝓤 H A (raw (asks (κs .0) (qs .0) s g) ⊛ behind))
     parted-one s g =
@@ -123,6 +130,7 @@ module _ {M : Type 1} (𝓤 : URA M) (H : Heap 𝓤) (A : Atoms 𝓤) (W : Given
         -- [the geometry; Z; the slice; the tokens]
         move ! (3 ∷ 2 ∷ 0 ∷ []) $ use3 W (raw (asks (κs .0) (qs .0) s g)) (opening (κs .0) (qs .0) s g) $ done !
 
+    -- and with something in the dump's place it is what the next call asks
     pub rejoined-one : (D : Fml)
         → ent 𝓤 (mean 𝓤 H A (‵ D ⊛ (raw (token 𝓤 A (κs .0) (qs .0)) ⊛ behind))) (sep 𝓤 (toks 𝓤 A (suc n) κs qs) (sem 𝓤 H A (fsep D Z)))
     rejoined-one D =
@@ -136,7 +144,8 @@ module _ {M : Type 1} (𝓤 : URA M) (H : Heap 𝓤) (A : Atoms 𝓤) (W : Given
     others =
         ‵ X ⊛ (‵ Y ⊛ (‵ Z ⊛ (raw (A .lft (κs .1 .0) (qs .1 .0)) ⊛ (raw (A .lft (κs .1 .1 .0) (qs .1 .1 .0)) ⊛ raw (toks 𝓤 A 3 (κs .1 .1 .1 .1) (qs .1 .1 .1 .1))))))
 
-    pub parted : (s s′ : RefT (List ℕ)) (g g′ : Geometry)
+    -- what there is on entry is what both calls of `open` ask, and the others
+    parted : (s s′ : RefT (List ℕ)) (g g′ : Geometry)
         → ent 𝓤 (sep 𝓤 (toks 𝓤 A 7 κs qs) (sem 𝓤 H A (fsep (slice-own (κs .0) s) (fsep (geometry-own g) (fsep X (fsep Y (fsep (slice-own (κs .1 .1 .1 .0) s′) (fsep (geometry-own g′) Z))))))))
         (mean 𝓤 H A (raw (asks (κs .0) (qs .0) s g) ⊛ (raw (asks (κs .1 .1 .1 .0) (qs .1 .1 .1 .0) s′ g′) ⊛ others)))
     parted s s′ g g′ =
@@ -152,7 +161,8 @@ module _ {M : Type 1} (𝓤 : URA M) (H : Heap 𝓤) (A : Atoms 𝓤) (W : Given
         move ! (9 ∷ 5 ∷ 4 ∷ []) $ use3 W (raw (asks (κs .0) (qs .0) s g)) (opening (κs .0) (qs .0) s g) $
         move ! (0 ∷ 1 ∷ 4 ∷ 3 ∷ 2 ∷ 7 ∷ 6 ∷ 5 ∷ []) $ done !
 
-    pub rejoined : (D D′ : Fml)
+    -- and with something in the place of each dump it is what the next call asks
+    rejoined : (D D′ : Fml)
         → ent 𝓤 (mean 𝓤 H A (‵ D ⊛ (raw (token 𝓤 A (κs .0) (qs .0)) ⊛ (‵ D′ ⊛ (raw (token 𝓤 A (κs .1 .1 .1 .0) (qs .1 .1 .1 .0)) ⊛ others)))))
         (sep 𝓤 (toks 𝓤 A 7 κs qs) (sem 𝓤 H A (fsep D (fsep X (fsep Y (fsep D′ Z))))))
     rejoined D D′ =
@@ -163,7 +173,7 @@ module _ {M : Type 1} (𝓤 : URA M) (H : Heap 𝓤) (A : Atoms 𝓤) (W : Given
         move ! (3 ∷ 6 ∷ []) $ fjoin ! $ move ! (5 ∷ 0 ∷ []) $ fjoin ! $ move ! (4 ∷ 0 ∷ []) $ fjoin ! $ move ! (3 ∷ 0 ∷ []) $ fjoin ! $
         move ! (1 ∷ 5 ∷ []) $ join ! $ move ! (4 ∷ 0 ∷ []) $ join ! $ move ! (3 ∷ 0 ∷ []) $ join ! $ move ! (2 ∷ 0 ∷ []) $ join ! $ done !
 
-    -- the same where I stands in front of all
+    -- the same where I stands in front of all: what is asked for
     pub parted-with : (I : Fml) (s s′ : RefT (List ℕ)) (g g′ : Geometry)
         → ent 𝓤 (sep 𝓤 (toks 𝓤 A 7 κs qs) (sem 𝓤 H A (fsep I (fsep (slice-own (κs .0) s) (fsep (geometry-own g) (fsep X (fsep Y (fsep (slice-own (κs .1 .1 .1 .0) s′) (fsep (geometry-own g′) Z)))))))))
         (mean 𝓤 H A (raw (asks (κs .0) (qs .0) s g) ⊛ (raw (asks (κs .1 .1 .1 .0) (qs .1 .1 .1 .0) s′ g′) ⊛ (‵ I ⊛ others))))

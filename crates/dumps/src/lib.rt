@@ -1,5 +1,4 @@
 // Open dumps: the bytes of a dump and its geometry, held together, and what is asked of them.
 pub mod both;
-pub mod object;
 pub mod open;
 pub mod prepare;

@@ -8,7 +8,7 @@ returns c =
     let t = c .before .before .before in
     let l = t .before .before .before .geometry-at .ensures in
     let k = t .before .before .geometry-at2 .ensures in
-    (rw (c .compared-answer .ensures, t .compare-object .ensures .0, l, k), rw (← l, ← k) (t .compare-object .ensures .1))
+    (rw (c .compared-answer .ensures, t .compare-dumps .ensures .0, l, k), rw (← l, ← k) (t .compare-dumps .ensures .1))
 
 pub lohenarr-compare-object-spec : {M : Type 1} → statement M
 lohenarr-compare-object-spec = tie.close (tie.spec (search needs) (search needs) (search needs) (search needs) (search needs) returns)

@@ -1,4 +1,5 @@
--- The loop's invariant: none of the first i bytes is set. Then the rest decides.
+-- Block by block: a block in which some byte is set ends the search. The loop's invariant: none of the first i bytes is set. So the rest, shorter than
+-- a block, decides.
 use Prim.Native.Nat.{_≤_, _-_}
 use mathlib.Core.Path.{_≡_}
 use native.Mathlib.Omega.{arith}

@@ -1,4 +1,4 @@
--- The loop's invariant: the count is that of the first i bytes, and so no more than i.
+-- The loop's invariant: the count is that of the first i bytes from the place on. So it is no more than i, and a block of 128 fits the count.
 use Prim.Native.Nat.{_≤_, _-_}
 use mathlib.Core.Path.{_≡_, sym}
 use native.Mathlib.Nat.{le-antisymm}

@@ -1,4 +1,5 @@
--- The loop's invariant: the count is that of the first i bytes, and so no more than i.
+-- As `differing_in`, with zeros on the other side. The loop's invariant: the count is that of the first i bytes from the place on, and so no more than
+-- i.
 use Prim.Native.Nat.{_≤_, _-_}
 use mathlib.Core.Path.{_≡_, sym}
 use native.Mathlib.Nat.{le-antisymm}

@@ -1,4 +1,5 @@
--- The parts show the bytes of the field, so that they differ where it does.
+-- The two parts show the bytes of the field on both sides, with zeros behind their ends: so they differ exactly where the field does, and its line is
+-- put there.
 use Prim.Native.Nat.{ℕ, max}
 use mathlib.Core.List.{List}
 use mathlib.Core.Path.{_≡_, _∙_}

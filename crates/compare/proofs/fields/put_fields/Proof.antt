@@ -9,7 +9,7 @@ use Rattle.compare.specs.Differences.{field, fieldDiffers}
 use Rattle.compare.specs.Fields.{fields, placeOf}
 use Rattle.compare.specs.Lines.{fieldLines}
 use Rattle.compare.specs.Report.{linesOf}
-use Rattle.compare.proofs.Passing.{linesTo, lines-none, lines-more}
+use Rattle.compare.proofs.PassedLines.{linesTo, lines-none, lines-more}
 use Rattle.compare.proofs.fields.put_fields.Statement.{statement}
 use Rattle.compare.proofs.fields.put_fields.Tie as tie
 

@@ -1,4 +1,5 @@
--- What is found from the first record on is what is found from the next one on, with the largest end so far.
+-- The loop's invariant: what is found from the first record on is what is found from record i on, with the largest end so far. The first header ends
+-- the search; data before it adds its end.
 use mathlib.Core.Path.{_≡_, refl, sym, ap, _∙_}
 use Prim.Native.Nat.{_-_}
 use mathlib.Core.List.{map}

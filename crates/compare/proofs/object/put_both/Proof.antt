@@ -1,4 +1,5 @@
--- What differs between the headers, and then between the files.
+-- The newest headers and the sizes are found on both sides. What differs between the headers is put, and then what differs between the files: that is
+-- all.
 use borrow.Author.Needs.{needs}
 use Rattle.text.proofs.Putting.{also}
 use Rattle.compare.proofs.Lining.{found-both}

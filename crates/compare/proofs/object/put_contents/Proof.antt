@@ -1,4 +1,4 @@
--- By whether both sides are live files.
+-- Where one side is no live file nothing is compared. Of two live files the sizes are put, and then the stretches up to the smaller size.
 use native.Mathlib.Omega.{arith}
 use borrow.Author.Needs.{needs}
 use Rattle.text.proofs.Putting.{nothing, also}

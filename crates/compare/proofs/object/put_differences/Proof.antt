@@ -1,4 +1,4 @@
--- By which sides have the object.
+-- Where one side has no words of the object, only that is told. Where both have some, what differs is.
 use borrow.Author.Needs.{needs}
 use Rattle.compare.proofs.Lining.{lines-first, lines-second}
 use Rattle.compare.proofs.object.put_differences.Statement.{statement}

@@ -1,4 +1,4 @@
--- By whether there are two headers.
+-- Where a header is missing no field is compared. Of two headers the bytes are lent from the dumps, and the fields that differ are put.
 use mathlib.Core.Path.{sym, _∙_}
 use native.Mathlib.Omega.{arith}
 use borrow.Author.Needs.{needs}

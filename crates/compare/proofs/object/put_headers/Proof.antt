@@ -1,4 +1,4 @@
--- The lines one after the other.
+-- The lines one after the other: that the object is deleted on one side, that it has no header on one side, and the fields.
 use borrow.Author.Needs.{needs}
 use Rattle.text.proofs.Putting.{also}
 use Rattle.compare.specs.Lines.{headerLines}

@@ -1,4 +1,4 @@
--- By which side it is.
+-- A line is put exactly if the two tests differ, with the number of the side on which it is so.
 use native.Mathlib.Omega.{arith}
 use borrow.Author.Needs.{needs}
 use Rattle.text.proofs.Putting.{nothing, kept}

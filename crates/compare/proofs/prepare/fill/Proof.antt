@@ -1,11 +1,11 @@
 -- The words of the records, with the front of the last slice to work in; then the rows of the copies, with all of it; and that slice cleared.
 use Prim.Native.Nat.{ℕ}
-use mathlib.Core.Path.{_≡_, sym, ap, _∙_}
+use mathlib.Core.Path.{_≡_, refl, sym, ap, _∙_}
 use native.Mathlib.Omega.{arith}
 use borrow.Author.Needs.{needs}
 use lib.ListN.{length, take, replicate}
 use lib.Seq.{length-take-le}
-use Rattle.compare.proofs.Preparing.{cleared-whole}
+use Rattle.sort.proofs.Clearing.{cleared-whole}
 use Rattle.compare.proofs.prepare.fill.Statement.{statement}
 use Rattle.compare.proofs.prepare.fill.Tie as tie
 
@@ -39,7 +39,7 @@ returns c =
       f .fill-order .ensures .0,
       (
         r .fill-copies .ensures,
-        cleared-whole (r .fill-copies .last .1 .1 .1 .1 .1 .0) _ (x .clear .ensures) ∙ ap (λ (k : ℕ). replicate {A = ℕ} k 0) long,
+        cleared-whole (r .fill-copies .last .1 .1 .1 .1 .1 .0) _ _ refl (x .clear .ensures) ∙ ap (λ (k : ℕ). replicate {A = ℕ} k 0) long,
       ),
     )
 

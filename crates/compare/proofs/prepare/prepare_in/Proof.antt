@@ -1,7 +1,9 @@
--- Refused if a slice has too few words for the records; else the fronts of the slices are filled.
+-- The records are counted. Refused if a slice has too few words for them; else the fronts of the slices, as long as is needed, are filled, and what is
+-- behind them stays.
 use Prim.Native.Nat.{ℕ, _≤_}
 use mathlib.Core.Bool.{true}
 use mathlib.Core.Path.{_≡_, sym, ap, _∙_}
+use native.Mathlib.Omega.{arith}
 use borrow.Author.Needs.{needs}
 use borrow.Author.Tests.{not-true, not-false}
 use lib.ListN.{length, take, replicate}
@@ -20,48 +22,52 @@ returns c =
     room-refused (a .g) (a .dump .now) (a .order .now) (a .copies .now) (a .work .now) (a .pages) (s .pre) (k .result) (k .ensures)
     (sym (r .ensures) ∙ not-true (r .result) (c .if1 .taken))
 
--- there is room
-enough :
-    (c : tie.After-work-for) →
-    let a = c .before .before .before .before .before .before .before .before .args in
-    isRoom (c .before .before .before .count-records .result) (length (a .order .now)) (length (a .copies .now)) (length (a .work .now)) ≡ true
-enough c = let r = c .before .before .is-room in sym (r .ensures) ∙ not-false (r .result) (c .before .if1 .left)
+-- once there is room
+module _ (w : tie.After-work-for) where
+  abbrev start : tie.Start
+  start = w .before .before .before .before .before .before .before .before
 
--- so that the fronts have as many words as are needed
-fronts :
-    (c : tie.After-work-for) →
-    let a = c .before .before .before .before .before .before .before .before .args in
-    let k = c .before .before .before .count-records .result in
-    let w = c .work-for .result in
-    ((k ≤ length (a .order .now)) × (k ≤ length (a .copies .now)) × (w ≤ length (a .work .now)))
-    × ((length (take k (a .order .now)) ≡ k) × (length (take k (a .copies .now)) ≡ k) × (length (take w (a .work .now)) ≡ w))
-fronts c =
-    let a = c .before .before .before .before .before .before .before .before .args in
-    let r = room-has _ _ _ _ (enough c) in
-    let w : c .work-for .result ≤ length (a .work .now) = rw (c .work-for .ensures) (r .2) in
-    ((r .0, r .1, w), (length-take-le _ (a .order .now) (r .0), length-take-le _ (a .copies .now) (r .1), length-take-le _ (a .work .now) w))
+  -- how many records there are, and how many words are worked in
+  abbrev records : ℕ
+  records = w .before .before .before .count-records .result
+
+  abbrev room : ℕ
+  room = w .work-for .result
+
+  enough : isRoom records (length (start .args .order .now)) (length (start .args .copies .now)) (length (start .args .work .now)) ≡ true
+  enough = let r = w .before .before .is-room in sym (r .ensures) ∙ not-false (r .result) (w .before .if1 .left)
+
+  -- each slice has as many words
+  has : (records ≤ length (start .args .order .now)) × (records ≤ length (start .args .copies .now)) × (room ≤ length (start .args .work .now))
+  has = let r = room-has _ _ _ _ enough in (r .0, r .1, omega (arith, w .work-for .ensures, r .2))
+
+  -- so that the fronts which are lent on are so long
+  order-front : length (take records (start .args .order .now)) ≡ records
+  order-front = length-take-le _ (start .args .order .now) (has .0)
+
+  copies-front : length (take records (start .args .copies .now)) ≡ records
+  copies-front = length-take-le _ (start .args .copies .now) (has .1)
+
+  work-front : length (take room (start .args .work .now)) ≡ room
+  work-front = length-take-le _ (start .args .work .now) (has .2)
 
 fill-requires : tie.Need-fill-requires
 fill-requires c κs =
     let w = c .before .before .before in
-    let f = fronts w .1 in
     let k = w .before .before .before .count-records .ensures in
-    (w .before .before .before .before .before .before .before .before .pre, (f .0 ∙ k, (f .1 ∙ k, f .2 ∙ w .work-for .ensures ∙ ap workFor k)))
+    (start w .pre, (order-front w ∙ k, (copies-front w ∙ k, work-front w ∙ w .work-for .ensures ∙ ap workFor k)))
 
 returns-2 : tie.Need-returns-2
 returns-2 c =
     let l = c .before .before .before .before .before .before in
     let w = l .before .before .before .before in
-    let s = w .before .before .before .before .before .before .before .before in
-    let a = s .args in
-    let k = w .before .before .before .count-records in
-    let f = fronts w .1 in
+    let a = start w .args in
     let e = l .fill .ensures in
-    let o = l .fill .kept .1 .1 .1 .0 in
-    let p = l .fill .kept .1 .1 .1 .1 .0 in
     rw (w .work-for .ensures)
-    (room-enough (a .g) (a .dump .now) (a .order .now) (a .copies .now) (a .work .now) (a .pages) (s .pre) (k .result) (k .ensures) (enough w)
-    _ _ _ (e .0) (o ∙ f .0) (e .1 .0) (p ∙ f .1) (e .1 .1 ∙ ap (λ (j : ℕ). replicate {A = ℕ} j 0) (f .2 ∙ w .work-for .ensures)))
+    (room-enough (a .g) (a .dump .now) (a .order .now) (a .copies .now) (a .work .now) (a .pages) (start w .pre) (records w)
+    (w .before .before .before .count-records .ensures) (enough w) _ _ _
+    (e .0) (l .fill .kept .1 .1 .1 .0 ∙ order-front w) (e .1 .0) (l .fill .kept .1 .1 .1 .1 .0 ∙ copies-front w)
+    (e .1 .1 ∙ ap (λ (j : ℕ). replicate {A = ℕ} j 0) (work-front w ∙ w .work-for .ensures)))
 
 pub prepare-in-spec : {M : Type 1} → statement M
 prepare-in-spec =
@@ -72,12 +78,12 @@ prepare-in-spec =
     returns
     (search needs)
     (search needs)
-    (λ c. fronts c .0 .0)
-    (λ c. sym (fronts (c .before) .1 .0))
-    (λ c. fronts (c .before) .0 .1)
-    (λ c. sym (fronts (c .before .before) .1 .1))
-    (λ c. fronts (c .before .before) .0 .2)
-    (λ c. sym (fronts (c .before .before .before) .1 .2))
+    (λ c. has c .0)
+    (λ c. sym (order-front (c .before)))
+    (λ c. has (c .before) .1)
+    (λ c. sym (copies-front (c .before .before)))
+    (λ c. has (c .before .before) .2)
+    (λ c. sym (work-front (c .before .before .before)))
     fill-requires
     (search needs)
     (search needs)

@@ -1,4 +1,4 @@
--- The rows that the work holds are laid in front.
+-- The rows of the object's copies are written to the work, no more than its records, and laid in front of its words with zeros behind.
 use mathlib.Core.Path.{_∙_}
 use native.Mathlib.Omega.{arith}
 use lib.ListN.{length}

@@ -1,4 +1,5 @@
--- By the size that the records give. There is room, so that the copies are not refused.
+-- What is no live file, by its records, has no rows. Of a live file the walk along its records gives them, up to its size; the work has room for it, so
+-- that it is not refused.
 use Prim.Native.Nat.{ℕ, zero-le}
 use mathlib.Core.List.{map}
 use mathlib.Core.Path.{_≡_, refl, sym, ap, _∙_}

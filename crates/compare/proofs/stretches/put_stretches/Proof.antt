@@ -7,7 +7,7 @@ use borrow.Author.Needs.{needs}
 use Rattle.text.proofs.Putting.{nothing, kept}
 use Rattle.compare.specs.Differences.{stretch, stretchBytes}
 use Rattle.compare.specs.Report.{linesOf}
-use Rattle.compare.proofs.Passing.{lines-none}
+use Rattle.compare.proofs.PassedLines.{lines-none}
 use Rattle.compare.proofs.Stretching.{begins-below, stands-first, stands-at, stands-on, turn, Sofar}
 use Rattle.compare.proofs.stretches.put_stretches.Statement.{statement}
 use Rattle.compare.proofs.stretches.put_stretches.Tie as tie

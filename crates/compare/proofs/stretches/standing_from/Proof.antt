@@ -1,4 +1,5 @@
--- The loop's invariant: of the rows from the place on, those that stand are found from row i on.
+-- The loop's invariant: of the rows from the place on, those that stand are found from row i on. A row that ends at or before the stretch is passed
+-- over; the first that does not stands, and all behind it.
 use Prim.Native.Nat.{_≤_, _-_}
 use mathlib.Core.Path.{_≡_, refl, sym, _∙_}
 use borrow.Author.Needs.{needs}

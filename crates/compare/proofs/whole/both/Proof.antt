@@ -1,4 +1,4 @@
--- By what each dump is.
+-- The four cases of the definition, by what each dump is.
 use mathlib.Core.Path.{sym, _∙_}
 use borrow.Author.Needs.{needs}
 use Rattle.compare.proofs.whole.both.Statement.{statement}

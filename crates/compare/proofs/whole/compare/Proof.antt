@@ -17,7 +17,7 @@ returns-2 c =
     let w = c .before .before .before in
     let b = w .before .before in
     let e = sym (b .before .before .both .ensures) ∙ b .enum-told .given .1 in
-    (rw (e, ← w .write-reports .ensures .0) (c .compared-by .ensures), rw e (w .write-reports .ensures .1))
+    (rw (e, ← w .write-asked .ensures .0) (c .compared-by .ensures), rw e (w .write-asked .ensures .1))
 
 pub compare-spec : {M : Type 1} → statement M
 compare-spec = tie.close (tie.spec (search needs) (search needs) (search needs) (search needs) (search needs) returns (search needs) returns-2)

@@ -1,4 +1,4 @@
--- By whether both sides are live files.
+-- The cases of the definition, by whether both sides are live files. A size fits a word, so that the sum does too.
 use mathlib.Core.Path.{refl}
 use native.Mathlib.Omega.{arith}
 use borrow.Author.Needs.{needs}

@@ -1,4 +1,4 @@
--- By which lists are at their end.
+-- The four cases of the definition, by which lists are at their end.
 use mathlib.Core.Path.{sym, _∙_}
 use borrow.Author.Needs.{needs}
 use Rattle.compare.proofs.Listing.{next-none, next-first, next-second, next-both}

@@ -1,4 +1,5 @@
--- Object by object. The loop's invariant: what was put and what the words left give are the whole report.
+-- Object by object. The loop's invariant is `Underway`: what was put, and what the words left give, are the whole report. Each turn takes as many words
+-- from the front of both lists as are of the next object, of which one list has some: so the words left get fewer.
 use Prim.Native.Nat.{_+_, _-_, _≤_}
 use native.Mathlib.Omega.{arith}
 use borrow.Author.Needs.{needs}
@@ -38,9 +39,6 @@ add-e c = let h = there (c .before) .0 in search needs
 add-f : tie.Need-add-f Inv-loop μ-loop
 add-f c = let h = there (c .before .before) .1 in search needs
 
-start-1 : tie.Need-part-put-object-start Inv-loop μ-loop
-start-1 c = search needs
-
 end-1 : tie.Need-part-put-object-end Inv-loop μ-loop
 end-1 c = let h = there (c .before .before) .0 in search needs
 
@@ -67,9 +65,8 @@ loop-again : tie.Need-loop-again Inv-loop μ-loop
 loop-again c =
     let p = c .before .before in
     let parts = p .before .before in
-    let l = parts .before .before .before .before .before .before .before .before in
-    turn-by _ _ _ _ _ _ _ _ (l .loop .inv) (parts .before .before .before .before .before .before .next-from .result) (parts .before .before .before .before .before .before .next-from .ensures)
-    (parts .before .before .before .before .before .before .before .loop-test .taken)
+    let n = parts .before .before .before .before .before .before in
+    turn-by _ _ _ _ _ _ _ _ (n .before .before .loop .inv) (n .next-from .result) (n .next-from .ensures) (n .before .loop-test .taken)
     _ _ (parts .before .before .part .ensures) (parts .part2 .ensures)
     (p .put-object .ensures)
 
@@ -90,7 +87,7 @@ put-reports-spec =
     add-f
     (search needs)
     (search needs)
-    start-1
+    (search needs)
     end-1
     (search needs)
     mul-2

@@ -6,9 +6,14 @@ use Rattle.compare.proofs.Lining.{written-nothing, written-short, writt
 use Rattle.compare.proofs.whole.write_measured.Statement.{statement}
 use Rattle.compare.proofs.whole.write_measured.Tie as tie
 
--- an object's number is a word
-small : (n : tie.After-put-name) → n .before .before .before .before .before .before .before .before .before .args .o .0 < 4294967296
-small n = let g = n .before .before .before .before .before .before .before .before .before .good .0 in omega (arith, g)
+-- once the object's line is measured
+module _ (n : tie.After-put-name) where
+  abbrev start : tie.Start
+  start = n .before .before .before .before .before .before .before .before .before
+
+  -- an object's number is a word
+  small : start .args .o .0 < 4294967296
+  small = omega (arith, start .good .0)
 
 returns : tie.Need-returns
 returns c =

@@ -1,4 +1,4 @@
--- Where any report of files of these sizes would fit, this one does.
+-- Where so many bytes are lent as no report of files of these sizes exceeds, this one fits, and is written in one pass.
 use native.Mathlib.Nat.{le-trans}
 use native.Mathlib.Omega.{arith}
 use borrow.Author.Needs.{needs}

@@ -1,4 +1,5 @@
--- By whether there is a header, and what it says.
+-- No header, no size; a header that is gone, or is of no file, no size either. Of a live file the size is the larger of what its header says and the
+-- end of the data above it.
 use mathlib.Core.Path.{ap, sym, _∙_}
 use borrow.Author.Needs.{needs}
 use Rattle.chunk.specs.Records.{isGone, isFile, fileSize}
