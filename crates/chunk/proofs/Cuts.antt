@@ -1,5 +1,5 @@
--- What a cut hides, the lower of two hides: so the lowest of many hides exactly what one of them does.
-use Prim.Native.Nat.{ℕ, _<_, min}
+-- What a cut hides, the lower of two hides: so the lowest of many hides exactly what one of them does. And how many bytes a cut leaves.
+use Prim.Native.Nat.{ℕ, _≤_, _<_, min}
 use mathlib.Core.Bool.{true, false}
 use mathlib.Core.Path.{_≡_, refl, ap}
 use native.Mathlib.Omega.{arith}
@@ -38,3 +38,8 @@ module _ (place : ℕ) where
 pub leaves-some : (a : Cut) (place bytes : ℕ) → hides a place ≡ false → 0 < bytes → 0 < leaves a place bytes
 leaves-some Nowhere place bytes h k = k
 leaves-some (At a) place bytes h k = omega (arith, leb-false a place h)
+
+-- and never more than there are
+pub leaves-most : (a : Cut) (place bytes : ℕ) → leaves a place bytes ≤ bytes
+leaves-most Nowhere place bytes = omega arith
+leaves-most (At a) place bytes = omega arith

@@ -1,18 +1,19 @@
 -- Gathering in place: of the first n words, which are keys, the first of each chunk has its row taken from behind them. No more rows are taken than
 -- keys are passed, so that no word is written over before it is read.
-use Prim.Native.Nat.{ℕ, zero, suc, _+_, _-_, _≤_, _<_, zero-le}
+use Prim.Native.Nat.{ℕ, suc, _+_, _-_, _≤_, _<_, zero-le}
 use mathlib.Core.List.{List, [], _∷_, _++_, append-assoc, append-nil}
 use mathlib.Core.Path.{_≡_, refl, sym, ap, _∙_}
-use native.Mathlib.Nat.{not-suc-le-zero, le-of-suc-le-suc}
 use native.Mathlib.Numerals.{add-one}
 use native.Mathlib.Omega.{arith}
 use lib.Dec.{eqb}
 use lib.ListN.{length, take, drop, set, getD, length-append, length-take, drop-of-length-le}
-use lib.Seq.{sets, sets-eq, length-sets, drop-set-lt, length-take-le, take-at, drop-cons, drop-drop, getD-drop, getD-take}
+use lib.Seq.{sets, sets-eq, length-sets, drop-set-lt, length-take-le, take-at, drop-cons, drop-drop, getD-take}
 use Rattle.page.proofs.Searching.{by-test}
 use Rattle.sort.specs.Arranged.{Every}
 use Rattle.sort.specs.Packed.{keyOf, valueOf}
 use Rattle.sort.specs.Room.{inRoom}
+use Rattle.sort.proofs.Arranging.{every-get}
+use Rattle.sort.proofs.Behind.{behind-same}
 use Rattle.file.specs.Copies.{roomFor, firstOf, firsts}
 
 -- a run of stores, and the words before and behind it
@@ -24,18 +25,6 @@ take-sets w m F h =
 drop-sets : (k : ℕ) (w : List ℕ) (m : ℕ) (F : List ℕ) → m + length F ≤ k → drop k (sets w m F) ≡ drop k w
 drop-sets k w m [] h = refl
 drop-sets k w m (x ∷ F) h = drop-sets k (set w m x) (suc m) F (omega arith) ∙ drop-set-lt k w m x (omega arith)
-
--- words from i on that are the same
-behind-same : (w v : List ℕ) (i k : ℕ) → drop i w ≡ drop i v → i ≤ k → getD w k 0 ≡ getD v k 0
-behind-same w v i k u h =
-    let e : i + (k - i) ≡ k = omega arith in
-    rw e at (sym (getD-drop i w (k - i) 0) ∙ ap (λ (x : List ℕ). getD x (k - i) 0) u ∙ getD-drop i v (k - i) 0)
-
--- what holds of each number of a list holds of the one at i
-pub every-get : (P : ℕ → Type 0) (L : List ℕ) (i : ℕ) → Every P L → i < length L → P (getD L i 0)
-every-get P [] i e h = absurd (not-suc-le-zero h)
-every-get P (x ∷ L) zero e h = e .0
-every-get P (x ∷ L) (suc i) e h = every-get P L i (e .1) (le-of-suc-le-suc h)
 
 module _ {A : Type 0} (at : ℕ → A) where
   pub firsts-none : (last : ℕ) → firsts at last [] ≡ []
@@ -70,7 +59,7 @@ module _ (w₀ : List ℕ) (n : ℕ) where
 
   module _ (room : roomFor n ≤ length w₀) (w : List ℕ) (last m i : ℕ) (g : Gathered w last m i) where
     key-at : i < n → getD (take n w₀) i 0 ≡ getD w i 0
-    key-at h = getD-take n w₀ i 0 h ∙ sym (behind-same w w₀ i i (g .unread) (omega arith))
+    key-at h = getD-take n w₀ i 0 h ∙ sym (behind-same w w₀ i (g .unread) i (omega arith))
 
     -- a key leads to one of the n rows
     pub key-below : Every (λ k. valueOf k < n) (take n w₀) → i < n → valueOf (getD w i 0) < n
@@ -84,7 +73,7 @@ module _ (w₀ : List ℕ) (n : ℕ) where
         Gathered (sets w m F) (keyOf (getD w i 0)) (m + length F) (i + 1)
     gather-more F e h =
         let k = getD w i 0 in
-        let same : F ≡ firstOf at last k = e ∙ first-same (λ j. getD w (n + j) 0) at last k (behind-same w w₀ i (n + valueOf k) (g .unread) (omega (arith, g .inside))) in
+        let same : F ≡ firstOf at last k = e ∙ first-same (λ j. getD w (n + j) 0) at last k (behind-same w w₀ i (g .unread) (n + valueOf k) (omega (arith, g .inside))) in
         let few : length F ≤ 1 = rw e (first-few (λ j. getD w (n + j) 0) last k) in
         let next : drop i (take n w₀) ≡ k ∷ drop (i + 1) (take n w₀) =
         rw add-one (drop-cons (take n w₀) i 0 (rw (length-take-le n w₀ (omega arith)) h) ∙ rw (key-at h)) in

@@ -9,12 +9,13 @@ use Rattle.page.specs.Records.{isHeader}
 use Rattle.page.specs.declared.record.Data.{Data}
 use Rattle.page.specs.declared.record.Record.{Record}
 use Rattle.page.specs.declared.record.Record.the-variants as said
-use Rattle.page.proofs.Searching.{by-test, clash}
+use Rattle.page.proofs.Searching.{by-test}
 use Rattle.chunk.specs.Records.{chunkOf, baseOf}
-use Rattle.chunk.specs.Cuts.{leaves}
 use Rattle.chunk.specs.Lookups.{shownOf, validOf}
 use Rattle.chunk.specs.declared.cut.Cut.{Cut}
-use Rattle.chunk.specs.declared.cut.Cut.the-variants.{At, Nowhere}
+use Rattle.chunk.specs.declared.cut.Cut.the-variants.{Nowhere}
+use Rattle.chunk.proofs.Cuts.{leaves-most}
+use Rattle.chunk.proofs.Records.{header-chunk}
 use Rattle.index.specs.Chains.{Trace, clean, broken, rec}
 use Rattle.index.specs.Walks.{recordsIn, cutBy}
 use Rattle.index.specs.Ahead.{stillNewest}
@@ -26,19 +27,10 @@ use Rattle.file.specs.declared.copy.Copy.{Copy}
 use Rattle.file.proofs.Putting.{put-none, put-on, put-length}
 
 -- no more bytes are valid than a page has
-leaves-most : (cut : Cut) (place bytes : ℕ) → leaves cut place bytes ≤ bytes
-leaves-most Nowhere place bytes = omega arith
-leaves-most (At a) place bytes = omega arith
-
 pub valid-most : (P c : ℕ) (k : Record) (z : ℕ) (cut : Cut) → validOf P c k (shownOf P c z) cut ≤ P
 valid-most P c k z cut = omega (arith, leaves-most cut (baseOf P c) (shownOf P c z))
 
 -- a header is not met as a copy, and the newest one is no longer ahead; data does not cut
-no-chunk : (k : Record) → isHeader k ≡ true → chunkOf k ≡ 0
-no-chunk said.Other h = refl
-no-chunk (said.Header x) h = refl
-no-chunk (said.Data d) h = clash (cc)
-
 module _ (says : ℕ → Record) (P m size : ℕ) where
   module _ (newest : Bool) (cut : Cut) (t : Trace) where
     met-end : t ≡ clean → met says P m size newest cut t ≡ []
@@ -105,7 +97,7 @@ module _ (says : ℕ → Record) (P m size : ℕ) where
 
         pub under-header : isHeader (says q) ≡ true → Underway w false (cutBy says newest q cut) copies rest
         under-header h =
-            let none : here ≡ [] = rw (no-chunk (says q) h) refl in
+            let none : here ≡ [] = rw (header-chunk (says q) h) refl in
             let newer : stillNewest says newest q ≡ false = rw h (by-test newest _ (λ b. rw b refl) (λ b. rw b refl)) in
             let same : copies + 0 ≡ copies = omega arith in
             rw (none, newer, same, put-none n w copies) at on

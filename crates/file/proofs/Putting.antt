@@ -1,16 +1,17 @@
 -- The words of copies, one store at a time: what a walk puts. Where n copies are put, the first n words are their keys, from the last to the
 -- first, the next n their rows, and all behind those is as it was.
-use Prim.Native.Nat.{ℕ, suc, _+_, _-_, _≤_, _<_, zero-le}
+use Prim.Native.Nat.{ℕ, suc, _+_, _-_, _≤_, zero-le}
 use mathlib.Core.Bool.{Bool, true, false}
 use mathlib.Core.List.{List, [], _∷_, _++_, map, append-assoc, append-nil}
 use mathlib.Core.Path.{_≡_, refl, sym, ap, _∙_}
 use native.Mathlib.Omega.{arith}
 use lib.Dec.{ltb}
 use lib.ListN.{length, take, drop, set, length-set, length-drop, drop-of-length-le}
-use lib.Seq.{sets, sets-eq, take-set-le, take-set-lt, drop-set-add, drop-set-lt, length-take-le, drop-drop, drop-at, set-split}
+use lib.Seq.{sets, sets-eq, take-set-le, take-set-lt, drop-set-add, drop-set-lt, length-take-le, drop-drop}
 use borrow.Author.Tests.{lt-ltb, le-ltb}
 use Rattle.sort.specs.Packed.{packed}
 use Rattle.sort.proofs.Arranging.{backwards}
+use Rattle.sort.proofs.Behind.{drop-set-at}
 use Rattle.file.specs.Copies.{packedCopy, putCopy, putFrom, roomFor}
 use Rattle.file.specs.declared.copy.Copy.{Copy}
 
@@ -57,11 +58,6 @@ keys-length i (x ∷ L) = ap suc (keys-length (suc i) L)
 pub rows-length : (L : List Copy) → length (map packedCopy L) ≡ length L
 rows-length [] = refl
 rows-length (x ∷ L) = ap suc (rows-length L)
-
--- what stands from a word on once it is stored
-drop-set-at : (l : List ℕ) (j a : ℕ) → j < length l → drop j (set l j a) ≡ a ∷ drop (suc j) l
-drop-set-at l j a h =
-    ap (λ (r : List ℕ). drop j r) (set-split l j a h) ∙ drop-at (take j l) (a ∷ drop (suc j) l) j (length-take-le j l (omega arith))
 
 module _ (n : ℕ) where
   -- below n, the keys come into the first n words, from the last of these on, and the rows into those behind

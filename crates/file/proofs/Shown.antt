@@ -19,6 +19,7 @@ use Rattle.chunk.specs.Lookups.{shownOf, validOf}
 use Rattle.chunk.specs.declared.cut.Cut.{Cut}
 use Rattle.chunk.specs.declared.answer.Looked.{Looked}
 use Rattle.chunk.specs.declared.answer.Looked.the-variants as looked
+use Rattle.chunk.proofs.Records.{copy-chunk}
 use Rattle.index.specs.Chains.{Trace, clean, broken, rec}
 use Rattle.index.specs.Walks.{isShown, cutBy}
 use Rattle.index.specs.Ahead.{unvisited, stillNewest, ahead}
@@ -171,11 +172,6 @@ refused-unvisited (looked.Hole s v) = refl
 refused-unvisited (looked.Refused r v n) = refl
 
 -- a copy is one of its own chunk alone
-copy-chunk : (c : ℕ) (k : Record) → isCopy c k ≡ true → chunkOf k ≡ c
-copy-chunk c said.Other e = never e
-copy-chunk c (said.Header h) e = never e
-copy-chunk c (said.Data d) e = eqb-true _ _ e
-
 own-copy : (k : Record) → 0 < chunkOf k → isCopy (chunkOf k) k ≡ true
 own-copy said.Other h = absurd (omega arith)
 own-copy (said.Header x) h = absurd (omega arith)

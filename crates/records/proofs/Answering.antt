@@ -1,11 +1,12 @@
 -- What is answered of the records of an accepted dump, and what the lent words hold then: those of an answer in front, or after a refusal all as they were.
 use Prim.Native.Nat.{ℕ, _-_, _≤_}
 use mathlib.Core.List.{List, _++_}
-use mathlib.Core.Path.{_≡_, _∙_}
+use mathlib.Core.Path.{_≡_, sym, _∙_}
 use native.Mathlib.Omega.{arith}
 use borrow.Author.Tests.{ltb-false}
 use lib.Dec.{eqb, ltb}
-use lib.ListN.{length, drop, replicate}
+use lib.ListN.{length, take, drop, replicate}
+use lib.Seq.{length-take-le}
 use Rattle.page.specs.Lengths.{openedOf}
 use Rattle.page.specs.Numbers.{badObject}
 use Rattle.page.specs.declared.geometry.Geometry.{Geometry}
@@ -39,27 +40,47 @@ recorded-fits says n m o room k e =
     (λ _ i. clash (cc))
     (λ t i. let same : k ≡ records says o n = cc in (same, rw same (ltb-false _ _ t))))))
 
-module _ (g : Geometry) (dump : List ℕ) (m : Moment) (o room n : ℕ) (e : openedOf g (length dump) ≡ opened.Pages n) (r : Recorded)
-    (is : r ≡ recordedIn (saysAt g dump m o) n m o room)
-  where
-    pub recorded-on : r ≡ recordedOn g dump m o room
-    unfolding recordedOn
-    recorded-on = is ∙ rw e
+-- a front of words with a word for each of k records
+pub record Front (k : ℕ) (words : List ℕ) : Type 0 where
+  pub inside : k ≤ length words
+  pub long : length (take k words) ≡ k
 
-    -- the words of a refusal, and of an answer
-    pub left-refused : (why : Refusal) (need : ℕ) → r ≡ Refused why need → (front : ℕ → List ℕ) (words : List ℕ) → words ≡ leftOn g dump m o room front words
-    left-refused why need t front words = rw (e, ← is, t)
+-- what was counted of the records of an accepted dump is the answer
+pub record Counted (g : Geometry) (dump : List ℕ) (m : Moment) (o room n : ℕ) (r : Recorded) : Type 0 where
+  pub accepted : openedOf g (length dump) ≡ opened.Pages n
+  pub is : r ≡ recordedIn (saysAt g dump m o) n m o room
 
+module _ {g : Geometry} {dump : List ℕ} {m : Moment} {o room n : ℕ} {r : Recorded} (w : Counted g dump m o room n r) where
+  pub recorded-on : r ≡ recordedOn g dump m o room
+  unfolding recordedOn
+  recorded-on = w .is ∙ rw (w .accepted)
+
+  -- a refusal leaves the words, and those to work in
+  module _ {why : Refusal} {need : ℕ} (t : r ≡ Refused why need) where
+    pub left-refused : (front : ℕ → List ℕ) (words : List ℕ) → words ≡ leftOn g dump m o room front words
+    left-refused front words = rw (w .accepted, ← w .is, t)
+
+    pub worked-refused : (words : List ℕ) → words ≡ workLeft g dump m o room words
+    unfolding workLeft
+    worked-refused words = rw (← recorded-on, t)
+
+  -- an answer of k records has room for them
+  module _ {k : ℕ} (t : r ≡ Records k) where
+    fits : (k ≡ records (saysAt g dump m o) o n) × (k ≤ room)
+    fits = recorded-fits (saysAt g dump m o) n m o room k (sym (w .is) ∙ t)
+
+    pub told-count : k ≡ records (saysAt g dump m o) o n
+    told-count = fits .0
+
+    pub told-front : (words : List ℕ) → room ≤ length words → Front k words
+    told-front words h = let i : k ≤ length words = omega (arith, fits .1) in record { inside = i; long = length-take-le k words i }
+
+    -- and leaves its words in front, and zeros in front of those that were worked in
     pub left-told :
-        (k : ℕ) → r ≡ Records k → (front : ℕ → List ℕ) (words words₁ : List ℕ) → words₁ ≡ front n → length words₁ ≡ k →
+        (front : ℕ → List ℕ) (words : List ℕ) {words₁ : List ℕ} → words₁ ≡ front n → length words₁ ≡ k →
         words₁ ++ drop k words ≡ leftOn g dump m o room front words
-    left-told k t front words words₁ f l = rw (e, ← is, t, ← f, l)
+    left-told front words f l = rw (w .accepted, ← w .is, t, ← f, l)
 
-    -- and the words that were worked in
-    pub worked-refused : (why : Refusal) (need : ℕ) → r ≡ Refused why need → (words : List ℕ) → words ≡ workLeft g dump m o room words
+    pub worked-told : (words : List ℕ) {words₁ : List ℕ} → words₁ ≡ replicate k 0 → words₁ ++ drop k words ≡ workLeft g dump m o room words
     unfolding workLeft
-    worked-refused why need t words = rw (← recorded-on, t)
-
-    pub worked-told : (k : ℕ) → r ≡ Records k → (words words₁ : List ℕ) → words₁ ≡ replicate k 0 → words₁ ++ drop k words ≡ workLeft g dump m o room words
-    unfolding workLeft
-    worked-told k t words words₁ f = let z : k - 0 ≡ k = omega arith in rw (← recorded-on, t, f, z)
+    worked-told words f = let z : k - 0 ≡ k = omega arith in rw (← recorded-on, t, f, z)

@@ -1,7 +1,7 @@
 -- In a live file a newest copy that no later header cuts is what the lookup of its chunk answers. It begins inside the size: if it is newer than the
 -- newest header, it ends within the size; and else that header cuts at its own file size, which is then behind the begin.
 use Prim.Native.Nat.{ℕ, zero, suc, _≤_, _<_}
-use mathlib.Core.Bool.{Bool, true, false, _&&_, _||_}
+use mathlib.Core.Bool.{true, false, _&&_}
 use mathlib.Core.Logic.{⊎-elim}
 use mathlib.Core.Option.{Option, none, some}
 use mathlib.Core.Path.{_≡_, refl, ap, _∙_}
@@ -38,13 +38,9 @@ no-header (Header r) h d = clash (cc)
 no-header (Data r) h d = clash (cc)
 
 -- the newest header of a live file cuts at its file size
-or-true : (b : Bool) → b || true ≡ true
-or-true true = refl
-or-true false = refl
-
 cut-file : (k : Record) → isGone k ≡ false → isFile k ≡ true → cutOf true k ≡ At (fileSize k)
 unfolding cutOf
-cut-file k g f = rw (g, f, or-true (isShrink k))
+cut-file k g f = by-test (isShrink k) _ (λ t. rw (g, f, t)) (λ t. rw (g, f, t))
 
 module _ (says : ℕ → Record) (o n : ℕ) where
   -- it is a file's, and not gone

@@ -6,7 +6,7 @@ use mathlib.Core.List.{List}
 use mathlib.Core.Option.{some}
 use mathlib.Core.Path.{_≡_, refl, sym, ap, _∙_}
 use native.Mathlib.Omega.{arith}
-use borrow.Author.Tests.{eq-eqb, ne-eqb, eqb-true, ltb-true, ltb-false}
+use borrow.Author.Tests.{eq-eqb, ne-eqb, ltb-true, ltb-false}
 use lib.Dec.{ltb}
 use lib.ListN.{length, getD, drop, length-drop}
 use lib.Seq.{getD-drop}
@@ -17,9 +17,10 @@ use Rattle.page.specs.declared.record.Record.the-variants.{Other, Header, Data}
 use Rattle.page.specs.declared.record.Header as header
 use Rattle.page.specs.declared.record.Data as «data»
 use Rattle.page.proofs.Layouts.{and-left, and-right}
-use Rattle.page.proofs.Searching.{clash, by-test, count-le}
+use Rattle.page.proofs.Searching.{by-test, count-le}
 use Rattle.chunk.specs.Newest.{copyOf, newestHeader, newestCopy}
 use Rattle.chunk.specs.Records.{ageOf, isOf, headerOf, chunkOf, isCopy}
+use Rattle.chunk.proofs.Records.{copy-chunk, header-chunk}
 use Rattle.records.specs.Copies.{placesOf, HasChunk, LastPlace}
 use Rattle.records.specs.Standings.{cutBy, copyStands, standsBy, standsOf}
 use Rattle.records.specs.Written.{isRecord, written, pageAt}
@@ -78,21 +79,11 @@ chunk-copy c Other s e = absurd (s (sym e))
 chunk-copy c (Header h) s e = absurd (s (sym e))
 chunk-copy c (Data d) s e = eq-eqb _ _ e
 
-copy-chunk : (c : ℕ) (k : Record) → isCopy c k ≡ true → chunkOf k ≡ c
-copy-chunk c Other t = clash (cc)
-copy-chunk c (Header h) t = clash (cc)
-copy-chunk c (Data d) t = eqb-true _ _ t
-
 -- of chunk 0, which no data has
 zero-header : (o : ℕ) (k : Record) → isOf o k ≡ true → (isData k ≡ true → chunkOf k ≡ 0 → ⊥) → chunkOf k ≡ 0 → isHeader k ≡ true
 zero-header o Other t s e = t
 zero-header o (Header h) t s e = refl
 zero-header o (Data d) t s e = absurd (s refl e)
-
-header-zero : (k : Record) → isHeader k ≡ true → chunkOf k ≡ 0
-header-zero Other t = refl
-header-zero (Header h) t = refl
-header-zero (Data d) t = clash (cc)
 
 -- ---- the newest of its kind by the last place
 
@@ -130,7 +121,7 @@ module _ (says : ℕ → Record) (o n : ℕ) (few : n < pageValues) (chunked : (
       (rw (r .its) (zero-header o (says (at q)) (r .its) (chunked (at q)) (w .its)))
       (λ j h k.
       by-test (headerOf o (says (at j))) _
-      (λ t. absurd (w .last j h k (header-zero (says (at j)) (and-right (isOf o (says (at j))) _ t))))
+      (λ t. absurd (w .last j h k (header-chunk (says (at j)) (and-right (isOf o (says (at j))) _ t))))
       (λ t. t))
 
   -- two places have two pages

@@ -1,4 +1,5 @@
--- The lowest cut of records and those newer, from the newest to the oldest, and what its words say.
+-- The lowest cut of records and those newer, from the newest to the oldest, and what its words say. A cut is known by the places that it hides; its
+-- word is its place, so that the lower of two cuts has no higher word, and the words along the records ascend.
 use Prim.Native.Nat.{ℕ, zero, suc, _+_, _-_, _≤_, _<_}
 use mathlib.Core.Bool.{Bool, true, false}
 use mathlib.Core.List.{List, [], _∷_}
@@ -6,21 +7,17 @@ use mathlib.Core.Path.{_≡_, refl, sym, ap, _∙_}
 use native.Mathlib.Nat.{le-refl, le-trans, le-antisymm, not-suc-le-zero, le-of-suc-le-suc}
 use native.Mathlib.Omega.{arith}
 use borrow.Author.Tests.{leb-true, le-leb, lt-leb}
-use lib.ListN.{length, getD, set, take, drop, length-set}
-use lib.Seq.{drop-length, drop-cons, drop-at, set-split, length-take-le}
+use lib.ListN.{length, getD, set, drop, length-set}
+use lib.Seq.{drop-length, drop-cons}
 use Rattle.page.specs.declared.record.Record.{Record}
 use Rattle.page.proofs.Searching.{clash}
 use Rattle.sort.specs.Search.{Sorted}
+use Rattle.sort.proofs.Behind.{drop-set-at}
 use Rattle.chunk.specs.Cuts.{lower, hides, leaves}
 use Rattle.chunk.specs.declared.cut.Cut.{Cut}
 use Rattle.chunk.specs.declared.cut.Cut.the-variants.{At, Nowhere}
 use Rattle.records.specs.Lows.{nowhere, cutWord, headlessWith, ownCut, lowWith, headless, lowOf, lowsOf}
 use Rattle.records.specs.Written.{saidAt}
-
--- what stands from a word on once it is stored
-drop-set-at : (l : List ℕ) (j a : ℕ) → j < length l → drop j (set l j a) ≡ a ∷ drop (suc j) l
-drop-set-at l j a h =
-    ap (λ (r : List ℕ). drop j r) (set-split l j a h) ∙ drop-at (take j l) (a ∷ drop (suc j) l) j (length-take-le j l (omega arith))
 
 -- two cuts that hide the same are the same
 pub cut-same : (a b : Cut) → ((place : ℕ) → hides a place ≡ hides b place) → a ≡ b
@@ -120,38 +117,37 @@ module _ (says : ℕ → Record) where
     pub none : newest ≡ headless says (drop i ages)
     pub filled : drop i words ≡ lowsOf says (drop i ages)
 
-  module _ (ages words : List ℕ) where
-    -- none of them
-    pub lowered-none : length words ≡ length ages → Lowered ages words Nowhere true (length ages)
-    lowered-none e = record {
-      inside = le-refl _;
-      long = e;
-      low = rw (drop-length ages, low-none);
-      none = rw (drop-length ages, headless-none);
-      filled = rw (drop-length ages, lows-none) (rw e at (drop-length words));
-    }
+  -- none of them
+  pub lowered-none : (ages words : List ℕ) → length words ≡ length ages → Lowered ages words Nowhere true (length ages)
+  lowered-none ages words e = record {
+    inside = le-refl _;
+    long = e;
+    low = rw (drop-length ages, low-none);
+    none = rw (drop-length ages, headless-none);
+    filled = rw (drop-length ages, lows-none) (rw e at (drop-length words));
+  }
 
-    -- one more, on a page that says k
-    pub lowered-one :
-        (cut low : Cut) (newest still : Bool) (i word : ℕ) (k : Record) → Lowered ages words cut newest i → 0 < i →
-        k ≡ saidAt says (getD ages (i - 1) 0) → low ≡ lowWith newest k cut → still ≡ headlessWith k newest → word ≡ cutWord low →
-        Lowered ages (set words (i - 1) word) low still (i - 1)
-    lowered-one cut low newest still i word k w h e l u x =
-        let j = i - 1 in
-        let s : suc j ≡ i = omega arith in
-        let in-ages : j < length ages = omega (arith, w .inside) in
-        let on : drop j ages ≡ getD ages j 0 ∷ drop i ages = rw s at (drop-cons ages j 0 in-ages) in
-        let c : low ≡ lowOf says (drop j ages) = rw (on, low-one (getD ages j 0) (drop i ages), l, e, w .low, w .none) in
-        record {
-          inside = omega (arith, w .inside);
-          long = length-set words j word ∙ w .long;
-          low = c;
-          none = rw (on, headless-one (getD ages j 0) (drop i ages), u, e, w .none);
-          filled =
-              drop-set-at words j word (omega (arith, w .inside, w .long))
-              ∙ rw (s, w .filled, x, c, on) (sym (lows-one (getD ages j 0) (drop i ages)));
-        }
+-- one more, on a page that says k; and all
+module _ {says : ℕ → Record} {ages words : List ℕ} {cut : Cut} {newest : Bool} {i : ℕ} (w : Lowered says ages words cut newest i) where
+  pub lowered-one :
+      {low : Cut} {still : Bool} {word : ℕ} (k : Record) → 0 < i →
+      k ≡ saidAt says (getD ages (i - 1) 0) → low ≡ lowWith newest k cut → still ≡ headlessWith k newest → word ≡ cutWord low →
+      Lowered says ages (set words (i - 1) word) low still (i - 1)
+  lowered-one {low} {still} {word} k h e l u x =
+      let j = i - 1 in
+      let s : suc j ≡ i = omega arith in
+      let in-ages : j < length ages = omega (arith, w .inside) in
+      let on : drop j ages ≡ getD ages j 0 ∷ drop i ages = rw s at (drop-cons ages j 0 in-ages) in
+      let c : low ≡ lowOf says (drop j ages) = rw (on, low-one says (getD ages j 0) (drop i ages), l, e, w .low, w .none) in
+      record {
+        inside = omega (arith, w .inside);
+        long = length-set words j word ∙ w .long;
+        low = c;
+        none = rw (on, headless-one says (getD ages j 0) (drop i ages), u, e, w .none);
+        filled =
+            drop-set-at words j word (omega (arith, w .inside, w .long))
+            ∙ rw (s, w .filled, x, c, on) (sym (lows-one says (getD ages j 0) (drop i ages)));
+      }
 
-    -- all
-    pub lowered-all : (cut : Cut) (newest : Bool) → Lowered ages words cut newest 0 → words ≡ lowsOf says ages
-    lowered-all cut newest w = w .filled
+  pub lowered-all : i ≡ 0 → words ≡ lowsOf says ages
+  lowered-all e = rw e at (w .filled)

@@ -1,23 +1,21 @@
--- The rows of chunks and places. Each record has one row, and no other row is there; they ascend, so that the last of a chunk has its last place. By
+-- The rows of chunks and places. Each record has one row, and no other row is there; they ascend, so that the last of a chunk has its last place. At
 -- that place is the newest copy of the chunk: the places of records go by their ages.
-use Prim.Native.Nat.{ℕ, zero, suc, _+_, _-_, _≤_, _<_, zero-le}
-use mathlib.Core.List.{List, [], _∷_, _++_, append-nil}
+use Prim.Native.Nat.{ℕ, zero, suc, _+_, _-_, _<_}
+use mathlib.Core.List.{List, [], _∷_, _++_}
 use mathlib.Core.Path.{_≡_, refl, sym, ap, _∙_}
-use native.Mathlib.Nat.{le-refl, le-of-suc-le-suc}
+use native.Mathlib.Nat.{le-of-suc-le-suc}
 use native.Mathlib.Omega.{arith}
 use borrow.Author.Tests.{leb-true, leb-false}
 use lib.Dec.{leb}
-use lib.ListN.{length, getD, take, drop, replicate, drop-of-length-le}
-use lib.Seq.{take-all, length-take-le}
+use lib.ListN.{length, getD, take, drop}
 use Rattle.page.specs.declared.record.Record.{Record}
 use Rattle.page.proofs.Searching.{by-test}
 use Rattle.sort.specs.Arranged.{arranged}
 use Rattle.sort.specs.Packed.{packed, keyOf, valueOf}
-use Rattle.sort.specs.Room.{clearedIn}
 use Rattle.sort.specs.Search.{Parted}
 use Rattle.sort.proofs.Arranging.{arranged-length}
-use Rattle.sort.proofs.Clearing.{clear-inside}
 use Rattle.sort.proofs.Places.{in-at, at-in, arranged-sorted}
+use Rattle.sort.proofs.Splitting.{all-first}
 use Rattle.sort.proofs.Times.{in-arranged, arranged-in}
 use Rattle.chunk.specs.Records.{chunkOf}
 use Rattle.chunk.proofs.Laying.{laid, laid-all}
@@ -144,11 +142,4 @@ module _ (says : ℕ → Record) where
       arranged (take i words) ++ drop i words ≡ placesOf says L
   placed-sorted L words₀ words i e k w =
       let a : words ≡ placedFrom says 0 L = w ∙ laid-all (placedFrom says 0 L) words₀ i (omega (arith, placed-length 0 L)) (omega arith) in
-      let l : length words ≤ i = rw a (omega (arith, placed-length 0 L)) in
-      rw (take-all i words l, drop-of-length-le words l, a) (append-nil (placesOf says L))
-
--- words that are all cleared
-pub cleared-all : (words w : List ℕ) (m : ℕ) → words ≡ w → length w ≡ m → clearedIn 0 (length words) words ≡ replicate m 0
-cleared-all words w m k e =
-    let z : length w - length (take 0 w) ≡ m = omega (arith, length-take-le 0 w zero-le) in
-    rw k (clear-inside 0 (length w) w zero-le (le-refl _) ∙ rw (drop-of-length-le w (le-refl _), z) (append-nil (replicate m 0)))
+      sym (all-first i words (rw a (omega (arith, placed-length 0 L)))) ∙ ap arranged a

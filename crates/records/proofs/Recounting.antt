@@ -3,7 +3,7 @@
 use Prim.Native.Nat.{ℕ, suc, _≤_, _<_}
 use mathlib.Core.Bool.{true, false}
 use mathlib.Core.List.{List}
-use mathlib.Core.Path.{_≡_, refl, sym, _∙_}
+use mathlib.Core.Path.{_≡_, sym, _∙_}
 use native.Mathlib.Omega.{arith}
 use borrow.Author.Tests.{lt-ltb, le-ltb, ltb-true}
 use lib.Dec.{ltb}
@@ -23,6 +23,7 @@ use Rattle.chunk.specs.declared.moment.Moment.{Moment}
 use Rattle.chunk.specs.declared.moment.Moment.the-variants.{Now, Before}
 use Rattle.chunk.specs.declared.takes.Takes.{Takes}
 use Rattle.chunk.specs.declared.takes.Takes.the-variants.{Every, Older}
+use Rattle.chunk.proofs.Records.{seen-own}
 use Rattle.why.specs.Answers.{saysAt}
 use Rattle.records.specs.Histories.{answerOf, sizedAfter}
 use Rattle.records.specs.Written.{isRecord, written, pageAt}
@@ -31,14 +32,6 @@ use Rattle.records.proofs.Following.{Sees, sized-followed, after-follow
 use Rattle.records.proofs.Writing.{written-at, written-rises, written-order}
 
 module _ (pages : ℕ → Record) (o : ℕ) where
-  -- a record that is taken says what its page says, and is below the age
-  taken : (t : Takes) (p : ℕ) → isRecord (seenBy t pages) o p ≡ true → seenBy t pages p ≡ pages p
-  taken Every p h = refl
-  taken (Older b) p h = by-test (ltb (ageOf pages p) b) _ (λ u. rw u) (λ u. none (rw u at h))
-    where
-      none : false ≡ true → seenBy (Older b) pages p ≡ pages p
-      none z = clash (cc)
-
   -- where a record is taken, no page is left out that is older
   left-out : (t : Takes) (p q : ℕ) → isRecord (seenBy t pages) o p ≡ true → isRecord (seenBy t pages) o q ≡ false → isOf o (seenBy (Older (ageOf pages p)) pages q) ≡ false
   left-out Every p q h k = by-test (ltb (ageOf pages q) (ageOf pages p)) _ (λ u. rw (u, k)) (λ u. rw u)
@@ -61,7 +54,7 @@ module _ (pages : ℕ → Record) (o : ℕ) where
     says = seenBy t pages
 
     same-age : (i : ℕ) → i < length (written says o n) → ageOf pages (pageAt says o n i) ≡ getD (written says o n) i 0
-    same-age i h = let w = written-at says o n few i h in rw (← taken t (pageAt says o n i) (w .its)) (w .age)
+    same-age i h = let w = written-at says o n few i h in rw (← seen-own t pages o (pageAt says o n i) (w .its)) (w .age)
 
     sees-moment : (i : ℕ) → i < length (written says o n) → Sees says P o n few (seenBy (takesAt pages (Before (record { 0 = pageAt says o n i }))) pages) i
     sees-moment i h =
@@ -70,7 +63,7 @@ module _ (pages : ℕ → Record) (o : ℕ) where
               λ j k l.
               rw (
                 lt-ltb (ageOf pages (pageAt says o n j)) (ageOf pages (pageAt says o n i)) (rw (same-age j l, same-age i h) (written-rises says o n few j i k h)),
-                taken t (pageAt says o n j) (written-at says o n few j l .its),
+                seen-own t pages o (pageAt says o n j) (written-at says o n few j l .its),
               );
           unseen =
               λ j k l.

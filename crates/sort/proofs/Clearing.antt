@@ -1,8 +1,7 @@
 -- Words cleared one after the other: those before the first are kept, those cleared so far are zeros, and the rest are as they were.
-use Prim.Native.Nat.{ℕ, suc, _+_, _-_, _≤_, _<_}
+use Prim.Native.Nat.{ℕ, suc, _+_, _-_, _≤_, _<_, zero-le}
 use mathlib.Core.List.{List, [], _∷_, _++_, append-assoc, append-nil}
-use mathlib.Core.Path.{_≡_, refl, sym, ap, _∙_}
-use native.Mathlib.Nat.{le-refl}
+use mathlib.Core.Path.{_≡_, sym, ap, _∙_}
 use native.Mathlib.Numerals.{add-one}
 use native.Mathlib.Omega.{arith}
 use lib.ListN.{length, take, drop, set, getD, replicate, length-append, length-replicate, take-append-drop, drop-of-length-le, replicate-append-replicate}
@@ -39,14 +38,8 @@ module _ (f : ℕ) (w : List ℕ) where
 pub clear-inside : (from to : ℕ) (w : List ℕ) → from ≤ to → to ≤ length w → clearedIn from to w ≡ inRoom (take from w) to w
 clear-inside from to w h k = rw (le-leb from to h, le-leb to (length w) k)
 
--- where all words are room, zeros are left
-room-whole : (words : List ℕ) → inRoom (take 0 words) (length words) words ≡ replicate (length words) 0
-room-whole [] = refl
-room-whole (x ∷ L) =
-    let e : drop (length L) L ≡ [] = drop-of-length-le L (le-refl (length L)) in
-    let m : length (x ∷ L) - 0 ≡ length (x ∷ L) = omega arith in
-    rw (e, append-nil) (ap (λ (k : ℕ). replicate {A = ℕ} k 0) m)
-
--- words that are cleared from the first to the last are zeros, as many as they were
-pub cleared-whole : (words after : List ℕ) (n : ℕ) → n ≡ length words → after ≡ clearedIn 0 n words → after ≡ replicate n 0
-cleared-whole words after n l e = e ∙ rw l (clear-inside 0 (length words) words (omega arith) (le-refl (length words)) ∙ room-whole words)
+-- where they are all the words, zeros are left
+pub cleared-all : (w : List ℕ) (n : ℕ) → length w ≡ n → clearedIn 0 n w ≡ replicate n 0
+cleared-all w n e =
+    let z : n - length (take 0 w) ≡ n = omega (arith, length-take-le 0 w zero-le) in
+    clear-inside 0 n w zero-le (omega arith) ∙ rw (drop-of-length-le w {i = n} (omega arith), z) (append-nil (replicate n 0))

@@ -1,3 +1,4 @@
+pub mod Behind
 pub mod Arranging
 pub mod Ascending
 pub mod Places

@@ -6,7 +6,7 @@ use mathlib.Core.Path.{_≡_, refl, sym, ap, _∙_}
 use native.Mathlib.Omega.{arith}
 use borrow.Author.Tests.{lt-ltb, le-ltb}
 use lib.Dec.{ltb}
-use lib.ListN.{length, take, drop, getD, length-take, drop-of-length-le}
+use lib.ListN.{length, drop, getD}
 use lib.Seq.{getD-take, getD-drop}
 use Rattle.page.specs.Layouts.{pageLen}
 use Rattle.page.specs.Lengths.{pageIn}
@@ -17,10 +17,6 @@ use Rattle.page.proofs.Pages.{page-front}
 use Rattle.page.proofs.Searching.{by-test}
 use Rattle.why.specs.Codes.{codeValues, fromOf, codeIn}
 use Rattle.why.specs.Answers.{foundIn}
-
--- of the first n words none is left from n on
-pub none-left : (i n : ℕ) (w : List ℕ) → n ≤ i → drop i (take n w) ≡ []
-none-left i n w h = drop-of-length-le (take n w) {i = i} (omega (arith, length-take n w))
 
 module _ (x end : ℕ) where
   -- no row left; one that begins behind the position; and one that does not

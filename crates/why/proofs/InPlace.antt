@@ -1,16 +1,16 @@
 -- A sweep in place: of the first n words, which are marks in order, the rows are made in front of them. No more rows are made than marks are passed, so
 -- that no mark is written over before it is read.
-use Prim.Native.Nat.{ℕ, zero, suc, _+_, _-_, _≤_, _<_, zero-le}
+use Prim.Native.Nat.{ℕ, _+_, _-_, _≤_, _<_, zero-le}
 use mathlib.Core.Bool.{Bool, true, false, _||_}
 use mathlib.Core.List.{List, [], _∷_, _++_, append-assoc, append-nil}
 use mathlib.Core.Path.{_≡_, refl, sym, ap, _∙_}
-use native.Mathlib.Nat.{not-suc-le-zero, le-of-suc-le-suc}
+use native.Mathlib.Nat.{le-refl}
 use native.Mathlib.Numerals.{add-one}
 use native.Mathlib.Omega.{arith}
 use lib.Dec.{eqb, leb, ltb}
 use borrow.Author.Tests.{le-leb, lt-leb, eq-eqb, ne-eqb}
 use lib.ListN.{length, take, drop, set, getD, length-set}
-use lib.Seq.{drop-set-lt, take-suc-set, length-take-le, drop-cons, drop-drop, getD-drop, getD-take, take-nil}
+use lib.Seq.{drop-set-lt, take-suc-set, length-take-le, drop-cons, drop-drop, getD-take}
 use Rattle.page.specs.Numbers.{pageValues}
 use Rattle.page.specs.declared.number.PageNumber.{PageNumber}
 use Rattle.page.specs.declared.record.Record.{Record}
@@ -18,6 +18,8 @@ use Rattle.page.specs.declared.record.Record.the-variants.{Other, Header, Data}
 use Rattle.page.proofs.Searching.{by-test}
 use Rattle.sort.specs.Arranged.{Every}
 use Rattle.sort.specs.Room.{inRoom}
+use Rattle.sort.proofs.Arranging.{every-get}
+use Rattle.sort.proofs.Behind.{none-left, left-same, behind-same}
 use Rattle.chunk.specs.Records.{orderOf, countOf}
 use Rattle.chunk.specs.Scans.{laterIn}
 use Rattle.chunk.specs.declared.scan.Newest.{Newest}
@@ -27,29 +29,6 @@ use Rattle.why.specs.Marks.{places, noPage, placeOf, pageOn}
 use Rattle.why.specs.Reasons.{byteAt, chunkAt, heldBy}
 use Rattle.why.specs.Sweeps.{nothingSeen, seenWith, goesOn, taken, behindSeen, copySeen, reasonSeen, swept}
 use Rattle.why.specs.declared.sweep.Seen.{Seen}
-use Rattle.why.proofs.Finding.{none-left}
-
--- a part of words that are the same from its begin on
-drop-take : (i n : ℕ) (l : List ℕ) → drop i (take n l) ≡ take (n - i) (drop i l)
-drop-take zero n l = let e : n - 0 ≡ n = omega arith in rw e
-drop-take (suc i) zero l = let e : 0 - suc i ≡ 0 = omega arith in rw e
-drop-take (suc i) (suc n) [] = sym (take-nil (suc n - suc i))
-drop-take (suc i) (suc n) (x ∷ l) = let e : suc n - suc i ≡ n - i = omega arith in rw e (drop-take i n l)
-
-part-same : (i n : ℕ) (w v : List ℕ) → drop i w ≡ drop i v → drop i (take n w) ≡ drop i (take n v)
-part-same i n w v e = drop-take i n w ∙ ap (take (n - i)) e ∙ sym (drop-take i n v)
-
--- the word at i of words that are the same from i on
-word-same : (w v : List ℕ) (i : ℕ) → drop i w ≡ drop i v → getD w i 0 ≡ getD v i 0
-word-same w v i u =
-    let e : i + 0 ≡ i = omega arith in
-    rw e at (sym (getD-drop i w 0 0) ∙ ap (λ (x : List ℕ). getD x 0 0) u ∙ getD-drop i v 0 0)
-
--- what holds of each number of a list holds of the one at i
-every-get : (P : ℕ → Type 0) (L : List ℕ) (i : ℕ) → Every P L → i < length L → P (getD L i 0)
-every-get P [] i e h = absurd (not-suc-le-zero h)
-every-get P (x ∷ L) zero e h = e .0
-every-get P (x ∷ L) (suc i) e h = every-get P L i (e .1) (le-of-suc-le-suc h)
 
 -- the pages that have been taken in are below the page numbers
 abbrev PageBelow : Newest → Type 0
@@ -130,93 +109,96 @@ module _ (says : ℕ → Record) (P : ℕ) where
       pub sweep-none : Swept w₀ nothingSeen 0 0 0
       sweep-none = record { order = zero-le; inside = zero-le; long = refl; unread = refl; made = refl; below = record { cut = tt; copy = tt } }
 
-      module _ (room : n ≤ length w₀) (w : List ℕ) (s : Seen) (last at j : ℕ) (g : Swept w s last at j) where
-        mark-at : j < n → getD (take n w₀) j 0 ≡ getD w j 0
-        mark-at h = getD-take n w₀ j 0 h ∙ sym (word-same w w₀ j (g .unread))
+-- n marks that lie in the words, of which j are passed
+module _ {says : ℕ → Record} {P size : ℕ} {w₀ : List ℕ} {n : ℕ} (room : n ≤ length w₀) {w : List ℕ} {s : Seen} {last at j : ℕ}
+    (g : Swept says P size w₀ n w s last at j)
+  where
+    mark-at : j < n → getD (take n w₀) j 0 ≡ getD w j 0
+    mark-at h = getD-take n w₀ j 0 h ∙ sym (behind-same w w₀ j (g .unread) j (le-refl j))
 
-        -- a mark lies before the last place
-        pub mark-inside : Every (λ m. placeOf m < places) (take n w₀) → j < n → placeOf (getD w j 0) < places
-        mark-inside e h =
-            let k : placeOf (getD (take n w₀) j 0) < places = every-get (λ m. placeOf m < places) (take n w₀) j e (rw (length-take-le n w₀ room) h) in
-            rw (mark-at h) at k
+    -- a mark lies before the last place
+    pub mark-inside : Every (λ m. placeOf m < places) (take n w₀) → j < n → placeOf (getD w j 0) < places
+    mark-inside e h =
+        let k : placeOf (getD (take n w₀) j 0) < places = every-get (λ m. placeOf m < places) (take n w₀) j e (rw (length-take-le n w₀ room) h) in
+        rw (mark-at h) at k
 
-        next : j < n → drop j (take n w₀) ≡ getD w j 0 ∷ drop (j + 1) (take n w₀)
-        next h = rw add-one (drop-cons (take n w₀) j 0 (rw (length-take-le n w₀ room) h) ∙ rw (mark-at h))
+    next : j < n → drop j (take n w₀) ≡ getD w j 0 ∷ drop (j + 1) (take n w₀)
+    next h = rw add-one (drop-cons (take n w₀) j 0 (rw (length-take-le n w₀ room) h) ∙ rw (mark-at h))
 
-        rest : drop (j + 1) w ≡ drop (j + 1) w₀
-        rest = sym (drop-drop 1 j w) ∙ ap (drop 1) (g .unread) ∙ drop-drop 1 j w₀
+    rest : drop (j + 1) w ≡ drop (j + 1) w₀
+    rest = sym (drop-drop 1 j w) ∙ ap (drop 1) (g .unread) ∙ drop-drop 1 j w₀
 
-        -- one mark more makes no row
-        skip :
-            (h : j < n) →
-            goesOn (placeOf (getD w j 0)) (drop (j + 1) (take n w₀)) || leb size (placeOf (getD w j 0)) || eqb (codeOn s (getD w j 0)) last ≡ true →
-            Swept w (taken says s (getD w j 0)) last at (j + 1)
-        skip h t =
-            record {
-              order = omega (arith, g .order);
-              inside = omega arith;
-              long = g .long;
-              unread = rest;
-              made = g .made ∙ ap (λ (r : List ℕ). take at w ++ r) (ap (swept says P size s last) (next h) ∙ swept-skip s last (getD w j 0) (drop (j + 1) (take n w₀)) t);
-              below = taken-below says s (getD w j 0) (g .below);
-            }
+    -- one mark more makes no row
+    skip :
+        (h : j < n) →
+        goesOn (placeOf (getD w j 0)) (drop (j + 1) (take n w₀)) || leb size (placeOf (getD w j 0)) || eqb (codeOn says P size s (getD w j 0)) last ≡ true →
+        Swept says P size w₀ n w (taken says s (getD w j 0)) last at (j + 1)
+    skip h t =
+        record {
+          order = omega (arith, g .order);
+          inside = omega arith;
+          long = g .long;
+          unread = rest;
+          made = g .made ∙ ap (λ (r : List ℕ). take at w ++ r) (ap (swept says P size s last) (next h) ∙ swept-skip says P size s last (getD w j 0) (drop (j + 1) (take n w₀)) t);
+          below = taken-below says s (getD w j 0) (g .below);
+        }
 
-        module _ (h : j < n) (now : Seen) (e : now ≡ taken says s (getD w j 0)) (x : ℕ) (at-x : x ≡ placeOf (getD w j 0)) where
-          goes : (b : Bool) → goesOn x (drop (j + 1) (take n w)) ≡ b → goesOn (placeOf (getD w j 0)) (drop (j + 1) (take n w₀)) ≡ b
-          goes b t = rw (at-x, part-same (j + 1) n w w₀ rest) at t
+    module _ (h : j < n) {now : Seen} (e : now ≡ taken says s (getD w j 0)) {x : ℕ} (at-x : x ≡ placeOf (getD w j 0)) where
+      goes : (b : Bool) → goesOn x (drop (j + 1) (take n w)) ≡ b → goesOn (placeOf (getD w j 0)) (drop (j + 1) (take n w₀)) ≡ b
+      goes b t = rw (at-x, left-same w w₀ (j + 1) rest n) at t
 
-          -- another mark of the place follows
-          pub sweep-goes : goesOn x (drop (j + 1) (take n w)) ≡ true → Swept w now last at (j + 1)
-          sweep-goes t = rw e (skip h (rw (goes true t)))
+      -- another mark of the place follows
+      pub sweep-goes : goesOn x (drop (j + 1) (take n w)) ≡ true → Swept says P size w₀ n w now last at (j + 1)
+      sweep-goes t = rw e (skip h (rw (goes true t)))
 
-          module _ (t : goesOn x (drop (j + 1) (take n w)) ≡ false) where
-            -- the place is not one of the file
-            pub sweep-past : size ≤ x → Swept w now last at (j + 1)
-            sweep-past k = rw e (skip h (rw (goes false t, le-leb size (placeOf (getD w j 0)) (rw at-x at k))))
+      module _ (t : goesOn x (drop (j + 1) (take n w)) ≡ false) where
+        -- the place is not one of the file
+        pub sweep-past : size ≤ x → Swept says P size w₀ n w now last at (j + 1)
+        sweep-past k = rw e (skip h (rw (goes false t, le-leb size (placeOf (getD w j 0)) (rw at-x at k))))
 
-            module _ (k : x < size) (code : ℕ) (f : code ≡ codeOf (reasonSeen says P now x)) where
-              inside-file : leb size (placeOf (getD w j 0)) ≡ false
-              inside-file = lt-leb size (placeOf (getD w j 0)) (rw at-x at k)
+        module _ (k : x < size) {code : ℕ} (f : code ≡ codeOf (reasonSeen says P now x)) where
+          inside-file : leb size (placeOf (getD w j 0)) ≡ false
+          inside-file = lt-leb size (placeOf (getD w j 0)) (rw at-x at k)
 
-              code-on : code ≡ codeOn s (getD w j 0)
-              code-on = rw (e, at-x) at f
+          code-on : code ≡ codeOn says P size s (getD w j 0)
+          code-on = rw (e, at-x) at f
 
-              -- the reason is that of the last row
-              pub sweep-same : code ≡ last → Swept w now last at (j + 1)
-              sweep-same u = rw e (skip h (rw (goes false t, inside-file, eq-eqb (codeOn s (getD w j 0)) last (sym code-on ∙ u))))
+          -- the reason is that of the last row
+          pub sweep-same : code ≡ last → Swept says P size w₀ n w now last at (j + 1)
+          sweep-same u = rw e (skip h (rw (goes false t, inside-file, eq-eqb (codeOn says P size s (getD w j 0)) last (sym code-on ∙ u))))
 
-              -- the reason is another, and makes a row
-              pub sweep-row : (code ≡ last → ⊥) → (row : ℕ) → row ≡ rowOf x code → Swept (set w at row) now code (at + 1) (j + 1)
-              sweep-row u row r =
-                  let m = getD w j 0 in
-                  let M = drop (j + 1) (take n w₀) in
-                  let room-for : at < length w = omega (arith, g .order, g .long) in
-                  let put : take (at + 1) (set w at row) ≡ take at w ++ (row ∷ []) = rw add-one (take-suc-set w at row room-for) in
-                  let here : row ≡ rowOf (placeOf m) (codeOn s m) = rw (at-x, code-on) at r in
-                  record {
-                    order = omega (arith, g .order);
-                    inside = omega arith;
-                    long = length-set w at row ∙ g .long;
-                    unread = drop-set-lt (j + 1) w at row (omega (arith, g .order)) ∙ rest;
-                    made =
-                        g .made
-                        ∙ ap (λ (q : List ℕ). take at w ++ q)
-                        (ap (swept says P size s last) (next h)
-                        ∙ swept-row s last m M (rw (goes false t, inside-file, ne-eqb (codeOn s m) last (λ q. u (code-on ∙ q)))))
-                        ∙ rw (← here, ← code-on, ← e)
-                        (sym (append-assoc (take at w) (row ∷ []) (swept says P size now code M))
-                        ∙ ap (λ (q : List ℕ). q ++ swept says P size now code M) (sym put));
-                    below = rw e (taken-below says s m (g .below));
-                  }
+          -- the reason is another, and makes a row
+          pub sweep-row : (code ≡ last → ⊥) → {row : ℕ} → row ≡ rowOf x code → Swept says P size w₀ n (set w at row) now code (at + 1) (j + 1)
+          sweep-row u {row} r =
+              let m = getD w j 0 in
+              let M = drop (j + 1) (take n w₀) in
+              let room-for : at < length w = omega (arith, g .order, g .long) in
+              let put : take (at + 1) (set w at row) ≡ take at w ++ (row ∷ []) = rw add-one (take-suc-set w at row room-for) in
+              let here : row ≡ rowOf (placeOf m) (codeOn says P size s m) = rw (at-x, code-on) at r in
+              record {
+                order = omega (arith, g .order);
+                inside = omega arith;
+                long = length-set w at row ∙ g .long;
+                unread = drop-set-lt (j + 1) w at row (omega (arith, g .order)) ∙ rest;
+                made =
+                    g .made
+                    ∙ ap (λ (q : List ℕ). take at w ++ q)
+                    (ap (swept says P size s last) (next h)
+                    ∙ swept-row says P size s last m M (rw (goes false t, inside-file, ne-eqb (codeOn says P size s m) last (λ q. u (code-on ∙ q)))))
+                    ∙ rw (← here, ← code-on, ← e)
+                    (sym (append-assoc (take at w) (row ∷ []) (swept says P size now code M))
+                    ∙ ap (λ (q : List ℕ). q ++ swept says P size now code M) (sym put));
+                below = rw e (taken-below says s m (g .below));
+              }
 
-        -- all marks are passed
-        pub sweep-end :
-            (v : List ℕ) → v ≡ inRoom (take at w) n w → n ≤ j →
-            (at ≡ length (swept says P size nothingSeen 0 (take n w₀))) × (v ≡ inRoom (swept says P size nothingSeen 0 (take n w₀)) n w₀)
-        sweep-end v e h =
-            let k : j ≡ n = omega (arith, g .inside) in
-            let none = none-left j n w₀ h in
-            let all : swept says P size nothingSeen 0 (take n w₀) ≡ take at w = g .made ∙ rw (none, swept-none s last) (append-nil (take at w)) in
-            let behind : drop n w ≡ drop n w₀ = rw k at (g .unread) in
-            let count : length (take at w) ≡ at = length-take-le at w (omega (arith, g .order, g .long)) in
-            (sym (ap length all ∙ count), rw (all, ← behind) e)
+    -- all marks are passed
+    pub sweep-end :
+        {v : List ℕ} → v ≡ inRoom (take at w) n w → n ≤ j →
+        (at ≡ length (swept says P size nothingSeen 0 (take n w₀))) × (v ≡ inRoom (swept says P size nothingSeen 0 (take n w₀)) n w₀)
+    sweep-end e h =
+        let k : j ≡ n = omega (arith, g .inside) in
+        let none = none-left j n w₀ h in
+        let all : swept says P size nothingSeen 0 (take n w₀) ≡ take at w = g .made ∙ rw (none, swept-none says P size s last) (append-nil (take at w)) in
+        let behind : drop n w ≡ drop n w₀ = rw k at (g .unread) in
+        let count : length (take at w) ≡ at = length-take-le at w (omega (arith, g .order, g .long)) in
+        (sym (ap length all ∙ count), rw (all, ← behind) e)

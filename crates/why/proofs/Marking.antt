@@ -1,8 +1,9 @@
--- The marks of a file: which there are, and what each of them says.
+-- The marks of a file: each is of a header that cuts, of the begin of a copy, or of a place at which no page begins to matter; and whatever cuts, begins
+-- or ends has its mark. The marks of all pages are those of each, one behind the other, so that both go page by page.
 use Prim.Native.Nat.{ℕ, zero, suc, _+_, _≤_, _<_}
 use mathlib.Core.Bool.{true, false}
-use mathlib.Core.List.{List, [], _∷_, _++_}
-use mathlib.Core.Logic.{_⊎_, inl, inr, ⊎-elim}
+use mathlib.Core.List.{[], _∷_, _++_}
+use mathlib.Core.Logic.{inl, inr, ⊎-elim}
 use mathlib.Core.Path.{_≡_, refl, ap}
 use native.Mathlib.Nat.{not-suc-le-zero, le-of-suc-le-suc, eq-or-lt-of-le, le-refl}
 use native.Mathlib.Omega.{arith}
@@ -15,6 +16,7 @@ use Rattle.page.proofs.Layouts.{and-right}
 use Rattle.page.proofs.Searching.{clash, by-test}
 use Rattle.page.proofs.Within.{chunk-good}
 use Rattle.sort.specs.Ascending.{In}
+use Rattle.sort.proofs.Times.{joined-in, in-joined}
 use Rattle.chunk.specs.Gather.{gather}
 use Rattle.chunk.specs.Records.{headerOf, countOf, baseOf}
 use Rattle.chunk.specs.Newest.{copyOf}
@@ -22,21 +24,6 @@ use Rattle.chunk.specs.Cuts.{cutOf}
 use Rattle.chunk.specs.declared.cut.Cut.{Cut}
 use Rattle.chunk.specs.declared.cut.Cut.the-variants.{At, Nowhere}
 use Rattle.why.specs.Marks.{places, noPage, markOf, placeOf, pageOn, cutMarks, copyMarks, marksOf, marksTo}
-
--- members of two lists one behind the other
-pub in-front : (x : ℕ) (A B : List ℕ) → In x A → In x (A ++ B)
-in-front x [] B i = absurd i
-in-front x (a ∷ A) B (inl e) = inl e
-in-front x (a ∷ A) B (inr i) = inr (in-front x A B i)
-
-pub in-behind : (x : ℕ) (A B : List ℕ) → In x B → In x (A ++ B)
-in-behind x [] B i = i
-in-behind x (a ∷ A) B i = inr (in-behind x A B i)
-
-pub in-parts : (x : ℕ) (A B : List ℕ) → In x (A ++ B) → In x A ⊎ In x B
-in-parts x [] B i = inr i
-in-parts x (a ∷ A) B (inl e) = inl (inl e)
-in-parts x (a ∷ A) B (inr i) = ⊎-elim (λ j. inl (inr j)) (λ j. inr j) (in-parts x A B i)
 
 -- object o of a dump of n pages, whose newest header is h
 module _ (says : ℕ → Record) (P o h : ℕ) where
@@ -59,11 +46,13 @@ module _ (says : ℕ → Record) (P o h : ℕ) where
     copy : (p c : ℕ) → IsCopy n p c → k ≡ markOf (baseOf P c) p → Mark n k
     bare : (place c : ℕ) → badChunk c ≡ false → place ≤ baseOf P c + P → k ≡ markOf place noPage → Mark n k
 
+  -- with one page more it is one still
   more-mark : (n k : ℕ) → Mark n k → Mark (suc n) k
   more-mark n k (cut p a i e) = cut p a record { below = omega (arith, i .below); header = i .header; cuts = i .cuts; inside = i .inside } e
   more-mark n k (copy p c i e) = copy p c record { below = omega (arith, i .below); copy = i .copy; good = i .good } e
   more-mark n k (bare x c g l e) = bare x c g l e
 
+  -- those of no page, and of one page more
   pub marks-none : marksTo says P o h 0 ≡ markOf 0 noPage ∷ []
   unfolding marksTo gather
   marks-none = refl
@@ -121,12 +110,12 @@ module _ (says : ℕ → Record) (P o h : ℕ) where
   pub mark-of : (n k : ℕ) → In k (marksTo says P o h n) → Mark n k
   mark-of zero k i = ⊎-elim (λ e. bare 0 1 (chunk-good 1 (record { least = omega arith; most = omega arith })) (omega arith) e) (λ j. absurd j) (rw marks-none at i)
   mark-of (suc n) k i =
-      ⊎-elim (λ j. more-mark n k (mark-of n k j)) (λ j. of-page n k (says n) refl j) (in-parts k (marksTo says P o h n) (marksOf P o h n (says n)) (rw (marks-suc n) at i))
+      ⊎-elim (λ j. more-mark n k (mark-of n k j)) (λ j. of-page n k (says n) refl j) (in-joined k (marksTo says P o h n) (marksOf P o h n (says n)) (rw (marks-suc n) at i))
 
   -- the begin is marked
   pub begin-marked : (n : ℕ) → In (markOf 0 noPage) (marksTo says P o h n)
   begin-marked zero = rw marks-none (inl refl)
-  begin-marked (suc n) = rw (marks-suc n) (in-front (markOf 0 noPage) (marksTo says P o h n) (marksOf P o h n (says n)) (begin-marked n))
+  begin-marked (suc n) = rw (marks-suc n) (joined-in (markOf 0 noPage) (marksTo says P o h n) (marksOf P o h n (says n)) (inl (begin-marked n)))
 
   -- what a page marks, all marks have
   page-marked : (n p k : ℕ) → p < n → In k (marksOf P o h p (says p)) → In k (marksTo says P o h n)
@@ -134,8 +123,8 @@ module _ (says : ℕ → Record) (P o h : ℕ) where
   page-marked (suc n) p k b i =
       rw (marks-suc n)
       (⊎-elim
-      (λ (e : p ≡ n). in-behind k (marksTo says P o h n) (marksOf P o h n (says n)) (rw e at i))
-      (λ (j : p < n). in-front k (marksTo says P o h n) (marksOf P o h n (says n)) (page-marked n p k j i))
+      (λ (e : p ≡ n). joined-in k (marksTo says P o h n) (marksOf P o h n (says n)) (inr (rw e at i)))
+      (λ (j : p < n). joined-in k (marksTo says P o h n) (marksOf P o h n (says n)) (inl (page-marked n p k j i)))
       (eq-or-lt-of-le (le-of-suc-le-suc b)))
 
   -- a header is marked where it cuts

@@ -1,4 +1,5 @@
--- Marks put into words one behind another.
+-- Marks put into words one behind another. A page makes no more than three, and none if it is no record of the object, so that they are bounded by the
+-- pages and by the records; those of each page have room where all have.
 use Prim.Native.Nat.{ℕ, zero, suc, _+_, _*_, _≤_, _<_, zero-le}
 use mathlib.Core.Bool.{false}
 use mathlib.Core.List.{List, [], _∷_, _++_, append-nil}
@@ -111,36 +112,11 @@ module _ (says : ℕ → Record) (P o h : ℕ) where
       (eq-or-lt-of-le (le-of-suc-le-suc b))
 
   -- what holds when the marks of i of n pages stand in front of words that were w₀
-  module _ (n : ℕ) (w₀ : List ℕ) where
-    pub record Filled (w : List ℕ) (at i : ℕ) : Type 0 where
-      pub inside : i ≤ n
-      pub place : at ≡ length (marksTo says P o h i)
-      pub long : length w ≡ length w₀
-      pub front : w ≡ inFront (marksTo says P o h i) w₀
-
-    -- a page that is no record of the object is passed over
-    pub fill-skip : (w : List ℕ) (at i : ℕ) → Filled w at i → i < n → isOf o (says i) ≡ false → Filled w at (i + 1)
-    fill-skip w at i f k t =
-        let e = marks-same i t in
-        record { inside = omega arith; place = f .place ∙ ap length (sym e); long = f .long; front = f .front ∙ ap (λ (r : List ℕ). inFront r w₀) (sym e) }
-
-    module _ (room : length (marksTo says P o h n) ≤ length w₀) (w : List ℕ) (at i : ℕ) (f : Filled w at i) (k : i < n) (F : List ℕ) (e : F ≡ marksOf P o h i (says i)) where
-      -- the next page's have room
-      pub fill-room : at + length F ≤ length w
-      fill-room = omega (arith, f .place, f .long, ap length e, marks-within n i k)
-
-      -- and stand behind them once they are put
-      pub fill-more : Filled (sets w at F) (at + length F) (i + 1)
-      fill-more =
-          record {
-            inside = omega arith;
-            place = rw (f .place, e) (sym (count-more i));
-            long = length-sets w at F ∙ f .long;
-            front =
-                rw (f .front, f .place, e)
-                (front-sets (marksTo says P o h i) w₀ (marksOf P o h i (says i)) (omega (arith, marks-within n i k))
-                ∙ ap (λ (r : List ℕ). inFront r w₀) (sym (marks-more i)));
-          }
+  pub record Filled (n : ℕ) (w₀ w : List ℕ) (at i : ℕ) : Type 0 where
+    pub inside : i ≤ n
+    pub place : at ≡ length (marksTo says P o h i)
+    pub long : length w ≡ length w₀
+    pub front : w ≡ inFront (marksTo says P o h i) w₀
 
   -- the first stands there before any page
   pub fill-none : (n m : ℕ) (w : List ℕ) → m ≡ markOf 0 noPage → 0 < length w → Filled n (set w 0 m) (set w 0 m) 1 0
@@ -152,9 +128,36 @@ module _ (says : ℕ → Record) (P o h : ℕ) where
         front = front-first w m k ∙ ap (λ (r : List ℕ). inFront r (set w 0 m)) (ap (λ (y : ℕ). y ∷ []) e ∙ sym (marks-none says P o h));
       }
 
-  -- all pages are passed
-  pub fill-end :
-      (n m : ℕ) (w₀ w : List ℕ) (at i : ℕ) → Filled n (set w₀ 0 m) w at i → n ≤ i → w ≡ inFront (marksTo says P o h n) w₀
-  fill-end n m w₀ w at i f k =
-      let e : i ≡ n = omega (arith, f .inside) in
-      rw e at (f .front) ∙ ap (λ (r : List ℕ). marksTo says P o h n ++ r) (drop-set-lt (length (marksTo says P o h n)) w₀ 0 m (marks-some n))
+-- of which i are passed
+module _ {says : ℕ → Record} {P o h n : ℕ} {w₀ w : List ℕ} {at i : ℕ} (f : Filled says P o h n w₀ w at i) where
+  -- a page that is no record of the object is passed over
+  pub fill-skip : i < n → isOf o (says i) ≡ false → Filled says P o h n w₀ w at (i + 1)
+  fill-skip k t =
+      let e = marks-same says P o h i t in
+      record { inside = omega arith; place = f .place ∙ ap length (sym e); long = f .long; front = f .front ∙ ap (λ (r : List ℕ). inFront r w₀) (sym e) }
+
+  module _ (room : length (marksTo says P o h n) ≤ length w₀) (k : i < n) {F : List ℕ} (e : F ≡ marksOf P o h i (says i)) where
+    -- the next page's have room
+    pub fill-room : at + length F ≤ length w
+    fill-room = omega (arith, f .place, f .long, ap length e, marks-within says P o h n i k)
+
+    -- and stand behind them once they are put
+    pub fill-more : Filled says P o h n w₀ (sets w at F) (at + length F) (i + 1)
+    fill-more =
+        record {
+          inside = omega arith;
+          place = rw (f .place, e) (sym (count-more says P o h i));
+          long = length-sets w at F ∙ f .long;
+          front =
+              rw (f .front, f .place, e)
+              (front-sets (marksTo says P o h i) w₀ (marksOf P o h i (says i)) (omega (arith, marks-within says P o h n i k))
+              ∙ ap (λ (r : List ℕ). inFront r w₀) (sym (marks-more says P o h i)));
+        }
+
+-- all pages are passed, where the first mark was stored before any
+pub fill-end :
+    {says : ℕ → Record} {P o h n : ℕ} (m : ℕ) (w₀ : List ℕ) {w : List ℕ} {at i : ℕ} → Filled says P o h n (set w₀ 0 m) w at i → n ≤ i →
+    w ≡ inFront (marksTo says P o h n) w₀
+fill-end {says} {P} {o} {h} {n} m w₀ {w} {at} {i} f k =
+    let e : i ≡ n = omega (arith, f .inside) in
+    rw e at (f .front) ∙ ap (λ (r : List ℕ). marksTo says P o h n ++ r) (drop-set-lt (length (marksTo says P o h n)) w₀ 0 m (marks-some says P o h n))

@@ -1,14 +1,14 @@
 -- W's bytes, computed from the definitions: why the first and the last byte of each of its spans are what they are, and the first past the end. What
--- W's pages are is known from the crate of pages.
+-- W's pages say is known from below.
 use Prim.Native.Nat.{ℕ}
 use mathlib.Core.List.{List, [], _∷_, map}
-use mathlib.Core.Path.{_≡_, refl, ap, _∙_, fun-ext}
+use mathlib.Core.Path.{_≡_, refl, ap, _∙_}
 use lib.ListN.{getD}
 use Rattle.page.specs.Records.{recordOf, recordAt}
 use Rattle.page.specs.Shelf.{shelfGeometry, shelf, shelfKinds}
 use Rattle.page.specs.declared.record.Record.{Record}
 use Rattle.page.specs.declared.kind.Kind.the-variants.{Blank}
-use Rattle.page.proofs.Marked as pages
+use Rattle.page.proofs.Marked.{shelf-says}
 use Rattle.chunk.specs.Gather.{gather}
 use Rattle.chunk.specs.Newest.{newestWhere}
 use Rattle.chunk.specs.Cuts.{cutOf}
@@ -16,9 +16,6 @@ use Rattle.chunk.specs.Sizes.{dataEnd, sizeOf}
 use Rattle.why.specs.Reasons.{copyFor, cutter, setter, reasonAt}
 use Rattle.why.specs.declared.reason.Reason.{Reason}
 use Rattle.why.specs.declared.reason.Reason.the-variants.{Held, Cut, Count, PastEnd}
-
-says : recordAt shelfGeometry shelf ≡ (λ i. recordOf (getD shelfKinds i Blank))
-says = fun-ext pages.shelf-record
 
 -- object 257, whose newest header is page 4
 abbrev reasons : (ℕ → Record) → List Reason
@@ -42,4 +39,4 @@ unfolding reasonAt copyFor cutter setter sizeOf dataEnd cutOf newestWhere gather
 computed = refl
 
 pub shelf-reasons : reasons (recordAt shelfGeometry shelf) ≡ expected
-shelf-reasons = ap reasons says ∙ computed
+shelf-reasons = ap reasons shelf-says ∙ computed

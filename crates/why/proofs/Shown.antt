@@ -4,12 +4,11 @@
 -- lowest later cut. The lowest later cut is at or below the position exactly when some later header's is. So the valid bytes reach the position exactly
 -- when no such header cuts and the byte count does: when the reason is that a page holds the byte. A read puts those bytes of that page into the buffer
 -- and zeros behind them.
-use Prim.Native.Nat.{ℕ, _+_, _-_, _/_, _≤_, _<_}
+use Prim.Native.Nat.{ℕ, _+_, _-_, _≤_, _<_}
 use mathlib.Core.Bool.{true, false, _&&_}
 use mathlib.Core.List.{List, [], _++_}
 use mathlib.Core.Option.{Option, none, some}
 use mathlib.Core.Path.{_≡_, refl, sym, ap, _∙_}
-use native.Mathlib.Nat.{div-add-mod', mod-lt}
 use native.Mathlib.Omega.{arith}
 use lib.Dec.{ltb, leb}
 use lib.ListN.{length, take, drop, getD, replicate, length-append, length-replicate, length-take, List·getD-append, List·getD-eq-default}
@@ -44,6 +43,7 @@ use Rattle.chunk.specs.declared.answer.File.the-variants as file
 use Rattle.chunk.specs.declared.answer.Looked.{Looked}
 use Rattle.chunk.specs.declared.answer.Looked.the-variants as looked
 use Rattle.chunk.proofs.Cases.{copy-missing, copy-hidden, copy-shown, looked-past, looked-inside, chunk-by-file, valid-there, valid-none}
+use Rattle.chunk.proofs.Cuts.{leaves-most}
 use Rattle.chunk.proofs.Laying.{zero-at}
 use Rattle.chunk.proofs.Meaning.{lowest-cut-hides, hides-lowest-cut}
 use Rattle.why.specs.Answers.{filedBy, filedIn, onFile, saysAt, roomFor, whyOn, shownBy}
@@ -55,15 +55,8 @@ use Rattle.why.specs.Reasons.{lastPosition, chunkAt, byteAt, copyFor, cu
 use Rattle.why.specs.declared.reason.Reason.{Reason}
 use Rattle.why.specs.declared.reason.Reason.the-variants as reason
 use Rattle.why.proofs.Meaning.{Means, BecauseHeld, reason-by, cutter-found, cutter-missing, file-means}
+use Rattle.why.proofs.Places.{position, byte-below}
 use Rattle.why.proofs.Until.{HoldsUntil, until-holds, until-past}
-
--- ---- a position in its chunk
-
-place-in : (P x : ℕ) → baseOf P (chunkAt P x) + byteAt P x ≡ x
-place-in P x = let e : x / P + 1 - 1 ≡ x / P = omega arith in rw e (div-add-mod' x P)
-
-byte-below : (P x : ℕ) → 0 < P → byteAt P x < P
-byte-below P x k = mod-lt x k
 
 -- ---- what a cut leaves of the bytes from a place on
 
@@ -80,10 +73,6 @@ leaves-more (At a) base at bytes i t = omega (arith, leb-false a (base + at) t)
 leaves-less : (a : Cut) (base at bytes : ℕ) → hides a (base + at) ≡ true → leaves a base bytes ≤ at
 leaves-less Nowhere base at bytes t = clash (cc)
 leaves-less (At a) base at bytes t = omega (arith, leb-true a (base + at) t)
-
-leaves-within : (a : Cut) (base bytes : ℕ) → leaves a base bytes ≤ bytes
-leaves-within Nowhere base bytes = omega arith
-leaves-within (At a) base bytes = omega arith
 
 -- ---- what a lookup answers
 
@@ -140,10 +129,10 @@ module _
   lowest q = lowestCut says o (h .0) (ageOf says q) n
 
   place : base + at ≡ x
-  place = place-in P x
+  place = position P some-data x
 
   small : at < P
-  small = byte-below P x some-data
+  small = byte-below P some-data x
 
   -- the lookup goes by the size and by the copy
   by-file : answer ≡ lookedBy says o n P c (file.Header h v)
@@ -158,7 +147,7 @@ module _
   copy-fits (some q) =
       by-test (hides (lowest q) base) _
       (λ t. rw (copy-hidden says o n P c (h .0) shown q t) (refl, omega arith))
-      (λ t. rw (copy-shown says o n P c (h .0) shown q t) (refl, (omega (arith, leaves-within (lowest q) base shown), omega arith)))
+      (λ t. rw (copy-shown says o n P c (h .0) shown q t) (refl, (omega (arith, leaves-most (lowest q) base shown), omega arith)))
 
   pub looked-fits : Fits P answer
   looked-fits =
@@ -342,7 +331,7 @@ module _ (g : Geometry) (dump : List ℕ) where
         fileOf says o n ≡ file.Header h v → reasonAt says P o n (h .0) x ≡ reason.Held q at → shownBy g dump (reason.Held q at) ≡ getD (pageAt g dump (q .0)) at 0
     held-byte says o v x at h q live e =
         let w : BecauseHeld says P o n (h .0) x (q .0) at = rw e at (file-means says P o n v x h live) in
-        let b : at < P = rw (w .byte) (byte-below P x data-some) in
+        let b : at < P = rw (w .byte) (byte-below P data-some x) in
         rw (page-below g dump n accepted (q .0) (w .copy .newest .below), lt-ltb at P b)
 
     -- a read of the dump as it stands

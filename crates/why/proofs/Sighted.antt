@@ -10,7 +10,7 @@ use mathlib.Core.Path.{_≡_, refl, sym, ap, _∙_}
 use native.Mathlib.Nat.{le-refl, le-trans}
 use native.Mathlib.Omega.{arith}
 use lib.Dec.{eqb, ltb}
-use borrow.Author.Tests.{eqb-true, eqb-false, eq-eqb, ne-eqb, ltb-true, ltb-false, lt-ltb, le-leb, leb-true}
+use borrow.Author.Tests.{eqb-true, eqb-false, eq-eqb, ne-eqb, ltb-true, ltb-false, lt-ltb, le-ltb, le-leb, leb-true}
 use Rattle.page.specs.Choice.{pick}
 use Rattle.page.specs.Numbers.{mostChunk, pageValues}
 use Rattle.page.specs.declared.number.PageNumber.{PageNumber}
@@ -21,6 +21,8 @@ use Rattle.page.proofs.Searching.{clash, by-test}
 use Rattle.page.proofs.Within.{chunk-good, chunk-within}
 use Rattle.sort.specs.Arranged.{Every}
 use Rattle.sort.specs.Ascending.{In}
+use Rattle.sort.proofs.Places.{every-in}
+use Rattle.sort.proofs.Times.{joined-in, in-joined}
 use Rattle.chunk.specs.Records.{orderOf, sequenceOf, ageOf, headerOf, baseOf}
 use Rattle.chunk.specs.Newest.{copyOf}
 use Rattle.chunk.specs.Cuts.{cutOf, hides}
@@ -36,18 +38,12 @@ use Rattle.why.specs.Sweeps.{nothingSeen, seenWith, taken, behindSeen, c
 use Rattle.why.specs.declared.sweep.Seen.{Seen}
 use Rattle.why.proofs.Latest.{Latest, latest-more, latest-same}
 use Rattle.why.proofs.Marking as marking
-use Rattle.why.proofs.Marking.{IsCut, IsCopy, Mark, in-front, in-behind, in-parts, cut-marked, copy-marked, mark-place, mark-page}
+use Rattle.why.proofs.Marking.{IsCut, IsCopy, Mark, cut-marked, copy-marked, mark-place, mark-page}
 use Rattle.why.proofs.Places.{begins-below, own-begins, base-order}
 
 -- one member more
 pub snoc-in : (x k : ℕ) (A : List ℕ) → In x (A ++ (k ∷ [])) → (x ≡ k) ⊎ In x A
-snoc-in x k A i = ⊎-elim (λ j. inr j) (λ j. ⊎-elim (λ e. inl e) (λ z. absurd z) j) (in-parts x A (k ∷ []) i)
-
--- what is said of all is said of a member
-pub every-in : (Q : ℕ → Type 0) (x : ℕ) (L : List ℕ) → Every Q L → In x L → Q x
-every-in Q x [] e i = absurd i
-every-in Q x (y ∷ L) e (inl j) = rw j (e .0)
-every-in Q x (y ∷ L) e (inr j) = every-in Q x L (e .1) j
+snoc-in x k A i = ⊎-elim (λ j. inr j) (λ j. ⊎-elim (λ e. inl e) (λ z. absurd z) j) (in-joined x A (k ∷ []) i)
 
 -- marks of one number have one page and one place
 same-page : (a b p q : ℕ) → p < pageValues → q < pageValues → markOf a p ≡ markOf b q → p ≡ q
@@ -105,6 +101,7 @@ module _ (says : ℕ → Record) (P o h n : ℕ) (few : n < pageValues) (some-da
     pub page : ℕ
     pub copy : CopyIn A c page
 
+  -- what was taken in by the marks passed: the newest header that cuts, and of the highest chunk the newest copy, if there is one
   pub record Sighted (A : List ℕ) (s : Seen) : Type 0 where
     pub newest-cut : Latest says (CutIn A) (s .cut)
     pub newest-copy : Latest says (CopyIn A (s .chunk)) (s .copy)
@@ -126,10 +123,10 @@ module _ (says : ℕ → Record) (P o h n : ℕ) (few : n < pageValues) (some-da
 
     -- what was passed stays so
     cut-kept : (p : ℕ) → CutIn A p → CutIn more p
-    cut-kept p i = record { place = i .place; is = i .is; there = in-front _ A (k ∷ []) (i .there) }
+    cut-kept p i = record { place = i .place; is = i .is; there = joined-in _ A (k ∷ []) (inl (i .there)) }
 
     copy-kept : (c p : ℕ) → CopyIn A c p → CopyIn more c p
-    copy-kept c p i = record { is = i .is; there = in-front _ A (k ∷ []) (i .there) }
+    copy-kept c p i = record { is = i .is; there = joined-in _ A (k ∷ []) (inl (i .there)) }
 
     -- and what is passed now was passed before, or is the mark's own
     cut-parts : (R : Type 0) (p : ℕ) → CutIn more p → ((a : ℕ) → IsCut says P o h n p a → markOf a p ≡ k → R) → (CutIn A p → R) → R
@@ -142,8 +139,9 @@ module _ (says : ℕ → Record) (P o h n : ℕ) (few : n < pageValues) (some-da
     copied-kept c (inl e) = inl e
     copied-kept c (inr i) = inr record { page = i .page; copy = copy-kept c (i .page) (i .copy) }
 
+    -- that mark is the last one passed
     last : In k more
-    last = in-behind k A (k ∷ []) (inl refl)
+    last = joined-in k A (k ∷ []) (inr (inl refl))
 
     module _ (s : Seen) (before : Sighted A s) where
       -- a mark without a page takes nothing in
@@ -304,14 +302,10 @@ module _ (says : ℕ → Record) (P o h n : ℕ) (few : n < pageValues) (some-da
     unfolding copyFor
     a-copy q i f =
         let m : c ≤ mostChunk = omega (arith, chunk-within c (i .is .good)) in
-        let t : ltb mostChunk c ≡ false = le-ltb m in
-        rw t
+        rw (le-ltb mostChunk c m)
         (where-is says (λ r. copyOf o c (says r)) n q
         record { below = i .is .below; passes = i .is .copy; newest = λ r b u. f r (copy-passed r b u m) }
         (omega (arith, few)))
-      where
-        le-ltb : c ≤ mostChunk → ltb mostChunk c ≡ false
-        le-ltb m = by-test (ltb mostChunk c) _ (λ t. absurd (omega (arith, m, ltb-true mostChunk c t))) (λ t. t)
 
     -- no header newer than the copy cuts
     no-cutter : (q : ℕ) → ((p : ℕ) → CutIn A p → ageOf says p ≤ ageOf says q) → cutter says P o n h q x ≡ none

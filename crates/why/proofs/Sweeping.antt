@@ -15,7 +15,8 @@ use Rattle.page.proofs.Searching.{clash, by-test}
 use Rattle.sort.specs.Arranged.{arranged, rises, Every}
 use Rattle.sort.specs.Ascending.{In}
 use Rattle.sort.proofs.Arranging.{rises-cons, rises-every, arranged-rises, every-weaker}
-use Rattle.sort.proofs.Ascending.{ascend-new, ascend-kept, ascend-back}
+use Rattle.sort.proofs.Places.{every-in, in-every}
+use Rattle.sort.proofs.Times.{joined-in, in-arranged, arranged-in}
 use Rattle.chunk.specs.Live.{passed}
 use Rattle.chunk.specs.Sizes.{sizeOf}
 use Rattle.chunk.specs.Records.{baseOf}
@@ -28,23 +29,11 @@ use Rattle.why.specs.declared.reason.Reason.{Reason}
 use Rattle.why.specs.declared.reason.Reason.the-variants.{Held, NoCopy, Cut, Count, PastEnd}
 use Rattle.why.specs.declared.sweep.Seen.{Seen}
 use Rattle.why.proofs.Marking as marking
-use Rattle.why.proofs.Marking.{Mark, mark-of, begin-marked, mark-place, place-le, in-front, in-behind}
+use Rattle.why.proofs.Marking.{Mark, mark-of, begin-marked, mark-place, place-le}
 use Rattle.why.proofs.Places.{page-inside}
-use Rattle.why.proofs.Sighted.{Sighted, snoc-in, every-in, nothing-sighted, take-in, reason-seen}
+use Rattle.why.proofs.Sighted.{Sighted, snoc-in, nothing-sighted, take-in, reason-seen}
 use Rattle.why.proofs.Still.{inside-reason, quiet-at}
 use Rattle.why.proofs.Until.{code-stays}
-
--- the members of arranged numbers are those that were arranged
-pub arranged-in : (x : ℕ) (L : List ℕ) → In x L → In x (arranged L)
-unfolding arranged
-arranged-in x [] i = absurd i
-arranged-in x (y ∷ L) (inl e) = rw e (ascend-new y (arranged L))
-arranged-in x (y ∷ L) (inr i) = ascend-kept y x (arranged L) (arranged-in x L i)
-
-pub in-arranged : (x : ℕ) (L : List ℕ) → In x (arranged L) → In x L
-unfolding arranged
-in-arranged x [] i = absurd i
-in-arranged x (y ∷ L) i = ⊎-elim (λ e. inl e) (λ j. inr (in-arranged x L j)) (ascend-back y x (arranged L) i)
 
 -- every code is some number
 pub code-some : (r : Reason) → 0 < codeOf r
@@ -54,7 +43,7 @@ code-some (Cut p) = omega arith
 code-some (Count p) = omega arith
 code-some (PastEnd p) = omega arith
 
--- numbers of which none passes
+-- numbers of which none passes add no row
 module _ (test : ℕ → Bool) (id : ℕ → ℕ) where
   pub passed-quiet : (x m : ℕ) → ((z : ℕ) → x ≤ z → z < x + m → test z ≡ false) → passed test id (x + m) ≡ passed test id x
   passed-quiet x zero f = let e : x + 0 ≡ x = omega arith in rw e
@@ -143,7 +132,7 @@ module _ (says : ℕ → Record) (P o n h : ℕ) (some-data : 0 < P) (most-data 
       sighted = seen-more;
       rising = ahead;
       passed-below = snoc-every A (w .passed-below);
-      all = λ m i. ⊎-elim (λ j. inl (in-front m A (k ∷ []) j)) (λ j. ⊎-elim (λ e. inl (in-behind m A (k ∷ []) (inl e))) (λ z. inr z) j) (w .all m i);
+      all = λ m i. ⊎-elim (λ j. inl (joined-in m A (k ∷ []) (inl j))) (λ j. ⊎-elim (λ e. inl (joined-in m A (k ∷ []) (inr (inl e)))) (λ z. inr z) j) (w .all m i);
       each = λ m i. ⊎-elim (λ j. ⊎-elim (λ e. w .each m (inr (inl e))) (λ z. w .each m (inl z)) (snoc-in m k A j)) (λ j. w .each m (inr (inr j))) i;
       ready = r;
     }
@@ -182,8 +171,8 @@ module _ (says : ℕ → Record) (P o n h : ℕ) (some-data : 0 < P) (most-data 
       -- all up to the place was passed
       full : (m : ℕ) → In m marks → placeOf m ≤ x → In m next
       full m i l =
-          ⊎-elim (λ j. in-front m A (k ∷ []) j)
-          (λ j. ⊎-elim (λ e. in-behind m A (k ∷ []) (inl e)) (λ z. absurd (omega (arith, behind m z, later, l))) j)
+          ⊎-elim (λ j. joined-in m A (k ∷ []) (inl j))
+          (λ j. ⊎-elim (λ e. joined-in m A (k ∷ []) (inr (inl e))) (λ z. absurd (omega (arith, behind m z, later, l))) j)
           (w .all m i)
 
       upto : (m : ℕ) → In m next → placeOf m ≤ x
@@ -204,7 +193,7 @@ module _ (says : ℕ → Record) (P o n h : ℕ) (some-data : 0 < P) (most-data 
           (quiet-at says P o n h some-data most-data few (z - 1)
           (λ v i q.
           ⊎-elim
-          (λ j. absurd (omega (arith, upto v (in-front v A (k ∷ []) j), q, e, l)))
+          (λ j. absurd (omega (arith, upto v (joined-in v A (k ∷ []) (inl j)), q, e, l)))
           (λ j. ⊎-elim (λ (y : v ≡ k). absurd (omega (arith, ap placeOf y, q, e, l))) (λ y. absurd (omega (arith, behind v y, q, e, m))) j)
           (w .all v i))
           (omega (arith, e, m, edge-most)))
@@ -298,22 +287,18 @@ module _ (says : ℕ → Record) (P o n h : ℕ) (some-data : 0 < P) (most-data 
   pub sweep-spans : swept says P size nothingSeen 0 (arranged marks) ≡ spansOf says P o n h
   unfolding spansOf
   sweep-spans =
-      let e : edge (arranged marks) ≡ 0 = first-mark (arranged marks) (arranged-rises marks) (arranged-in _ marks (begin-marked says P o h n)) in
+      let e : edge (arranged marks) ≡ 0 = first-mark (arranged marks) (arranged-rises marks) (in-arranged _ marks (begin-marked says P o h n)) in
       let w : Standing [] (arranged marks) nothingSeen 0 0 = record {
         sighted = nothing-sighted says P o h n few some-data;
         rising = arranged-rises marks;
         passed-below = tt;
-        all = λ k i. inr (arranged-in k marks i);
-        each = λ k i. ⊎-elim (λ j. absurd j) (λ j. in-arranged k marks j) i;
+        all = λ k i. inr (in-arranged k marks i);
+        each = λ k i. ⊎-elim (λ j. absurd j) (λ j. arranged-in k marks j) i;
         ready = inl (e, refl);
       } in
       ap (λ (L : List ℕ). L ++ swept says P size nothingSeen 0 (arranged marks)) (sym (ap (passed changes row) e ∙ passed-none changes row))
       ∙ sweeps [] (arranged marks) nothingSeen 0 0 w
 
   -- and each of them has its place
-  every-from : (L : List ℕ) → ((k : ℕ) → In k L → placeOf k < places) → Every (λ k. placeOf k < places) L
-  every-from [] f = tt
-  every-from (k ∷ L) f = (f k (inl refl), every-from L (λ m i. f m (inr i)))
-
   pub marks-inside : Every (λ k. placeOf k < places) (arranged marks)
-  marks-inside = every-from (arranged marks) (λ k i. inside-mark k (mark-of says P o h n k (in-arranged k marks i)))
+  marks-inside = in-every (λ k. placeOf k < places) (arranged marks) (λ k i. inside-mark k (mark-of says P o h n k (arranged-in k marks i)))

@@ -2,14 +2,13 @@
 ghost use mathlib.Core.Path.{_≡_};
 ghost use Prim.Native.Nat.{_≤_, _<_};
 ghost use lib.ListN.{length};
-ghost use Rattle.page.specs.Numbers.{pageValues};
 ghost use Rattle.page.specs.Lengths.{openedOf};
 ghost use Rattle.page.specs.Records.{recordAt};
 ghost use Rattle.page.specs.declared.geometry.Opened.the-variants as opened;
 ghost use Rattle.sort.specs.Room.{inRoom};
 ghost use Rattle.chunk.specs.Takes.{seenBy};
 ghost use Rattle.chunk.specs.Sizes.{sizeOf};
-ghost use Rattle.why.specs.Marks.{marksTo, mostData};
+ghost use Rattle.why.specs.Marks.{marksTo};
 ghost use Rattle.why.specs.Reasons.{spansOf};
 ghost use Rattle.why.specs.Answers.{filedIn, spansOn, spansLeft};
 use crate::marks::fill_marks;

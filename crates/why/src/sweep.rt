@@ -1,16 +1,13 @@
 // The spans of a file, by a sweep over its marks in order: each mark takes in the page that begins to matter there, and behind the last mark of a place
 // all that decides the reason there has been taken in. Between two places nothing changes.
-ghost use mathlib.Core.Bool.{not};
 ghost use mathlib.Core.Path.{_≡_};
 ghost use Prim.Native.Nat.{_≤_, _<_, _^_};
-ghost use lib.Dec.{eqb};
 ghost use lib.ListN.{length, take, drop};
-ghost use Rattle.page.specs.Numbers.{pageValues};
 ghost use Rattle.page.specs.Records.{recordAt};
 ghost use Rattle.sort.specs.Room.{inRoom};
 ghost use Rattle.sort.specs.Arranged.{Every};
 ghost use Rattle.chunk.specs.Takes.{seenBy};
-ghost use Rattle.why.specs.Codes.{codeOf, codeValues, rowOf, pageIn};
+ghost use Rattle.why.specs.Codes.{codeValues, rowOf};
 ghost use Rattle.why.specs.Marks.{places, placeOf};
 ghost use Rattle.why.specs.Reasons.{heldBy};
 ghost use Rattle.why.specs.Sweeps.{nothingSeen, seenWith, taken, reasonSeen, goesOn, swept};

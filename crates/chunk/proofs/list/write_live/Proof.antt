@@ -1,36 +1,28 @@
 -- The loop's invariant: the ids of the live pages passed stand in front of the words, ascending, and the count is how many they are.
-use Prim.Native.Nat.{_≤_, _<_, _-_}
+use Prim.Native.Nat.{_≤_, _-_}
 use mathlib.Core.Bool.{true, false}
-use mathlib.Core.Path.{_≡_, refl, sym, ap, _∙_}
-use lib.ListN.{length}
+use mathlib.Core.Path.{_≡_, sym, ap, _∙_}
 use native.Mathlib.Omega.{arith}
 use borrow.Author.Needs.{needs}
 use borrow.Author.Tests.{not-true, not-false}
-use Rattle.page.specs.Search.{count}
 use Rattle.page.specs.Records.{isHeader, recordAt}
-use Rattle.page.proofs.Searching.{count-none}
 use Rattle.page.proofs.Sound.{else-header}
 use Rattle.chunk.specs.Records.{objectOf}
-use Rattle.chunk.specs.Live.{objectAt, livePage, passed, liveIds, liveCount}
-use Rattle.chunk.specs.Lists.{inFront}
-use Rattle.chunk.proofs.Living.{count-skip, count-take, count-below, passed-none, passed-skip, live-other, live-header}
-use Rattle.chunk.proofs.Sorting.{passed-written, passed-sorted}
+use Rattle.chunk.specs.Live.{objectAt, livePage, liveIds, liveCount}
+use Rattle.chunk.proofs.Living.{live-other, live-header}
+use Rattle.chunk.proofs.Sorting.{Listed, listed-none, listed-skip, listed-room, listed-more, listed-sorted}
 use Rattle.chunk.proofs.list.write_live.Statement.{statement}
 use Rattle.chunk.proofs.list.write_live.Tie as tie
 
 abbrev Inv-loop : tie.InvT-loop
 Inv-loop dump g pages words₀ count₀ i₀ words count₁ i =
-    (i ≤ pages)
-    × (count₁ ≤ i)
-    × (length words ≡ length words₀)
-    × (count₁ ≡ count (livePage (recordAt g dump) pages) i)
-    × (words ≡ inFront (passed (livePage (recordAt g dump) pages) (objectAt (recordAt g dump)) i) words₀)
+    (i ≤ pages) × Listed (livePage (recordAt g dump) pages) (objectAt (recordAt g dump)) words₀ words count₁ i
 
 abbrev μ-loop : tie.MeasureT-loop
 μ-loop dump g pages words₀ count₀ i₀ words count₁ i = pages - i
 
 loop-holds : tie.Need-loop-holds Inv-loop μ-loop
-loop-holds c = (search needs, search needs, refl, rw count-none, rw passed-none)
+loop-holds c = (search needs, listed-none _ _ _)
 
 loop-again : tie.Need-loop-again Inv-loop μ-loop
 loop-again c =
@@ -40,7 +32,7 @@ loop-again c =
     let says = recordAt (a .g) (a .dump .now) in
     let h : isHeader (says (q .i)) ≡ false = rw (← k .record-at .ensures) (else-header (k .record-at .result) (c .match .keys2)) in
     let t = live-other says (a .pages) (q .i) h in
-    (search needs, search needs, search needs, rw (count-skip _ (q .i) t) (q .inv .3), rw (passed-skip _ _ (q .i) t) (q .inv .4))
+    (search needs, listed-skip (q .inv .1) t)
 
 -- whether the page is live, by the call
 called :
@@ -58,7 +50,7 @@ loop-again-2 : tie.Need-loop-again-2 Inv-loop μ-loop
 loop-again-2 c =
     let q = c .before .before .before .before .before .before .before .loop in
     let t = called (c .before) ∙ not-true (c .before .is-live .result) (c .if1 .taken) in
-    (search needs, search needs, search needs, rw (count-skip _ (q .i) t) (q .inv .3), rw (passed-skip _ _ (q .i) t) (q .inv .4))
+    (search needs, listed-skip (q .inv .1) t)
 
 loop-again-3 : tie.Need-loop-again-3 Inv-loop μ-loop
 unfolding liveCount
@@ -74,13 +66,8 @@ loop-again-3 c =
     let test = livePage says (a .pages) in
     let t : test (q .i) ≡ true = called (f .before) ∙ not-false (f .before .is-live .result) (f .if1 .left) in
     let o : objectAt says (q .i) ≡ m .r .given .0 .0 .object .0 = ap objectOf (sym (k .record-at .ensures) ∙ m .r .given .1) in
-    let room : q .count < length (a .words .now) = omega (arith, count-below test (q .i) (a .pages) (k .before .loop-test .taken) t, s .pre, q .inv .3) in (
-      search needs,
-      search needs,
-      w .put-id .kept .0 ∙ q .inv .2,
-      rw (count-take test (q .i) t, q .inv .3),
-      w .put-id .ensures ∙ rw (← o) (passed-written test (objectAt says) (q .words) (a .words .now) (q .count) (q .i) t (q .inv .3) room (q .inv .4)),
-    )
+    let room = listed-room (q .inv .1) (a .pages) (k .before .loop-test .taken) t (s .pre) in
+    (search needs, listed-more (q .inv .1) _ t room (rw o (w .put-id .ensures)))
 
 returns : tie.Need-returns Inv-loop μ-loop
 unfolding liveIds
@@ -91,7 +78,7 @@ returns c =
     let says = recordAt (a .g) (a .dump .now) in
     let e : q .i ≡ a .pages = omega arith in
     c .before .before .sort .ensures
-    ∙ (rw e at (passed-sorted (livePage says (a .pages)) (objectAt says) (q .words) (a .words .now) (q .count) (q .i) (q .inv .3) (q .inv .4)))
+    ∙ (rw e at (listed-sorted (q .inv .1)))
 
 pub write-live-spec : {M : Type 1} → statement M
 write-live-spec =

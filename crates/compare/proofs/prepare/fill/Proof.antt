@@ -5,7 +5,7 @@ use native.Mathlib.Omega.{arith}
 use borrow.Author.Needs.{needs}
 use lib.ListN.{length, take, replicate}
 use lib.Seq.{length-take-le}
-use Rattle.sort.proofs.Clearing.{cleared-whole}
+use Rattle.sort.proofs.Clearing.{cleared-all}
 use Rattle.compare.proofs.prepare.fill.Statement.{statement}
 use Rattle.compare.proofs.prepare.fill.Tie as tie
 
@@ -39,7 +39,7 @@ returns c =
       f .fill-order .ensures .0,
       (
         r .fill-copies .ensures,
-        cleared-whole (r .fill-copies .last .1 .1 .1 .1 .1 .0) _ _ refl (x .clear .ensures) ∙ ap (λ (k : ℕ). replicate {A = ℕ} k 0) long,
+        x .clear .ensures ∙ cleared-all (r .fill-copies .last .1 .1 .1 .1 .1 .0) _ refl ∙ ap (λ (k : ℕ). replicate {A = ℕ} k 0) long,
       ),
     )
 

@@ -1,17 +1,11 @@
 -- The loop's invariant: the ids of the slots asked for passed stand in front of the words, ascending, and the count is how many they are.
-use Prim.Native.Nat.{ℕ, _+_, _≤_, _<_, _-_}
+use Prim.Native.Nat.{_≤_, _<_, _-_}
 use mathlib.Core.Bool.{true}
-use mathlib.Core.Path.{_≡_, refl, sym, ap, _∙_}
-use lib.ListN.{length}
+use mathlib.Core.Path.{_≡_, sym, ap, _∙_}
 use native.Mathlib.Omega.{arith}
 use borrow.Author.Needs.{needs}
-use Rattle.page.specs.Search.{count}
 use Rattle.page.specs.Records.{recordAt}
-use Rattle.page.proofs.Searching.{count-none}
-use Rattle.chunk.specs.Live.{passed}
-use Rattle.chunk.specs.Lists.{inFront}
-use Rattle.chunk.proofs.Living.{count-skip, count-take, count-below, passed-none, passed-skip}
-use Rattle.chunk.proofs.Sorting.{passed-written, passed-sorted}
+use Rattle.chunk.proofs.Sorting.{Listed, listed-none, listed-skip, listed-room, listed-more, listed-sorted}
 use Rattle.index.specs.Cells.{slotsFor, InTable, keys}
 use Rattle.index.specs.Listing.{isAsked, askedSlot, slotIds}
 use Rattle.index.specs.declared.list.Ask.the-variants.{Live}
@@ -22,17 +16,13 @@ use Rattle.index.proofs.list.write_ids.Tie as tie
 
 abbrev Inv-loop : tie.InvT-loop
 Inv-loop dump g pages cells words₀ slots count₀ s₀ words count₁ s =
-    (s ≤ slotsFor pages)
-    × (count₁ ≤ s)
-    × (length words ≡ length words₀)
-    × (count₁ ≡ count (askedSlot Live (recordAt g dump) (g .layout .«data») cells pages) s)
-    × (words ≡ inFront (passed (askedSlot Live (recordAt g dump) (g .layout .«data») cells pages) (keys cells) s) words₀)
+    (s ≤ slotsFor pages) × Listed (askedSlot Live (recordAt g dump) (g .layout .«data») cells pages) (keys cells) words₀ words count₁ s
 
 abbrev μ-loop : tie.MeasureT-loop
 μ-loop dump g pages cells words₀ slots count₀ s₀ words count₁ s = slotsFor pages - s
 
 loop-holds : tie.Need-loop-holds Inv-loop μ-loop
-loop-holds c = (search needs, search needs, refl, rw count-none, rw passed-none)
+loop-holds c = (search needs, listed-none _ _ _)
 
 -- in the loop the slot is one of the index
 module _ (t : tie.In-loop Inv-loop μ-loop) where
@@ -53,7 +43,7 @@ loop-again c =
     let k = c .before .before in
     let q = k .before .before .loop in
     let t = ap isAsked (at-free Live _ _ _ _ (q .s) (sym (k .key-of .ensures) ∙ c .if1 .taken)) in
-    (search needs, search needs, search needs, rw (count-skip _ (q .s) t) (q .inv .3), rw (passed-skip _ _ (q .s) t) (q .inv .4))
+    (search needs, listed-skip (q .inv .1) t)
 
 standing-at-requires : tie.Need-standing-at-requires Inv-loop μ-loop
 standing-at-requires c κs =
@@ -66,7 +56,7 @@ loop-again-2 c =
     let d = c .before in
     let q = d .before .before .before .before .before .loop in
     let t = ap isAsked (sym (d .standing-at .ensures)) ∙ else-asked (d .standing-at .result) (c .match .keys2) in
-    (search needs, search needs, search needs, rw (count-skip _ (q .s) t) (q .inv .3), rw (passed-skip _ _ (q .s) t) (q .inv .4))
+    (search needs, listed-skip (q .inv .1) t)
 
 loop-again-3 : tie.Need-loop-again-3 Inv-loop μ-loop
 loop-again-3 c =
@@ -79,14 +69,8 @@ loop-again-3 c =
     let says = recordAt (s .args .g) (s .args .dump .now) in
     let test = askedSlot Live says (s .args .g .layout .«data») (s .args .cells .now) (s .args .pages) in
     let t : test (q .s) ≡ true = ap isAsked (sym (d .standing-at .ensures) ∙ m .enum-told .given .1) in
-    let room : q .count < length (s .args .words .now) = omega (arith, count-below test (q .s) (slotsFor (s .args .pages)) (inside (k .before)) t, s .pre .1, q .inv .3) in (
-      search needs,
-      search needs,
-      w .put-id .kept .0 ∙ q .inv .2,
-      ap (λ (x : ℕ). x + 1) (q .inv .3) ∙ sym (count-take test (q .s) t),
-      w .put-id .ensures
-          ∙ rw (k .key-of .ensures) (passed-written test (keys (s .args .cells .now)) (q .words) (s .args .words .now) (q .count) (q .s) t (q .inv .3) room (q .inv .4)),
-    )
+    let room = listed-room (q .inv .1) (slotsFor (s .args .pages)) (inside (k .before)) t (s .pre .1) in
+    (search needs, listed-more (q .inv .1) _ t room (rw (← k .key-of .ensures) (w .put-id .ensures)))
 
 returns : tie.Need-returns Inv-loop μ-loop
 unfolding slotIds
@@ -94,10 +78,9 @@ returns c =
     let l = c .before .before .before .before in
     let q = l .before .loop in
     let b = l .before .before .before .before .before .before .args in
-    let test = askedSlot Live (recordAt (b .g) (b .dump .now)) (b .g .layout .«data») (b .cells .now) (b .pages) in
     let e : q .s ≡ slotsFor (b .pages) = omega (arith, q .inv .0, l .loop-test .left, l .before .before .slots-for .ensures) in
     c .before .before .sort .ensures
-    ∙ (rw e at (passed-sorted test (keys (b .cells .now)) (q .words) (b .words .now) (q .count) (q .s) (q .inv .3) (q .inv .4)))
+    ∙ (rw e at (listed-sorted (q .inv .1)))
 
 pub write-ids-spec : {M : Type 1} → statement M
 write-ids-spec =

@@ -1,5 +1,5 @@
--- The loop's invariant: the words from the place reached on are filled.
-use mathlib.Core.Path.{_≡_}
+-- The loop's invariant is `Lowered`: the words from the place reached on are filled, and the cut and whether a header was met are those of the records from
+-- there on. The next record is older, and lowers the cut by its own.
 use native.Mathlib.Omega.{arith}
 use borrow.Author.Needs.{needs}
 use Rattle.page.specs.Records.{recordAt}
@@ -23,18 +23,9 @@ loop-again : tie.Need-loop-again Inv-loop μ-loop
 loop-again c =
     let l = c .before .before in
     let k = l .before in
-    let q = k .before .before .before .before .loop in
-    let a = k .before .before .before .before .before .before .before .before .args in
-    lowered-one (seenBy (a .t) (recordAt (a .g) (a .dump .now))) (a .ages .now) (q .words) (q .cut) (l .low-with .result) (q .newest) (c .before .headless-with .result) (q .i)
-    (c .word-of .result) (k .seen-at .result) (q .inv) (k .before .before .before .loop-test .taken)
-    (rw (← k .before .value-of .ensures) (k .seen-at .ensures)) (l .low-with .ensures) (c .before .headless-with .ensures) (c .word-of .ensures)
-
-returns : tie.Need-returns Inv-loop μ-loop
-returns c =
-    let q = c .before .loop in
-    let a = c .before .before .before .before .before .args in
-    let e : q .i ≡ 0 = omega arith in
-    lowered-all (seenBy (a .t) (recordAt (a .g) (a .dump .now))) (a .ages .now) (q .words) (q .cut) (q .newest) (rw e at (q .inv))
+    let t = k .before .before .before in
+    lowered-one (t .before .loop .inv) (k .seen-at .result) (t .loop-test .taken) (rw (← k .before .value-of .ensures) (k .seen-at .ensures))
+    (l .low-with .ensures) (c .before .headless-with .ensures) (c .word-of .ensures)
 
 pub fill-lows-spec : {M : Type 1} → statement M
 fill-lows-spec =
@@ -56,4 +47,4 @@ fill-lows-spec =
     (search needs)
     loop-again
     (search needs)
-    returns)
+    (λ c. lowered-all (c .before .loop .inv) (omega arith)))

@@ -1,68 +1,70 @@
 -- Refused as the records are, and then nothing is written; else the fronts of both slices are filled.
-use Prim.Native.Nat.{_≤_, min}
-use mathlib.Core.Path.{_≡_, sym, _∙_}
+use Prim.Native.Nat.{ℕ, min}
+use mathlib.Core.Path.{_≡_, sym, ap, _∙_}
 use native.Mathlib.Omega.{arith}
 use borrow.Author.Needs.{needs}
-use lib.ListN.{length, take}
-use lib.Seq.{length-take-le}
+use lib.ListN.{length}
 use Rattle.page.specs.Records.{recordAt}
+use Rattle.page.specs.declared.record.Record.{Record}
 use Rattle.chunk.specs.Newest.{records}
 use Rattle.chunk.specs.Takes.{seenBy}
+use Rattle.chunk.specs.declared.takes.Takes.{Takes}
 use Rattle.why.specs.Answers.{saysAt}
-use Rattle.records.specs.Answers.{recordedIn, historyLeft, sizesLeft}
+use Rattle.records.specs.Answers.{historyLeft, sizesLeft}
 use Rattle.records.specs.Rows.{historyRows, historySizes}
-use Rattle.records.proofs.Answering.{recorded-fits, recorded-on, left-refused, left-told}
+use Rattle.records.proofs.Answering.{Front, Counted, recorded-on, left-refused, told-count, told-front, left-told}
 use Rattle.records.proofs.history.history_in.Statement.{statement}
 use Rattle.records.proofs.history.history_in.Tie as tie
 
+abbrev start : tie.After-count-in → tie.Start
+start n = n .before .before .before .before .before .before
+
+-- what the pages say, and how many words each slice has at least
+abbrev says : tie.Start → ℕ → Record
+says s = saysAt (s .args .g) (s .args .dump .now) (s .args .m) (s .args .o .0)
+
+abbrev room : tie.Start → ℕ
+room s = min (length (s .args .rows .now)) (length (s .args .sizes .now))
+
 -- what is counted is the answer
 counted :
-    (c : tie.After-count-in) →
-    let a = c .before .before .before .before .before .before .args in
-    c .count-in .result
-    ≡ recordedIn (saysAt (a .g) (a .dump .now) (a .m) (a .o .0)) (a .pages) (a .m) (a .o .0) (min (length (a .rows .now)) (length (a .sizes .now)))
-counted c = rw (← c .before .before .takes .ensures, ← c .before .least .ensures) (c .count-in .ensures)
+    (n : tie.After-count-in) → let a = start n .args in Counted (a .g) (a .dump .now) (a .m) (a .o .0) (room (start n)) (a .pages) (n .count-in .result)
+counted n = record { accepted = start n .pre; is = rw (← n .before .before .takes .ensures, ← n .before .least .ensures) (n .count-in .ensures) }
 
--- so that the fronts have a word for each record
-fronts :
-    (c : tie.After-known-told2) →
-    let n = c .before .before .before in
-    let a = n .before .before .before .before .before .before .args in
-    let k = c .before .r2 .given .0 .0 in
-    ((k ≤ length (a .rows .now)) × (k ≤ length (a .sizes .now)))
-    × ((length (take k (a .rows .now)) ≡ k) × (length (take k (a .sizes .now)) ≡ k))
-    × (k ≡ records (seenBy (n .before .before .takes .result) (recordAt (a .g) (a .dump .now))) (a .o .0) (a .pages))
-fronts c =
-    let n = c .before .before .before in
-    let a = n .before .before .before .before .before .before .args in
-    let k = c .before .r2 .given .0 .0 in
-    let says = saysAt (a .g) (a .dump .now) (a .m) (a .o .0) in
-    let room = min (length (a .rows .now)) (length (a .sizes .now)) in
-    let f = recorded-fits says (a .pages) (a .m) (a .o .0) room k (sym (counted n) ∙ c .before .r2 .given .1) in
-    let r : k ≤ length (a .rows .now) = omega (arith, f .1) in
-    let s : k ≤ length (a .sizes .now) = omega (arith, f .1) in
-    ((r, s), (length-take-le k (a .rows .now) r, length-take-le k (a .sizes .now) s), rw (n .before .before .takes .ensures) (f .0))
+-- so that each slice has a front with a word for each record
+module _ (c : tie.After-known-told2) where
+  abbrev count : tie.After-count-in
+  count = c .before .before .before
+
+  abbrev k : ℕ
+  k = c .before .r2 .given .0 .0
+
+  rows : Front k (start count .args .rows .now)
+  rows = told-front (counted count) (c .before .r2 .given .1) (start count .args .rows .now) (omega arith)
+
+  sizes : Front k (start count .args .sizes .now)
+  sizes = told-front (counted count) (c .before .r2 .given .1) (start count .args .sizes .now) (omega arith)
+
+  all : let a = start count .args in k ≡ records (seenBy (count .before .before .takes .result) (recordAt (a .g) (a .dump .now))) (a .o .0) (a .pages)
+  all =
+      let a = start count .args in
+      told-count (counted count) (c .before .r2 .given .1)
+      ∙ ap (λ (t : Takes). records (seenBy t (recordAt (a .g) (a .dump .now))) (a .o .0) (a .pages)) (sym (count .before .before .takes .ensures))
 
 fill-requires : tie.Need-fill-requires
-fill-requires c κs =
-    let w = c .before .before in
-    let f = fronts w in
-    (w .before .before .before .before .before .before .before .before .before .pre, (f .1 .0 ∙ f .2, f .1 .1 ∙ f .2))
+fill-requires c κs = let w = c .before .before in (start (count w) .pre, (rows w .long ∙ all w, sizes w .long ∙ all w))
 
 returns : tie.Need-returns
 unfolding historyLeft sizesLeft
 returns c =
     let n = c .before .before .before in
-    let s = n .before .before .before .before .before .before in
-    let a = s .args in
-    let says = saysAt (a .g) (a .dump .now) (a .m) (a .o .0) in
+    let a = start n .args in
     let P = a .g .layout .«data» in
-    let room = min (length (a .rows .now)) (length (a .sizes .now)) in
     let t = c .before .r .given .1 in (
-      sym t ∙ recorded-on (a .g) (a .dump .now) (a .m) (a .o .0) room (a .pages) (s .pre) _ (counted n),
+      sym t ∙ recorded-on (counted n),
       (
-        left-refused (a .g) (a .dump .now) (a .m) (a .o .0) room (a .pages) (s .pre) _ (counted n) _ _ t (λ i. historyRows says P (a .o .0) i) (a .rows .now),
-        left-refused (a .g) (a .dump .now) (a .m) (a .o .0) room (a .pages) (s .pre) _ (counted n) _ _ t (λ i. historySizes says P (a .o .0) i) (a .sizes .now),
+        left-refused (counted n) t (λ i. historyRows (says (start n)) P (a .o .0) i) (a .rows .now),
+        left-refused (counted n) t (λ i. historySizes (says (start n)) P (a .o .0) i) (a .sizes .now),
       ),
     )
 
@@ -71,21 +73,17 @@ unfolding historyLeft sizesLeft
 returns-2 c =
     let l = c .before .before .before .before in
     let w = l .before .before .before in
-    let n = w .before .before .before in
-    let s = n .before .before .before .before .before .before in
-    let a = s .args in
-    let says = saysAt (a .g) (a .dump .now) (a .m) (a .o .0) in
+    let n = count w in
+    let a = start n .args in
     let P = a .g .layout .«data» in
-    let room = min (length (a .rows .now)) (length (a .sizes .now)) in
     let t = w .before .r2 .given .1 in
-    let f = fronts w .1 in
     let takes = n .before .before .takes .ensures in (
-      sym t ∙ recorded-on (a .g) (a .dump .now) (a .m) (a .o .0) room (a .pages) (s .pre) _ (counted n),
+      sym t ∙ recorded-on (counted n),
       (
-        left-told (a .g) (a .dump .now) (a .m) (a .o .0) room (a .pages) (s .pre) _ (counted n) _ t (λ i. historyRows says P (a .o .0) i) (a .rows .now) _
-            (rw takes at (l .fill .ensures .0)) (l .fill .kept .1 .1 .1 .1 .1 .0 ∙ f .0),
-        left-told (a .g) (a .dump .now) (a .m) (a .o .0) room (a .pages) (s .pre) _ (counted n) _ t (λ i. historySizes says P (a .o .0) i) (a .sizes .now) _
-            (rw takes at (l .fill .ensures .1)) (l .fill .kept .1 .1 .1 .1 .1 .1 .0 ∙ f .1),
+        left-told (counted n) t (λ i. historyRows (says (start n)) P (a .o .0) i) (a .rows .now)
+            (rw takes at (l .fill .ensures .0)) (l .fill .kept .1 .1 .1 .1 .1 .0 ∙ rows w .long),
+        left-told (counted n) t (λ i. historySizes (says (start n)) P (a .o .0) i) (a .sizes .now)
+            (rw takes at (l .fill .ensures .1)) (l .fill .kept .1 .1 .1 .1 .1 .1 .0 ∙ sizes w .long),
       ),
     )
 
@@ -99,10 +97,10 @@ history-in-spec =
     (search needs)
     (search needs)
     (search needs)
-    (λ c. fronts c .0 .0)
-    (λ c. sym (fronts (c .before) .1 .0))
-    (λ c. fronts (c .before) .0 .1)
-    (λ c. sym (fronts (c .before .before) .1 .1))
+    (λ c. rows c .inside)
+    (λ c. sym (rows (c .before) .long))
+    (λ c. sizes (c .before) .inside)
+    (λ c. sym (sizes (c .before .before) .long))
     fill-requires
     returns
     (search needs)

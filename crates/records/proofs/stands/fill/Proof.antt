@@ -1,19 +1,20 @@
 -- The ages, then of them the lowest cuts and the places, are what the rows are put by. The words of the places are as many, and are cleared.
 use Prim.Native.Nat.{ℕ, _<_}
 use mathlib.Core.List.{List}
-use mathlib.Core.Path.{_≡_, sym, ap, _∙_}
+use mathlib.Core.Path.{_≡_, refl, sym, ap, _∙_}
 use native.Mathlib.Omega.{arith}
 use borrow.Author.Needs.{needs}
-use lib.ListN.{length}
+use lib.ListN.{length, replicate}
 use Rattle.page.specs.Records.{recordAt}
 use Rattle.page.specs.declared.record.Record.{Record}
 use Rattle.page.proofs.Lengths.{opened-pages}
+use Rattle.sort.proofs.Clearing.{cleared-all}
 use Rattle.chunk.specs.Takes.{seenBy}
 use Rattle.records.specs.Copies.{placesOf}
 use Rattle.records.specs.Lows.{lowsOf}
 use Rattle.records.specs.Written.{written}
 use Rattle.records.proofs.Last.{written-few}
-use Rattle.records.proofs.Placing.{places-length, cleared-all}
+use Rattle.records.proofs.Placing.{places-length}
 use Rattle.records.proofs.Writing.{written-length}
 use Rattle.records.proofs.stands.fill.Statement.{statement}
 use Rattle.records.proofs.stands.fill.Tie as tie
@@ -55,14 +56,14 @@ returns c =
     let t = c .before .before .before .before .before .before .before .before in
     let p = t .before .before .before .before .before .before .before .before in
     let f = p .before .before .before .before .before .before .before .before .before .before in
-    let s = f .before .before .before .before .before .before in
-    let places = placesOf (says s) (ages s) in (
+    let s = f .before .before .before .before .before .before in (
       t .put-standings .ensures .0,
       (
         t .put-standings .ensures .1,
         c .before .before .clear .ensures
-            ∙ cleared-all _ places (length (s .args .work .now)) (p .fill-places .ensures ∙ ap (placesOf (says s)) (f .fill-ages .ensures))
-            (places-length (says s) (ages s) ∙ sym (long s)),
+            ∙ cleared-all (p .fill-places .last .1 .1 .1 .1 .0) _ refl
+            ∙ ap (λ (w : List ℕ). replicate (length w) 0) (p .fill-places .ensures ∙ ap (placesOf (says s)) (f .fill-ages .ensures))
+            ∙ ap (λ (n : ℕ). replicate n 0) (places-length (says s) (ages s) ∙ sym (long s)),
       ),
     )
 

@@ -1,32 +1,25 @@
--- The loop's invariant: the rows of the records passed are laid over the ages, and their second words over the lowest cuts, so that those from the next
--- record on are as they were.
-use Prim.Native.Nat.{ℕ, _≤_, _<_, _-_}
+-- The loop's invariant is `PutTo`: the rows of the records passed are laid over the ages, and their second words over the lowest cuts, so that those from
+-- the next record on are as they were. These are all that `standing_at` asks for.
+use Prim.Native.Nat.{ℕ, _<_, _-_}
 use mathlib.Core.List.{List}
 use mathlib.Core.Path.{_≡_, refl, sym, ap, _∙_}
 use native.Mathlib.Omega.{arith}
 use borrow.Author.Needs.{needs}
-use lib.ListN.{length, drop, length-set}
+use lib.ListN.{length, drop}
 use Rattle.page.specs.Records.{recordAt}
 use Rattle.page.specs.declared.record.Record.{Record}
 use Rattle.page.proofs.Lengths.{opened-pages}
 use Rattle.chunk.specs.Takes.{seenBy}
-use Rattle.chunk.proofs.Laying.{laid, laid-all}
-use Rattle.records.specs.Rows.{standingRows, standingDetails}
 use Rattle.records.specs.Written.{written}
 use Rattle.records.proofs.Last.{written-few}
 use Rattle.records.proofs.Lowering.{lows-length}
-use Rattle.records.proofs.Rowing.{part-rest, rows-length, details-length, put-row, put-detail}
+use Rattle.records.proofs.Rowing.{PutTo, rest-rows, rest-details, put-more, put-all}
 use Rattle.records.proofs.stands.put_standings.Statement.{statement}
 use Rattle.records.proofs.stands.put_standings.Tie as tie
 
 abbrev Inv-loop : tie.InvT-loop
 Inv-loop dump g t pages o after places rows₀ details₀ i₀ rows details i =
-    let says = seenBy t (recordAt g dump) in
-    (i ≤ length rows₀)
-    × (length rows ≡ length rows₀)
-    × (length details ≡ length rows₀)
-    × (rows ≡ laid (standingRows says (g .layout .«data») (o .0) pages) rows₀ i)
-    × (details ≡ laid (standingDetails says (g .layout .«data») (o .0) pages) details₀ i)
+    PutTo (seenBy t (recordAt g dump)) (g .layout .«data») (o .0) pages rows₀ details₀ rows details i
 
 abbrev μ-loop : tie.MeasureT-loop
 μ-loop dump g t pages o after places rows₀ details₀ i₀ rows details i = length rows₀ - i
@@ -54,27 +47,38 @@ few s =
     (written-few (says s) (a .o .0) (a .pages) (opened-pages (a .g) (length (a .dump .now)) (a .pages) (s .pre .0)))
 
 loop-holds : tie.Need-loop-holds Inv-loop μ-loop
-loop-holds c = let s = c .before .before .before .before in (search needs, refl, long s ∙ ap length (sym (own s)), refl, refl)
+loop-holds c =
+    let s = c .before .before .before .before in
+    record { inside = search needs; rows-long = refl; details-long = long s ∙ ap length (sym (own s)); rows-laid = refl; details-laid = refl }
+
+-- in the loop the place is that of a record, and of a row and a second word
+module _ (t : tie.In-loop Inv-loop μ-loop) where
+  abbrev start : Start
+  start = t .before .before .before .before .before .before
+
+  inside : t .before .loop .i < length (start .args .rows .now)
+  inside = omega (arith, t .loop-test .taken, t .before .loop .inv .rows-long)
+
+  of-record : t .before .loop .i < length (ages start)
+  of-record = omega (arith, inside, ap length (own start))
+
+-- the turn that the second words are stored in
+abbrev turn : tie.After-detail Inv-loop μ-loop → tie.In-loop Inv-loop μ-loop
+turn c = c .before .before .before .before .before .before .before .before .before .before
 
 standing-at-requires : tie.Need-standing-at-requires Inv-loop μ-loop
 standing-at-requires c κs =
     let t = c .before .before .before .before in
     let q = t .before .loop in
-    let s = t .before .before .before .before .before .before in
-    let a = s .args in
-    let P = a .g .layout .«data» in
-    let h : q .i < length (ages s) = omega (arith, t .loop-test .taken, q .inv .1, ap length (own s)) in (
+    let s = start t in (
       s .pre .0,
       (
-        h,
+        of-record t,
         (
-          part-rest (standingRows (says s) P (a .o .0) (a .pages)) (a .rows .now) (q .rows) (q .i) (omega (arith, rows-length (says s) P (a .o .0) (a .pages))) (q .inv .3)
-              ∙ ap (drop (q .i)) (own s),
+          rest-rows (q .inv) (own s) (long s),
           (
-            part-rest (standingDetails (says s) P (a .o .0) (a .pages)) (a .details .now) (q .details) (q .i)
-                (omega (arith, details-length (says s) P (a .o .0) (a .pages))) (q .inv .4)
-                ∙ ap (drop (q .i)) (s .pre .1 .1 .1 .1),
-            (s .pre .1 .1 .0, s .pre .1 .0 (omega (arith, t .loop-test .taken, q .inv .1))),
+            rest-details (q .inv) (own s) (long s) ∙ ap (drop (q .i)) (s .pre .1 .1 .1 .1),
+            (s .pre .1 .1 .0, s .pre .1 .0 (omega (arith, inside t))),
           ),
         ),
       ),
@@ -87,32 +91,15 @@ loop-again c =
     let v = k .before in
     let z = v .before .before in
     let t = z .before .before .before .before .before in
-    let q = t .before .loop in
-    let s = t .before .before .before .before .before .before in
-    let a = s .args in
-    let P = a .g .layout .«data» in
-    let h : q .i < length (ages s) = omega (arith, t .loop-test .taken, q .inv .1, ap length (own s)) in (
-      omega (arith, t .loop-test .taken, q .inv .1),
-      length-set (q .rows) (q .i) _ ∙ q .inv .1,
-      length-set (q .details) (q .i) _ ∙ q .inv .2,
-      rw (p .pack .ensures, v .value-of .ensures, k .kind .ensures)
-          (put-row (says s) P (a .o .0) (a .pages) (q .rows) (a .rows .now) (q .i) (z .standing-at .result) h (z .standing-at .ensures) (own s) (q .inv .3)),
-      rw (c .detail .ensures)
-          (put-detail (says s) P (a .o .0) (a .pages) (q .details) (a .details .now) (q .i) (z .standing-at .result) h (z .standing-at .ensures) (long s) (q .inv .4)),
-    )
+    let s = start t in
+    rw (p .pack .ensures, v .value-of .ensures, k .kind .ensures, c .detail .ensures)
+    (put-more (t .before .loop .inv) (own s) (long s) (z .standing-at .result) (of-record t) (z .standing-at .ensures))
 
 returns : tie.Need-returns Inv-loop μ-loop
 returns c =
     let q = c .before .loop in
     let s = c .before .before .before .before .before .before in
-    let a = s .args in
-    let P = a .g .layout .«data» in
-    let h : length (ages s) ≤ q .i = omega (arith, c .loop-test .left, q .inv .1, ap length (own s)) in
-    let r = rows-length (says s) P (a .o .0) (a .pages) in
-    let d = details-length (says s) P (a .o .0) (a .pages) in (
-      q .inv .3 ∙ laid-all (standingRows (says s) P (a .o .0) (a .pages)) (a .rows .now) (q .i) (omega (arith, r)) (omega (arith, ap length (own s))),
-      q .inv .4 ∙ laid-all (standingDetails (says s) P (a .o .0) (a .pages)) (a .details .now) (q .i) (omega (arith, d)) (omega (arith, long s)),
-    )
+    put-all (q .inv) (own s) (long s) (omega (arith, c .loop-test .left, q .inv .rows-long, ap length (own s)))
 
 pub put-standings-spec : {M : Type 1} → statement M
 put-standings-spec =
@@ -138,15 +125,11 @@ put-standings-spec =
     (search needs)
     (search needs)
     (search needs)
-    (λ c. let t = c .before .before .before .before .before .before .before .before .before .before in
-    omega (arith, t .loop-test .taken, t .before .loop .inv .1, few (t .before .before .before .before .before .before)))
-    (λ c. let t = c .before .before .before .before .before .before .before .before .before .before in
-    omega (arith, t .loop-test .taken, t .before .loop .inv .1, t .before .loop .inv .2))
-    (λ c. let t = c .before .before .before .before .before .before .before .before .before .before in
-    omega (arith, t .loop-test .taken, t .before .loop .inv .1, few (t .before .before .before .before .before .before)))
-    (λ c. let t = c .before .before .before .before .before .before .before .before .before .before in
-    omega (arith, t .loop-test .taken, t .before .loop .inv .1))
+    (λ c. let t = turn c in omega (arith, inside t, few (start t)))
+    (λ c. let t = turn c in omega (arith, inside t, t .before .loop .inv .details-long))
+    (λ c. let t = turn c in omega (arith, inside t, few (start t)))
+    (λ c. omega (arith, inside (turn c)))
     loop-again
-    (λ c. c .before .loop .inv .1)
-    (λ c. let s = c .before .before .before .before .before .before in c .before .loop .inv .2 ∙ ap length (own s) ∙ sym (long s))
+    (λ c. c .before .loop .inv .rows-long)
+    (λ c. let s = c .before .before .before .before .before .before in c .before .loop .inv .details-long ∙ ap length (own s) ∙ sym (long s))
     returns)

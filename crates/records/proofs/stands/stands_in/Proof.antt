@@ -1,21 +1,23 @@
 -- Refused as the records are, and then nothing is written; else the fronts of all slices are filled, and those of the working words cleared.
-use Prim.Native.Nat.{ℕ, _≤_, min}
-use mathlib.Core.List.{List}
+use Prim.Native.Nat.{ℕ, min}
 use mathlib.Core.Path.{_≡_, sym, ap, _∙_}
 use native.Mathlib.Omega.{arith}
 use borrow.Author.Needs.{needs}
-use lib.ListN.{length, take, replicate}
-use lib.Seq.{length-take-le}
+use lib.ListN.{length, replicate}
 use Rattle.page.specs.Records.{recordAt}
 use Rattle.page.specs.declared.record.Record.{Record}
 use Rattle.chunk.specs.Newest.{records}
 use Rattle.chunk.specs.Takes.{seenBy}
+use Rattle.chunk.specs.declared.takes.Takes.{Takes}
 use Rattle.why.specs.Answers.{saysAt}
-use Rattle.records.specs.Answers.{recordedIn, standingLeft, detailsLeft}
+use Rattle.records.specs.Answers.{standingLeft, detailsLeft}
 use Rattle.records.specs.Rows.{standingRows, standingDetails}
-use Rattle.records.proofs.Answering.{recorded-fits, recorded-on, left-refused, left-told, worked-refused, worked-told}
+use Rattle.records.proofs.Answering.{Front, Counted, recorded-on, left-refused, worked-refused, told-count, told-front, left-told, worked-told}
 use Rattle.records.proofs.stands.stands_in.Statement.{statement}
 use Rattle.records.proofs.stands.stands_in.Tie as tie
+
+abbrev start : tie.After-count-in → tie.Start
+start n = n .before .before .before .before .before .before .before .before
 
 -- what the pages say, and how many words each slice has at least
 abbrev says : tie.Start → ℕ → Record
@@ -26,61 +28,52 @@ room s = min (length (s .args .rows .now)) (min (length (s .args .details .now))
 
 -- what is counted is the answer
 counted :
-    (c : tie.After-count-in) → let s = c .before .before .before .before .before .before .before .before in c .count-in .result ≡ recordedIn (says s) (s .args .pages) (s .args .m) (s .args .o .0) (room s)
-counted c = rw (← c .before .before .before .takes .ensures, ← c .before .before .least .ensures, ← c .before .least2 .ensures) (c .count-in .ensures)
-
--- a front that has a word for each record
-record Front (k : ℕ) (words : List ℕ) : Type 0 where
-  inside : k ≤ length words
-  long : length (take k words) ≡ k
-
-front : (k : ℕ) (words : List ℕ) → k ≤ length words → Front k words
-front k words h = record { inside = h; long = length-take-le k words h }
-
--- so that each slice has one
-record Fronts (c : tie.After-known-told2) : Type 0 where
-  rows : Front (c .before .r2 .given .0 .0) (c .before .before .before .before .before .before .before .before .before .before .before .args .rows .now)
-  details : Front (c .before .r2 .given .0 .0) (c .before .before .before .before .before .before .before .before .before .before .before .args .details .now)
-  work : Front (c .before .r2 .given .0 .0) (c .before .before .before .before .before .before .before .before .before .before .before .args .work .now)
-  count :
-      let s = c .before .before .before .before .before .before .before .before .before .before .before in
-      c .before .r2 .given .0 .0 ≡ records (seenBy (c .before .before .before .before .before .before .takes .result) (recordAt (s .args .g) (s .args .dump .now))) (s .args .o .0) (s .args .pages)
-
-fronts : (c : tie.After-known-told2) → Fronts c
-fronts c =
-    let n = c .before .before .before in
-    let s = n .before .before .before .before .before .before .before .before in
-    let a = s .args in
-    let k = c .before .r2 .given .0 .0 in
-    let f = recorded-fits (says s) (a .pages) (a .m) (a .o .0) (room s) k (sym (counted n) ∙ c .before .r2 .given .1) in
+    (n : tie.After-count-in) → let a = start n .args in Counted (a .g) (a .dump .now) (a .m) (a .o .0) (room (start n)) (a .pages) (n .count-in .result)
+counted n =
     record {
-      rows = front k (a .rows .now) (omega (arith, f .1));
-      details = front k (a .details .now) (omega (arith, f .1));
-      work = front k (a .work .now) (omega (arith, f .1));
-      count = rw (n .before .before .before .takes .ensures) (f .0);
+      accepted = start n .pre;
+      is = rw (← n .before .before .before .takes .ensures, ← n .before .before .least .ensures, ← n .before .least2 .ensures) (n .count-in .ensures);
     }
+
+-- so that each slice has a front with a word for each record
+module _ (c : tie.After-known-told2) where
+  abbrev count : tie.After-count-in
+  count = c .before .before .before
+
+  abbrev k : ℕ
+  k = c .before .r2 .given .0 .0
+
+  rows : Front k (start count .args .rows .now)
+  rows = told-front (counted count) (c .before .r2 .given .1) (start count .args .rows .now) (omega arith)
+
+  details : Front k (start count .args .details .now)
+  details = told-front (counted count) (c .before .r2 .given .1) (start count .args .details .now) (omega arith)
+
+  work : Front k (start count .args .work .now)
+  work = told-front (counted count) (c .before .r2 .given .1) (start count .args .work .now) (omega arith)
+
+  all : let a = start count .args in k ≡ records (seenBy (count .before .before .before .takes .result) (recordAt (a .g) (a .dump .now))) (a .o .0) (a .pages)
+  all =
+      let a = start count .args in
+      told-count (counted count) (c .before .r2 .given .1)
+      ∙ ap (λ (t : Takes). records (seenBy t (recordAt (a .g) (a .dump .now))) (a .o .0) (a .pages)) (sym (count .before .before .before .takes .ensures))
 
 fill-requires : tie.Need-fill-requires
 fill-requires c κs =
     let w = c .before .before .before in
-    let f = fronts w in
-    (w .before .before .before .before .before .before .before .before .before .before .before .pre, (f .rows .long ∙ f .count, (f .details .long ∙ f .count, f .work .long ∙ f .count)))
+    (start (count w) .pre, (rows w .long ∙ all w, (details w .long ∙ all w, work w .long ∙ all w)))
 
 returns : tie.Need-returns
 unfolding standingLeft detailsLeft
 returns c =
     let n = c .before .before .before in
-    let s = n .before .before .before .before .before .before .before .before in
-    let a = s .args in
+    let a = start n .args in
     let P = a .g .layout .«data» in
     let t = c .before .r .given .1 in (
-      sym t ∙ recorded-on (a .g) (a .dump .now) (a .m) (a .o .0) (room s) (a .pages) (s .pre) _ (counted n),
+      sym t ∙ recorded-on (counted n),
       (
-        left-refused (a .g) (a .dump .now) (a .m) (a .o .0) (room s) (a .pages) (s .pre) _ (counted n) _ _ t (λ i. standingRows (says s) P (a .o .0) i) (a .rows .now),
-        (
-          left-refused (a .g) (a .dump .now) (a .m) (a .o .0) (room s) (a .pages) (s .pre) _ (counted n) _ _ t (λ i. standingDetails (says s) P (a .o .0) i) (a .details .now),
-          worked-refused (a .g) (a .dump .now) (a .m) (a .o .0) (room s) (a .pages) (s .pre) _ (counted n) _ _ t (a .work .now),
-        ),
+        left-refused (counted n) t (λ i. standingRows (says (start n)) P (a .o .0) i) (a .rows .now),
+        (left-refused (counted n) t (λ i. standingDetails (says (start n)) P (a .o .0) i) (a .details .now), worked-refused (counted n) t (a .work .now)),
       ),
     )
 
@@ -89,22 +82,19 @@ unfolding standingLeft detailsLeft
 returns-2 c =
     let l = c .before .before .before .before .before .before in
     let w = l .before .before .before .before in
-    let n = w .before .before .before in
-    let s = n .before .before .before .before .before .before .before .before in
-    let a = s .args in
+    let n = count w in
+    let a = start n .args in
     let P = a .g .layout .«data» in
     let t = w .before .r2 .given .1 in
-    let f = fronts w in
     let takes = n .before .before .before .takes .ensures in (
-      sym t ∙ recorded-on (a .g) (a .dump .now) (a .m) (a .o .0) (room s) (a .pages) (s .pre) _ (counted n),
+      sym t ∙ recorded-on (counted n),
       (
-        left-told (a .g) (a .dump .now) (a .m) (a .o .0) (room s) (a .pages) (s .pre) _ (counted n) _ t (λ i. standingRows (says s) P (a .o .0) i) (a .rows .now) _
-            (rw takes at (l .fill .ensures .0)) (l .fill .kept .1 .1 .1 .1 .1 .0 ∙ f .rows .long),
+        left-told (counted n) t (λ i. standingRows (says (start n)) P (a .o .0) i) (a .rows .now)
+            (rw takes at (l .fill .ensures .0)) (l .fill .kept .1 .1 .1 .1 .1 .0 ∙ rows w .long),
         (
-          left-told (a .g) (a .dump .now) (a .m) (a .o .0) (room s) (a .pages) (s .pre) _ (counted n) _ t (λ i. standingDetails (says s) P (a .o .0) i) (a .details .now) _
-              (rw takes at (l .fill .ensures .1 .0)) (l .fill .kept .1 .1 .1 .1 .1 .1 .0 ∙ f .details .long),
-          worked-told (a .g) (a .dump .now) (a .m) (a .o .0) (room s) (a .pages) (s .pre) _ (counted n) _ t (a .work .now) _
-              (l .fill .ensures .1 .1 ∙ ap (λ (k : ℕ). replicate k 0) (f .work .long)),
+          left-told (counted n) t (λ i. standingDetails (says (start n)) P (a .o .0) i) (a .details .now)
+              (rw takes at (l .fill .ensures .1 .0)) (l .fill .kept .1 .1 .1 .1 .1 .1 .0 ∙ details w .long),
+          worked-told (counted n) t (a .work .now) (l .fill .ensures .1 .1 ∙ ap (λ (k : ℕ). replicate k 0) (work w .long)),
         ),
       ),
     )
@@ -120,12 +110,12 @@ stands-in-spec =
     (search needs)
     (search needs)
     (search needs)
-    (λ c. fronts c .rows .inside)
-    (λ c. sym (fronts (c .before) .rows .long))
-    (λ c. fronts (c .before) .details .inside)
-    (λ c. sym (fronts (c .before .before) .details .long))
-    (λ c. fronts (c .before .before) .work .inside)
-    (λ c. sym (fronts (c .before .before .before) .work .long))
+    (λ c. rows c .inside)
+    (λ c. sym (rows (c .before) .long))
+    (λ c. details (c .before) .inside)
+    (λ c. sym (details (c .before .before) .long))
+    (λ c. work (c .before .before) .inside)
+    (λ c. sym (work (c .before .before .before) .long))
     fill-requires
     returns
     (search needs)

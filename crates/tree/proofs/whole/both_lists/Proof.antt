@@ -8,7 +8,7 @@ use borrow.Author.Needs.{needs}
 use lib.ListN.{length, take, drop, replicate}
 use lib.Seq.{length-take-le}
 use Rattle.page.proofs.Searching.{count-le}
-use Rattle.sort.proofs.Clearing.{cleared-whole}
+use Rattle.sort.proofs.Clearing.{cleared-all}
 use Rattle.tree.specs.Heads.{isHead}
 use Rattle.tree.specs.Objects.{saysBy}
 use Rattle.tree.proofs.NewestHeads.{heads-are}
@@ -64,8 +64,8 @@ returns c =
       (
         l .lists .ensures .1,
         (
-          cleared-whole (made f) _ n (sym (f .fill-heads .kept .1 .1 .1 .1 .0)) (h .clear .ensures),
-          cleared-whole worked _ n (sym (kept ∙ long)) (w .clear2 .ensures) ∙ ap (λ (k : ℕ). replicate {A = ℕ} k 0) (sym long),
+          h .clear .ensures ∙ cleared-all (made f) n (f .fill-heads .kept .1 .1 .1 .1 .0),
+          w .clear2 .ensures ∙ cleared-all worked n (kept ∙ long) ∙ ap (λ (k : ℕ). replicate {A = ℕ} k 0) (sym long),
         ),
       ),
     )

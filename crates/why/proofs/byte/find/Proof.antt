@@ -6,8 +6,9 @@ use native.Mathlib.Omega.{arith}
 use borrow.Author.Needs.{needs}
 use lib.ListN.{take, drop}
 use lib.Seq.{slice-cons}
+use Rattle.sort.proofs.Behind.{none-left}
 use Rattle.why.specs.Answers.{foundIn}
-use Rattle.why.proofs.Finding.{none-left, found-end, found-here, found-on}
+use Rattle.why.proofs.Finding.{found-end, found-here, found-on}
 use Rattle.why.proofs.byte.find.Statement.{statement}
 use Rattle.why.proofs.byte.find.Tie as tie
 

@@ -1,4 +1,5 @@
--- The loop's invariant: the marks of the pages passed stand in front of the words, and the place behind them is known.
+-- The loop's invariant is `Filled`: the marks of the pages passed stand in front of the words, behind that of the file's begin. Those of the next page have
+-- room, since all marks have.
 use Prim.Native.Nat.{_≤_, _-_}
 use mathlib.Core.Bool.{false}
 use mathlib.Core.Path.{_≡_, _∙_}
@@ -8,7 +9,6 @@ use borrow.Author.Tests.{not-true}
 use lib.ListN.{length, set, length-set}
 use Rattle.page.specs.Records.{recordAt}
 use Rattle.page.specs.Tags.{namesAt}
-use Rattle.chunk.specs.Records.{isOf}
 use Rattle.chunk.specs.Takes.{seenBy}
 use Rattle.why.specs.Marks.{marksIn, marksOf, marksTo}
 use Rattle.chunk.proofs.Records.{seen-unnamed}
@@ -40,12 +40,9 @@ loop-again : tie.Need-loop-again Inv-loop μ-loop
 loop-again c =
     let k = c .before in
     let q = k .before .before .loop in
-    let m = k .before .before .before in
-    let a = m .before .before .before .args in
-    let says = seenBy (a .t) (recordAt (a .g) (a .dump .now)) in
+    let a = k .before .before .before .before .before .before .args in
     let u : namesAt (a .g) (a .dump .now) (q .i) (a .o .0) ≡ false = rw (← k .names-object .ensures) (not-true (k .names-object .result) (c .if1 .taken)) in
-    let t : isOf (a .o .0) (says (q .i)) ≡ false = seen-unnamed (a .g) (a .dump .now) (q .i) (a .o .0) u (a .t) in
-    fill-skip says (a .g .layout .«data») (a .o .0) (a .h .0) (a .pages) (set (a .rows .now) 0 (m .mark .result)) (q .rows) (q .at) (q .i) (q .inv) (k .before .loop-test .taken) t
+    fill-skip (q .inv) (k .before .loop-test .taken) (seen-unnamed (a .g) (a .dump .now) (q .i) (a .o .0) u (a .t))
 
 -- all marks have room in the words, and those of the page are the definition's
 room :
@@ -65,34 +62,22 @@ put-requires : tie.Need-put-requires Inv-loop μ-loop
 put-requires c κs =
     let m = c .before in
     let t = m .before .before .before .before in
-    let q = t .before .loop in
-    let k = t .before .before in
-    let a = k .before .before .before .args in
-    fill-room (seenBy (a .t) (recordAt (a .g) (a .dump .now))) (a .g .layout .«data») (a .o .0) (a .h .0) (a .pages) (set (a .rows .now) 0 (k .mark .result)) (room k)
-    (q .rows) (q .at) (q .i) (q .inv) (t .loop-test .taken) (marksIn (m .marks-of .result)) (made m)
+    fill-room (t .before .loop .inv) (room (t .before .before)) (t .loop-test .taken) (made m)
 
 loop-again-2 : tie.Need-loop-again-2 Inv-loop μ-loop
 loop-again-2 c =
     let p = c .before .before in
     let m = p .before .before in
     let t = m .before .before .before .before in
-    let q = t .before .loop in
-    let k = t .before .before in
-    let a = k .before .before .before .args in
-    rw (p .put .ensures .1, p .put .ensures .0)
-    (fill-more (seenBy (a .t) (recordAt (a .g) (a .dump .now))) (a .g .layout .«data») (a .o .0) (a .h .0) (a .pages) (set (a .rows .now) 0 (k .mark .result)) (room k)
-    (q .rows) (q .at) (q .i) (q .inv) (t .loop-test .taken) (marksIn (m .marks-of .result)) (made m))
+    rw (p .put .ensures .1, p .put .ensures .0) (fill-more (t .before .loop .inv) (room (t .before .before)) (t .loop-test .taken) (made m))
 
 same-length : tie.Need-same-length Inv-loop μ-loop
 same-length c = let k = c .before .before in c .before .loop .inv .long ∙ length-set (k .before .before .before .args .rows .now) 0 (k .mark .result)
 
 returns : tie.Need-returns Inv-loop μ-loop
 returns c =
-    let q = c .before .loop in
     let k = c .before .before in
-    let a = k .before .before .before .args in
-    fill-end (seenBy (a .t) (recordAt (a .g) (a .dump .now))) (a .g .layout .«data») (a .o .0) (a .h .0) (a .pages) (k .mark .result) (a .rows .now)
-    (q .rows) (q .at) (q .i) (q .inv) (c .loop-test .left)
+    fill-end (k .mark .result) (k .before .before .before .args .rows .now) (c .before .loop .inv) (c .loop-test .left)
 
 pub fill-marks-spec : {M : Type 1} → statement M
 fill-marks-spec =

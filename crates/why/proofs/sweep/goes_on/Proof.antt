@@ -1,7 +1,7 @@
 -- A mark stands where it is read, or none is left.
 use borrow.Author.Needs.{needs}
 use lib.Seq.{slice-cons}
-use Rattle.why.proofs.Finding.{none-left}
+use Rattle.sort.proofs.Behind.{none-left}
 use Rattle.why.proofs.sweep.goes_on.Statement.{statement}
 use Rattle.why.proofs.sweep.goes_on.Tie as tie
 

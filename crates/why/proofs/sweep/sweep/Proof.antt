@@ -31,10 +31,8 @@ inside c =
     let t = c .before .before in
     let q = t .before .loop in
     let s = t .before .before .before .before in
-    let a = s .args in
     rw (c .place-of .ensures)
-    (mark-inside (seenBy (a .t) (recordAt (a .g) (a .dump .now))) (a .g .layout .«data») (a .size) (a .rows .now) (a .count) (s .pre .0)
-    (q .rows) (q .seen) (q .last) (q .at) (q .j) (q .inv) (s .pre .1 .1 .1) (t .loop-test .taken))
+    (mark-inside (s .pre .0) (q .inv) (s .pre .1 .1 .1) (t .loop-test .taken))
 
 loop-again : tie.Need-loop-again Inv-loop μ-loop
 loop-again c =
@@ -44,10 +42,7 @@ loop-again c =
     let t = p .before .before in
     let q = t .before .loop in
     let s = t .before .before .before .before in
-    let a = s .args in
-    sweep-goes (seenBy (a .t) (recordAt (a .g) (a .dump .now))) (a .g .layout .«data») (a .size) (a .rows .now) (a .count) (s .pre .0)
-    (q .rows) (q .seen) (q .last) (q .at) (q .j) (q .inv) (t .loop-test .taken) (k .taking .result) (k .taking .ensures) (p .place-of .result) (p .place-of .ensures)
-    (sym (o .goes-on .ensures) ∙ c .if1 .taken)
+    sweep-goes (s .pre .0) (q .inv) (t .loop-test .taken) (k .taking .ensures) (p .place-of .ensures) (sym (o .goes-on .ensures) ∙ c .if1 .taken)
 
 loop-again-2 : tie.Need-loop-again-2 Inv-loop μ-loop
 loop-again-2 c =
@@ -58,10 +53,7 @@ loop-again-2 c =
     let t = p .before .before in
     let q = t .before .loop in
     let s = t .before .before .before .before in
-    let a = s .args in
-    sweep-past (seenBy (a .t) (recordAt (a .g) (a .dump .now))) (a .g .layout .«data») (a .size) (a .rows .now) (a .count) (s .pre .0)
-    (q .rows) (q .seen) (q .last) (q .at) (q .j) (q .inv) (t .loop-test .taken) (k .taking .result) (k .taking .ensures) (p .place-of .result) (p .place-of .ensures)
-    (sym (o .goes-on .ensures) ∙ e .if1 .left) (c .if2 .taken)
+    sweep-past (s .pre .0) (q .inv) (t .loop-test .taken) (k .taking .ensures) (p .place-of .ensures) (sym (o .goes-on .ensures) ∙ e .if1 .left) (c .if2 .taken)
 
 reason-requires : tie.Need-reason-requires Inv-loop μ-loop
 reason-requires c κs =
@@ -87,10 +79,7 @@ loop-again-3 c =
     let t = p .before .before in
     let q = t .before .loop in
     let s = t .before .before .before .before in
-    let a = s .args in
-    sweep-same (seenBy (a .t) (recordAt (a .g) (a .dump .now))) (a .g .layout .«data») (a .size) (a .rows .now) (a .count) (s .pre .0)
-    (q .rows) (q .seen) (q .last) (q .at) (q .j) (q .inv) (t .loop-test .taken) (k .taking .result) (k .taking .ensures) (p .place-of .result) (p .place-of .ensures)
-    (sym (o .goes-on .ensures) ∙ e .if1 .left) (f .if2 .left) (d .code .result) (coded d) (c .if3 .taken)
+    sweep-same (s .pre .0) (q .inv) (t .loop-test .taken) (k .taking .ensures) (p .place-of .ensures) (sym (o .goes-on .ensures) ∙ e .if1 .left) (f .if2 .left) (coded d) (c .if3 .taken)
 
 row-requires : tie.Need-row-requires Inv-loop μ-loop
 row-requires c κs =
@@ -115,10 +104,7 @@ loop-again-4 c =
     let t = p .before .before in
     let q = t .before .loop in
     let s = t .before .before .before .before in
-    let a = s .args in
-    sweep-row (seenBy (a .t) (recordAt (a .g) (a .dump .now))) (a .g .layout .«data») (a .size) (a .rows .now) (a .count) (s .pre .0)
-    (q .rows) (q .seen) (q .last) (q .at) (q .j) (q .inv) (t .loop-test .taken) (k .taking .result) (k .taking .ensures) (p .place-of .result) (p .place-of .ensures)
-    (sym (o .goes-on .ensures) ∙ e .if1 .left) (f .if2 .left) (d .code .result) (coded d) (l .if3 .left) (c .row .result) (c .row .ensures)
+    sweep-row (s .pre .0) (q .inv) (t .loop-test .taken) (k .taking .ensures) (p .place-of .ensures) (sym (o .goes-on .ensures) ∙ e .if1 .left) (f .if2 .left) (coded d) (l .if3 .left) (c .row .ensures)
 
 slice-write-rows : tie.Need-slice-write-rows Inv-loop μ-loop
 slice-write-rows c =
@@ -138,11 +124,9 @@ returns c =
     let t = k .before .before in
     let q = t .before .loop in
     let s = t .before .before .before .before in
-    let a = s .args in
-    sweep-end (seenBy (a .t) (recordAt (a .g) (a .dump .now))) (a .g .layout .«data») (a .size) (a .rows .now) (a .count) (s .pre .0)
-    (q .rows) (q .seen) (q .last) (q .at) (q .j) (q .inv) _
+    sweep-end (s .pre .0) (q .inv)
     (k .clear .ensures
-    ∙ clear-inside (q .at) (a .count) (q .rows) (omega (arith, q .inv .order, q .inv .inside)) (omega (arith, q .inv .long, s .pre .0)))
+    ∙ clear-inside (q .at) (s .args .count) (q .rows) (omega (arith, q .inv .order, q .inv .inside)) (omega (arith, q .inv .long, s .pre .0)))
     (t .loop-test .left)
 
 pub sweep-spec : {M : Type 1} → statement M
