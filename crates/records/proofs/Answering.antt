@@ -51,6 +51,7 @@ pub record Counted (g : Geometry) (dump : List ℕ) (m : Moment) (o room n : ℕ
   pub is : r ≡ recordedIn (saysAt g dump m o) n m o room
 
 module _ {g : Geometry} {dump : List ℕ} {m : Moment} {o room n : ℕ} {r : Recorded} (w : Counted g dump m o room n r) where
+  -- it is what is answered
   pub recorded-on : r ≡ recordedOn g dump m o room
   unfolding recordedOn
   recorded-on = w .is ∙ rw (w .accepted)
@@ -66,6 +67,7 @@ module _ {g : Geometry} {dump : List ℕ} {m : Moment} {o room n : ℕ} {r : Rec
 
   -- an answer of k records has room for them
   module _ {k : ℕ} (t : r ≡ Records k) where
+    -- it is all the records, and they have room
     fits : (k ≡ records (saysAt g dump m o) o n) × (k ≤ room)
     fits = recorded-fits (saysAt g dump m o) n m o room k (sym (w .is) ∙ t)
 

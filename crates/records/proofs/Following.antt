@@ -96,6 +96,7 @@ module _ (says : ℕ → Record) (P o n : ℕ) (few : n ≤ 4294967296) where
         (λ m. inr (v .unseen (s .place) m (s .inside), w .unseen (s .place) (omega arith) (s .inside)))))
         (λ t. inr (v .others q k t, w .others q k t))
 
+    -- no record that is seen is newer than the last
     newer : (q : ℕ) → q < n → isOf o (S q) ≡ true → ageOf S q ≤ ageOf S (pageAt says o n i)
     newer q k u =
         by-test (isRecord says o q) _
@@ -112,6 +113,7 @@ module _ (says : ℕ → Record) (P o n : ℕ) (few : n ≤ 4294967296) where
             (λ (m : s .place ≡ i). rw m (le-refl _))
             (λ m. let z : true ≡ false = sym u ∙ ap (λ (p : ℕ). isOf o (S p)) (sym (s .page)) ∙ v .unseen (s .place) m (s .inside) in clash (cc)))
 
+    -- so it adds that record to what the file was
     with-last : stateOf P o n S ≡ afterWith P (stateOf P o n T) (pageAt says o n i) (says (pageAt says o n i))
     with-last =
         let own = written-at says o n few i h in
@@ -119,6 +121,7 @@ module _ (says : ℕ → Record) (P o n : ℕ) (few : n ≤ 4294967296) where
         one-more P o n few S T (pageAt says o n i) (own .page) (rw e (own .its)) (w .unseen i (le-refl _) h) agrees newer
         ∙ ap (afterWith P (stateOf P o n T) (pageAt says o n i)) e
 
+  -- a reading that sees no record of the object finds no header
   follow-none : (S : ℕ → Record) → Sees S 0 → stateOf P o n S ≡ followed says P (written says o n) 0
   follow-none S v =
       ap (stateBy P o n S)
@@ -131,6 +134,7 @@ module _ (says : ℕ → Record) (P o n : ℕ) (few : n ≤ 4294967296) where
       rw t))
       ∙ sym (follow-begin says P (written says o n))
 
+  -- so a reading that sees the first i answers what following them comes to
   state-followed : (i : ℕ) (S : ℕ → Record) → i ≤ count → Sees S i → stateOf P o n S ≡ followed says P (written says o n) i
   state-followed zero S h v = follow-none S v
   state-followed (suc i) S h v =

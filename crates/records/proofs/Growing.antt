@@ -29,6 +29,7 @@ use Rattle.records.specs.Steps.{begunBy, grownTo, afterWith}
 use Rattle.records.specs.declared.history.After.{After}
 use Rattle.records.specs.declared.history.After.the-variants.{Size, Refused}
 
+-- no test holds together with one that fails
 and-no : (b : Bool) → b && false ≡ false
 and-no true = refl
 and-no false = refl
@@ -56,10 +57,12 @@ module _ (P o n : ℕ) where
   abbrev pub stateOf : (says : ℕ → Record) → After
   stateOf says = stateBy says (newestHeader says o n)
 
+  -- a size lookup of a header answers so
   filed-answer : (says : ℕ → Record) (k : Record) (h v : ℕ) → answerOf (sizedBy says o n P (fileAt k h v)) ≡ filed k (sizeOf says P o h n)
   unfolding fileAt sizedBy
   filed-answer says k h v = by-test (isGone k) _ (λ t. rw t) (λ t. by-test (isFile k) _ (λ u. rw (t, u)) (λ u. rw (t, u)))
 
+  -- and so of the newest header, if there is one
   state-by : (says : ℕ → Record) (r : Option ℕ) → answerOf (sizedBy says o n P (fileBy says o n r)) ≡ stateBy says r
   unfolding fileBy sizedBy
   state-by says none = refl

@@ -38,6 +38,7 @@ module _ (says : ℕ → Record) where
     abbrev headlessFrom : ℕ → Bool
     headlessFrom m = headless says (drop m ages)
 
+  -- where none is a header, each is none
   headless-at : (ages : List ℕ) → headless says ages ≡ true → (m : ℕ) → m < length ages → isHeaderAt ages m ≡ false
   headless-at [] e m h = absurd (not-suc-le-zero h)
   headless-at (a ∷ newer) e zero h = go (isHeader (saidAt says a)) (and-left _ (headless says newer) (rw (headless-one says a newer) at e))
@@ -103,6 +104,7 @@ same-test true b f g = sym (f refl)
 same-test false true f g = g refl
 same-test false false f g = refl
 
+-- a header among the records of the object is one of its headers, and what is no header is none of them
 header-of : (o : ℕ) (k : Record) → isOf o k ≡ true → isHeader k ≡ true → headerOf o k ≡ true
 header-of o k t u = rw (t, u)
 
@@ -117,6 +119,7 @@ module _ (says : ℕ → Record) (o n : ℕ) (few : n ≤ 4294967296) where
   abbrev headerAt : ℕ → Bool
   headerAt j = isHeader (says (pageAt says o n j))
 
+  -- so the record at a place is one of its headers, if it is a header
   header-there : (j : ℕ) → j < length ages → headerAt j ≡ true → headerOf o (says (pageAt says o n j)) ≡ true
   header-there j h t = header-of o (says (pageAt says o n j)) (written-at says o n few j h .its) t
 
@@ -130,11 +133,13 @@ module _ (says : ℕ → Record) (o n : ℕ) (few : n ≤ 4294967296) where
       (λ u. absurd (omega (arith, l, written-rises says o n few j i (ltb-true _ _ u) k)))
       (λ u. let q : i ≡ j = omega (arith, ltb-false i j t, ltb-false j i u) in absurd (omega (arith, rw q at l))))
 
+  -- and a header of the object is one of its records
   its-header : (p : ℕ) → headerOf o (says p) ≡ true → isRecord says o p ≡ true
   its-header p t = and-left (isOf o (says p)) (isHeader (says p)) t
 
   -- a header that no newer one follows is the newest, and no other is
   module _ (h : ℕ) (e : newestHeader says o n ≡ some h) where
+    -- no newer one follows: it is the newest
     last-header : (j : ℕ) → j < length ages → headerAt j ≡ true → headless says (drop (suc j) ages) ≡ true → eqb (pageAt says o n j) h ≡ true
     last-header j k t u =
         eq-eqb (pageAt says o n j) h
@@ -152,6 +157,7 @@ module _ (says : ℕ → Record) (o n : ℕ) (few : n ≤ 4294967296) where
             let g : getD (drop (suc j) ages) (m - suc j) 0 ≡ getD ages m 0 = getD-drop (suc j) ages (m - suc j) 0 ∙ ap (λ (x : ℕ). getD ages x 0) d in
             rw g at (headless-at says (drop (suc j) ages) u (m - suc j) (rw (length-drop (suc j) ages) (omega arith)))
 
+    -- a newer one follows: it is not
     older-header : (j : ℕ) → j < length ages → headless says (drop (suc j) ages) ≡ false → eqb (pageAt says o n j) h ≡ false
     older-header j k u =
         by-test (eqb (pageAt says o n j) h) _
@@ -169,6 +175,7 @@ module _ (says : ℕ → Record) (o n : ℕ) (few : n ≤ 4294967296) where
             let l : getD ages m 0 ≤ getD ages j 0 = rw (← x .age, ← written-at says o n few j k .age, q) (f .newest (pageAt says o n m) (x .page) (header-there m i t)) in
             absurd (omega (arith, l, written-rises says o n few j m (omega arith) i))
 
+    -- so that each header cuts along the list as it does by the rules
     pub own-newest : (j : ℕ) → j < length ages → headerAt j ≡ true → headless says (drop (suc j) ages) ≡ eqb (pageAt says o n j) h
     own-newest j k t =
         by-test (headless says (drop (suc j) ages)) _ (λ u. u ∙ sym (last-header j k t u)) (λ u. u ∙ sym (older-header j k u))
@@ -179,6 +186,7 @@ module _ (says : ℕ → Record) (o n : ℕ) (few : n ≤ 4294967296) where
       pub header : headerAt j ≡ true
       pub cuts : hides (cutOf (eqb (pageAt says o n j) h) (says (pageAt says o n j))) place ≡ true
 
+    -- from a place on a header hides a position along the list exactly if it cuts there by the rules
     hider-there : (i place m : ℕ) → Hider says (drop i ages) place m → CutsThere place (i + m)
     hider-there i place m w =
         let g = getD-drop i ages m 0 in
@@ -241,6 +249,7 @@ module _ (says : ℕ → Record) (o n : ℕ) (few : n ≤ 4294967296) where
       abbrev test : ℕ → Bool
       test p = cutsAt says P o n h place p && ltb (ageOf says (pageAt says o n i)) (ageOf says p)
 
+      -- they are those of the later places with a header that cuts there
       there-test : (j : ℕ) → i < j → CutsThere place j → test (pageAt says o n j) ≡ true
       there-test j b w =
           let x = written-at says o n few j (w .inside) in
@@ -261,6 +270,7 @@ module _ (says : ℕ → Record) (o n : ℕ) (few : n ≤ 4294967296) where
             },
           )
 
+      -- and records of the object
       test-own : (p : ℕ) → p < n → test p ≡ true → isRecord says o p ≡ true
       test-own p b t = its-header p (and-left (headerOf o (says p)) _ (and-left (cutsAt says P o n h place p) _ t))
 
@@ -282,6 +292,7 @@ module _ (says : ℕ → Record) (o n : ℕ) (few : n ≤ 4294967296) where
         word-there : (r : ℕ) → i + r < length ages → getD (drop i (lowsOf says ages)) r 0 ≡ cutWord (lowOf says (drop (i + r) ages))
         word-there r b = getD-drop i (lowsOf says ages) r 0 ∙ lows-at says ages (i + r) b
 
+        -- no header from the first word above it on cuts there
         none-behind : (j : ℕ) → i + m ≤ j → CutsThere place j → ⊥
         none-behind j b c =
             let r = j - i in

@@ -34,6 +34,7 @@ module _ (says : ℕ → Record) (P o n : ℕ) where
   module _ (few : n ≤ 4294967296) (good : badObject o ≡ false) (i : ℕ) (h : i < length (written says o n)) (a : After)
       (e : a ≡ followed says P (written says o n) (i + 1))
     where
+      -- what the file was after the record at place i
       after-is : sizedAfter says P o n (getD (written says o n) i 0) ≡ a
       after-is = after-followed says P o n few good i h ∙ ap (followed says P (written says o n)) (sym (add-one i)) ∙ sym e
 
@@ -53,6 +54,7 @@ pub record Recounted (says : ℕ → Record) (P n : ℕ) (ages sizes₀ rows siz
   pub file : after ≡ followed says P ages i
   pub laid-over : (o : ℕ) → ages ≡ written says o n → (rows ≡ laid (historyRows says P o n) ages i) × (sizes ≡ laid (historySizes says P o n) sizes₀ i)
 
+-- none yet
 pub recounted-none : (says : ℕ → Record) (P n : ℕ) (ages sizes₀ : List ℕ) → Recounted says P n ages sizes₀ ages sizes₀ (Refused NoHeader) 0
 recounted-none says P n ages sizes₀ =
     record { inside = zero-le; rows-long = refl; sizes-long = refl; file = sym (follow-begin says P ages); laid-over = λ o e. (refl, refl) }

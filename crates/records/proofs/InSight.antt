@@ -112,6 +112,7 @@ module _ {says : ℕ → Record} {P o n i : ℕ} {d : «data».Data} (c : Newest
   abbrev low : ℕ
   low = cutWord (lowOf says (drop i ages))
 
+  -- it is no header
   no-header : isHeader (says page) ≡ false
   no-header = rw (c .said)
 
@@ -133,11 +134,13 @@ module _ {says : ℕ → Record} {P o n i : ℕ} {d : «data».Data} (c : Newest
     abbrev z : ℕ
     z = sizeOf says P o h n
 
+    -- as many bytes are valid by the word as by the lookup
     bytes : heldBytes P z low chunk (d .count) ≡ validOf P chunk (says page) (shownOf P chunk z) cut
     bytes =
         rw (← low-cut h e, c .said)
         (ap (min (d .count)) (word-leaves (lowOf says (drop i ages)) base (shownOf P chunk z) (omega (arith, c .short))))
 
+    -- so it stands as the lookup says
     by-header :
         (v : ℕ) →
         heldIn P (answerOf (sizedBy says o n P (file.Header (record { 0 = h }) v))) low d
@@ -175,6 +178,7 @@ module _ {says : ℕ → Record} {P o n i : ℕ} {d : «data».Data} (c : Newest
           (λ r. by-refusal r (visits says o n (headed h)))
           (by-header h e l (visits says o n (headed h))))
 
+  -- whatever the size is told by, and the word
   pub stands-held : {a : After} {word : ℕ} → a ≡ answerOf (sizedOf says o n P) → word ≡ low → base < word → heldIn P a word d ≡ standsAt says P o n i d
   stands-held q w l =
       let b : base < low = rw w at l in

@@ -35,6 +35,7 @@ module _ (says : ℕ → Record) (P o n p : ℕ) where
   unfolding standsBy
   stands-other e = rw e
 
+  -- the newest header, and another
   pub stands-newest : (k : header.Header) → says p ≡ Header k → newestHeader says o n ≡ some p → standsOf says P o n p ≡ NewestHeader
   unfolding standsBy
   stands-newest k e h = rw (e, h, eq-eqb p p refl)
@@ -44,6 +45,7 @@ module _ (says : ℕ → Record) (P o n p : ℕ) where
   stands-older k q e h f = rw (e, h, ne-eqb q p f)
 
   module _ (d : «data».Data) (e : says p ≡ Data d) where
+    -- the newest copy of its chunk, and another
     pub stands-copy :
         newestCopy says o (d .chunk .0) n ≡ some p →
         standsOf says P o n p ≡ copyStands says P o n (d .chunk .0) (cutBy says P o n p (d .chunk .0) (newestHeader says o n))
@@ -99,12 +101,14 @@ module _ (says : ℕ → Record) (o n : ℕ) (few : n < pageValues) (chunked : (
   abbrev at : ℕ → ℕ
   at = pageAt says o n
 
+  -- few enough pages for their numbers, and records for places
   pages : n ≤ 4294967296
   pages = omega arith
 
   short : length ages < 0xFFFFFFFF
   short = written-few says o n few
 
+  -- the last place of a chunk has its newest copy
   last-copy : (c q : ℕ) → (c ≡ 0 → ⊥) → LastOf says ages short c q → newestCopy says o c n ≡ some (at q)
   last-copy c q s w =
       last-newest says o n pages (λ p. copyOf o c (says p)) (λ p _ t. and-left (isOf o (says p)) _ t) q (w .inside)
@@ -114,6 +118,7 @@ module _ (says : ℕ → Record) (o n : ℕ) (few : n < pageValues) (chunked : (
       (λ t. absurd (w .last j h k (copy-chunk c (says (at j)) (and-right (isOf o (says (at j))) _ t))))
       (λ t. t))
 
+  -- and the last place of chunk 0 the newest header
   last-header : (q : ℕ) → LastOf says ages short 0 q → newestHeader says o n ≡ some (at q)
   last-header q w =
       let r = written-at says o n pages q (w .inside) in
@@ -149,9 +154,11 @@ module _ (says : ℕ → Record) (o n : ℕ) (few : n < pageValues) (chunked : (
     pub superseded : (d : «data».Data) → r ≡ Data d → (q ≡ i → ⊥) → Superseded (record { 0 = at q }) ≡ standsOf says P o n (at i)
 
   module _ (P i : ℕ) (inside : i < length ages) (r : Record) (q : ℕ) (e : r ≡ says (at i)) (w : LastPlace (chunkOf r) (placesOf says ages) q) where
+    -- that is the last record of the chunk
     last : LastOf says ages short (chunkOf (says (at i))) q
     last = last-of says ages short (chunkOf (says (at i))) q (rw e at w)
 
+    -- so another one's place is before it
     after : (q ≡ i → ⊥) → (i < q) × (q < length ages)
     after f =
         by-test (ltb q i) _
@@ -162,15 +169,18 @@ module _ (says : ℕ → Record) (o n : ℕ) (few : n < pageValues) (chunked : (
     apart : (q ≡ i → ⊥) → at q ≡ at i → ⊥
     apart f = let b = after f in pages-apart i q (b .0) (b .1)
 
+    -- the record's own place has its own page
     same : q ≡ i → some (at q) ≡ some (at i)
     same s = ap (λ (j : ℕ). some (at j)) s
 
+    -- of a header's chunk the last is the newest header, and of data's the newest copy
     header-at : (h : header.Header) → r ≡ Header h → newestHeader says o n ≡ some (at q)
     header-at h k = last-header q (rw (← e, k) at last)
 
     copy-at : (d : «data».Data) → r ≡ Data d → newestCopy says o (d .chunk .0) n ≡ some (at q)
     copy-at d k = last-copy (d .chunk .0) q (rw (← e, k) at (chunked (at i)) refl) (rw (← e, k) at last)
 
+    -- together
     pub by-last : ByLast P i r q
     by-last = record {
       behind = after;

@@ -94,6 +94,7 @@ module _ (says : ℕ → Record) where
   low-word : (a : ℕ) (newer : List ℕ) → cutWord (lowOf says (a ∷ newer)) ≤ cutWord (lowOf says newer)
   low-word a newer = rw (low-one a newer) (word-lower (ownCut (headless says newer) (saidAt says a)) (lowOf says newer))
 
+  -- so the first word is the least
   first-least : (ages : List ℕ) (j : ℕ) → j < length ages → cutWord (lowOf says ages) ≤ getD (lowsOf says ages) j 0
   first-least [] j h = absurd (not-suc-le-zero h)
   first-least (a ∷ newer) zero h = rw (lows-one a newer) (le-refl _)
@@ -106,6 +107,7 @@ module _ (says : ℕ → Record) where
   lows-rise (a ∷ newer) (suc i) zero h k = absurd (not-suc-le-zero h)
   lows-rise (a ∷ newer) (suc i) (suc j) h k = rw (lows-one a newer) (lows-rise newer i j (le-of-suc-le-suc h) (le-of-suc-le-suc k))
 
+  -- and they are sorted
   pub lows-sorted : (ages : List ℕ) → Sorted (lowsOf says ages)
   lows-sorted ages = record { rise = λ i j h k. lows-rise ages i j h (rw (lows-length ages) at k) }
 

@@ -68,6 +68,7 @@ module _ (says : ℕ → Record) where
       let e : suc b + i ≡ b + suc i = omega arith in
       placed-from (suc b) i L (le-of-suc-le-suc h) ∙ ap (packed (chunkOf (saidAt says (getD L i 0)))) e
 
+  -- from place 0 on
   pub placed-at : (i : ℕ) (L : List ℕ) → i < length L → getD (placedFrom says 0 L) i 0 ≡ packed (chunkOf (saidAt says (getD L i 0))) i
   placed-at i L h = let e : 0 + i ≡ i = omega arith in placed-from 0 i L h ∙ ap (packed (chunkOf (saidAt says (getD L i 0)))) e
 

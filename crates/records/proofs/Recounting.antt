@@ -53,9 +53,11 @@ module _ (pages : ℕ → Record) (o : ℕ) where
     abbrev says : ℕ → Record
     says = seenBy t pages
 
+    -- a record that is taken has its own age
     same-age : (i : ℕ) → i < length (written says o n) → ageOf pages (pageAt says o n i) ≡ getD (written says o n) i 0
     same-age i h = let w = written-at says o n few i h in rw (← seen-own t pages o (pageAt says o n i) (w .its)) (w .age)
 
+    -- so that moment sees the records before it and no other
     sees-moment : (i : ℕ) → i < length (written says o n) → Sees says P o n few (seenBy (takesAt pages (Before (record { 0 = pageAt says o n i }))) pages) i
     sees-moment i h =
         record {

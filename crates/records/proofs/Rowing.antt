@@ -23,6 +23,7 @@ module _ (says : ℕ → Record) (P o n : ℕ) where
   abbrev ages : List ℕ
   ages = written says o n
 
+  -- one row, and one second word, for each record
   pub rows-length : length (standingRows says P o n) ≡ length ages
   unfolding standingRows
   rows-length = length-map ages (standingRow says P o n)
@@ -31,6 +32,7 @@ module _ (says : ℕ → Record) (P o n : ℕ) where
   unfolding standingDetails
   details-length = length-map ages (standingDetail says P o n)
 
+  -- each by the age at its place
   pub row-at : (i : ℕ) → i < length ages → getD (standingRows says P o n) i 0 ≡ standingRow says P o n (getD ages i 0)
   unfolding standingRows
   row-at i h = map-at (standingRow says P o n) i ages h

@@ -1,4 +1,4 @@
--- One record more, by what it is.
+-- What a file is with one record more, as the code has it: a header begins it anew, and data makes it grow.
 use Prim.Native.Nat.{ℕ}
 use mathlib.Core.Path.{_≡_}
 use Rattle.page.specs.declared.record.Record.{Record}

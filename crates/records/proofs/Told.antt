@@ -54,6 +54,7 @@ Fits (Cut r) = Unit {0}
 Fits (Holds c a) = a < wordValues
 Fits NoFile = Unit {0}
 
+-- and so does the number of its kind
 kind-fits : (s : Standing) → kindOf s < wordValues
 kind-fits NewestHeader = omega arith
 kind-fits OlderHeader = omega arith
@@ -81,6 +82,7 @@ module _ (g : Geometry) (dump : List ℕ) (t : Takes) (o n : ℕ) (accepted : op
   abbrev P : ℕ
   P = g .layout .«data»
 
+  -- there are no more pages than page numbers
   few : n ≤ 4294967296
   few = omega (arith, opened-pages g (length dump) n accepted)
 
@@ -90,6 +92,7 @@ module _ (g : Geometry) (dump : List ℕ) (t : Takes) (o n : ℕ) (accepted : op
     least : 0 < countOf k
     most : countOf k ≤ P
 
+  -- where they are taken
   sound : (p : ℕ) → isData (says p) ≡ true → Sound (says p)
   sound p = go (says p) refl
     where
@@ -98,6 +101,7 @@ module _ (g : Geometry) (dump : List ℕ) (t : Takes) (o n : ℕ) (accepted : op
       go (Header h) e i = clash (cc)
       go (Data d) e i = let w = seen-within g dump t p d e in record { number = chunk-good (d .chunk .0) (w .chunk); least = w .count .least; most = w .count .most }
 
+  -- a page's bytes fit a word
   short : P < wordValues
   short = let r = roomy-facts (g .layout) (opened-facts g (length dump) n accepted .room) in omega (arith, r .long)
 
@@ -116,11 +120,13 @@ module _ (g : Geometry) (dump : List ℕ) (t : Takes) (o n : ℕ) (accepted : op
     abbrev page : ℕ
     page = pageAt says o n i
 
+    -- how it stands is so
     pub place-means : Means says P o n page (standsOf says P o n page)
     place-means =
         let w = written-at says o n few i inside in
         stands-means says P o n few page (w .page) (w .its) (λ d. let s = sound page d in (s .number, s .least))
 
+    -- its row has its page, and with its second word tells how it stands
     pub place-row : keyOf (getD (standingRows says P o n) i 0) ≡ page
     place-row = rw (row-at says P o n i inside) (packed-key page (kindOf (standsOf says P o n page)) (kind-fits (standsOf says P o n page)))
 
@@ -178,6 +184,7 @@ module _ (g : Geometry) (dump : List ℕ) (m : Moment) (o : ℕ) where
           means = rw tells (place-means g dump t o n e i inside);
         }
 
+    -- whatever the dump is opened to
     of-dump :
         (p : Opened) → openedOf g (length dump) ≡ p → onPages (λ r. Refused r 0) (λ n. recordedIn seen n m o room) p ≡ Records k → (i : ℕ) → i < k →
         Told k i (getD (standingLeft g dump m o room rows) i 0) (getD (detailsLeft g dump m o room details) i 0)

@@ -44,6 +44,7 @@ module _ (says : ℕ → Record) (o : ℕ) where
       (λ t. count-skip _ n t ∙ records-count n ∙ sym (since-skip says o 0 n t)))
 
   module _ (n : ℕ) where
+    -- so many are written
     pub written-length : length (written says o n) ≡ records says o n
     unfolding written
     written-length = ids-length (isRecord says o) (ageOf says) n ∙ records-count n
@@ -62,10 +63,12 @@ module _ (says : ℕ → Record) (o : ℕ) where
       pub page : pageAt says o n place ≡ p
 
     module _ (few : n ≤ 4294967296) where
+      -- the ages ascend, since no two pages have one age
       ascends : Ascends 0 (written says o n)
       unfolding written
       ascends = ids-ascend-below (isRecord says o) (ageOf says) n (λ p q h k t u e. omega arith) n (le-refl n)
 
+      -- each place has the age of a record, and each record its place
       pub written-at : (i : ℕ) → i < length (written says o n) → IsWritten i
       unfolding written
       written-at i h =
@@ -80,6 +83,7 @@ module _ (says : ℕ → Record) (o : ℕ) where
           (ids-in (isRecord says o) (ageOf says) (ageOf says p) n (record { page = p; inside = h; passes = t; bears = refl })) in
           record { place = s .place; inside = s .inside; its = s .here; page = ap pageOf (s .here) ∙ age-page says p (omega arith) }
 
+      -- a later place has a newer record
       pub written-rises : (i j : ℕ) → i < j → j < length (written says o n) → getD (written says o n) i 0 < getD (written says o n) j 0
       written-rises i j h k = ascends-at 0 i j (written says o n) ascends h k
 
@@ -89,6 +93,7 @@ module _ (says : ℕ → Record) (o : ℕ) where
 
       -- a test that only records of the object pass
       module _ (test : ℕ → Bool) (own : (p : ℕ) → p < n → test p ≡ true → isRecord says o p ≡ true) where
+        -- the last place that passes has the newest page that does
         pub last-newest :
             (i : ℕ) →
             i < length (written says o n) →
@@ -108,6 +113,7 @@ module _ (says : ℕ → Record) (o : ℕ) where
                 (λ (e : s .place ≡ i). rw e (le-refl _))
                 (λ b. let z : true ≡ false = sym u ∙ ap test (sym (s .page)) ∙ none-behind (s .place) b (s .inside) in clash (cc)))
 
+        -- and where none passes there is none
         pub none-newest : ((j : ℕ) → j < length (written says o n) → test (pageAt says o n j) ≡ false) → newestWhere says test n ≡ none
         none-newest h =
             where-none-is says test n

@@ -1,4 +1,5 @@
--- The file of an object by its newest header alone: no visits are counted.
+-- The file of an object by its newest header alone. What an object is goes by what that header says; how many records a lookup visits is left out, so that
+-- one pass is enough.
 use Prim.Native.Nat.{ℕ}
 use mathlib.Core.Option.{none, some}
 use mathlib.Core.Path.{_≡_}

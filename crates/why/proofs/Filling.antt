@@ -39,6 +39,7 @@ pub record Sized (P n : ℕ) : Type 0 where
   pub most : P ≤ mostData
   pub pages : n < pageValues
 
+-- an accepted dump has such sizes
 pub opened-sized : (g : Geometry) (l n : ℕ) → openedOf g l ≡ Pages n → Sized (g .layout .«data») n
 opened-sized g l n e =
     let f = opened-facts g l n e in
@@ -51,12 +52,15 @@ module _ (says : ℕ → Record) (P o n h : ℕ) (s : Sized P n) (w : List ℕ) 
     arranged-front : v ≡ inFront (arranged (marksTo says P o h n)) w
     arranged-front = sorted ∙ rw (front, e) (sort-front (marksTo says P o h n) w)
 
+    -- none is lost by sorting
     all : length (arranged (marksTo says P o h n)) ≡ need
     all = arranged-length (marksTo says P o h n) ∙ sym e
 
+    -- so the marks in order are the first words
     pub sorted-marks : take need v ≡ arranged (marksTo says P o h n)
     sorted-marks = rw arranged-front (take-at (arranged (marksTo says P o h n)) (drop (length (arranged (marksTo says P o h n))) w) need all)
 
+    -- and those behind them are as they were
     sorted-behind : drop need v ≡ drop need w
     sorted-behind =
         ap (drop need) arranged-front
@@ -86,9 +90,11 @@ module _ (S w : List ℕ) (need : ℕ) (room : need ≤ length w) (v : List ℕ)
       let k = ap length e ∙ length-append (S ++ replicate (need - length S) 0) (drop need w) in
       omega (arith, k, length-append S (replicate (need - length S) 0), length-replicate {A = ℕ} (need - length S) 0, length-drop need w)
 
+  -- so they lie in the words
   pub rows-inside : length S ≤ length v
   rows-inside = omega (arith, rows-fit)
 
+  -- and are what these begin with
   pub rows-front : take (length S) v ≡ S
   rows-front = rw e (rw (append-assoc S (replicate (need - length S) 0) (drop need w)) (take-append-seam S _))
 

@@ -1,4 +1,5 @@
--- The span that a position lies in, one row after the other; and the byte of a page that is shown.
+-- The span that a position lies in, one row after the other: the first that begins behind the position ends it. And the byte of a page that is shown: a
+-- data byte of a page in the dump lies in the dump.
 use Prim.Native.Nat.{ℕ, _+_, _*_, _≤_, _<_}
 use mathlib.Core.Bool.{true}
 use mathlib.Core.List.{List, [], _∷_}
@@ -43,6 +44,7 @@ module _ (g : Geometry) (dump : List ℕ) (p at : ℕ) (h : pageIn g (length dum
   pub byte-inside : p * pageLen (g .layout) + at < length dump
   byte-inside = omega (arith, page-within g (length dump) p h .ends)
 
+  -- and is the byte of the dump there
   pub byte-there : getD (pageAt g dump p) at 0 ≡ getD dump (p * pageLen (g .layout) + at) 0
   byte-there =
       sym (getD-take (at + 1) (pageAt g dump p) at 0 (omega arith))

@@ -44,6 +44,7 @@ code-count : (q at : ℕ) → reasonOf (codeOf (Count (record { 0 = q }))) at �
 unfolding reasonOf
 code-count q at = rw (page-of q 4 (omega arith), kind-of q 4 (omega arith))
 
+-- so the reason of a position inside the file comes back from its code
 pub code-reason : (says : ℕ → Record) (P o n h x : ℕ) → x < sizeOf says P o h n → reasonOf (codeAt says P o n h x) (byteAt P x) ≡ reasonAt says P o n h x
 code-reason says P o n h x i =
     reason-by says P o n h x (λ r. reasonOf (codeOf r) (byteAt P x) ≡ r)

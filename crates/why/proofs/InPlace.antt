@@ -39,6 +39,7 @@ pub record SeenBelow (s : Seen) : Type 0 where
   pub cut : PageBelow (s .cut)
   pub copy : PageBelow (s .copy)
 
+-- the newer of two is, and so is what is seen with one page more
 later-below : (s : Newest) (p age : ℕ) → PageBelow s → p < pageValues → PageBelow (laterIn s p age)
 later-below Nothing p age b h = h
 later-below (At q other) p age b h = by-test (leb other age) _ (λ t. rw t h) (λ t. rw t b)
@@ -60,6 +61,7 @@ module _ (says : ℕ → Record) (P : ℕ) where
   held-below : (q x : ℕ) → q < pageValues → codeOf (heldBy says P q x) < codeValues
   held-below q x h = by-test (leb (countOf (says q)) (byteAt P x)) _ (λ t. rw t (omega arith)) (λ t. rw t (omega arith))
 
+  -- whatever the copy gives, cut or not
   behind-below : (q : PageNumber) (age x : ℕ) (s : Newest) → q .0 < pageValues → PageBelow s → codeOf (behindSeen says P q age x s) < codeValues
   behind-below q age x Nothing h b = held-below (q .0) x h
   behind-below q age x (At p later) h b = by-test (ltb age later) _ (λ t. rw t (omega arith)) (λ t. rw t (held-below (q .0) x h))
@@ -69,6 +71,7 @@ module _ (says : ℕ → Record) (P : ℕ) where
   copy-below s x (At q age) b h =
       by-test (eqb (s .chunk) (chunkAt P x)) _ (λ t. rw t (behind-below q age x (s .cut) h (b .cut))) (λ t. rw t (omega arith))
 
+  -- and so the code of what was taken in
   pub code-below : (s : Seen) (x : ℕ) → SeenBelow s → codeOf (reasonSeen says P s x) < codeValues
   unfolding reasonSeen
   code-below s x b = copy-below s x (s .copy) b (b .copy)
@@ -78,6 +81,7 @@ module _ (says : ℕ → Record) (P : ℕ) where
     abbrev codeOn : Seen → ℕ → ℕ
     codeOn s m = codeOf (reasonSeen says P (taken says s m) (placeOf m))
 
+    -- no mark makes no row; one makes none where another of its place follows, the file has ended or the reason is the last one; and else one
     swept-none : (s : Seen) (last : ℕ) → swept says P size s last [] ≡ []
     unfolding swept
     swept-none s last = refl
@@ -106,6 +110,7 @@ module _ (says : ℕ → Record) (P : ℕ) where
         pub made : swept says P size nothingSeen 0 (take n w₀) ≡ take at w ++ swept says P size s last (drop j (take n w₀))
         pub below : SeenBelow s
 
+      -- before any mark is passed
       pub sweep-none : Swept w₀ nothingSeen 0 0 0
       sweep-none = record { order = zero-le; inside = zero-le; long = refl; unread = refl; made = refl; below = record { cut = tt; copy = tt } }
 
@@ -160,6 +165,7 @@ module _ {says : ℕ → Record} {P size : ℕ} {w₀ : List ℕ} {n : ℕ} (roo
           inside-file : leb size (placeOf (getD w j 0)) ≡ false
           inside-file = lt-leb size (placeOf (getD w j 0)) (rw at-x at k)
 
+          -- the code is that of the mark
           code-on : code ≡ codeOn says P size s (getD w j 0)
           code-on = rw (e, at-x) at f
 

@@ -1,4 +1,4 @@
--- The newest of some pages, kept with its age while more pages come.
+-- The newest of some pages, kept with its age while more pages come: a page that is not older than the one kept takes its place, and another leaves it.
 use Prim.Native.Nat.{ℕ, _≤_, _<_}
 use mathlib.Core.Path.{_≡_, refl}
 use mathlib.Core.Logic.{_⊎_, ⊎-elim}

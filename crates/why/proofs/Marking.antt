@@ -69,6 +69,7 @@ module _ (says : ℕ → Record) (P o h : ℕ) where
       (λ u. ⊎-elim (λ j. cut n a record { below = le-refl _; header = t; cuts = e; inside = ltb-true _ _ u } j) (λ j. absurd j) (rw u at i))
       (λ u. absurd (rw u at i))
 
+  -- by what the page says
   of-page : (n k : ℕ) (r : Record) → says n ≡ r → In k (marksOf P o h n r) → Mark (suc n) k
   of-page n k Other e i = absurd i
   of-page n k (Header f) e i =
@@ -150,12 +151,15 @@ module _ (says : ℕ → Record) (P o h : ℕ) where
           rw (u, e, w .good) j)
           (λ u. let z : false ≡ true = rw u at t in clash (cc))
 
+  -- at its begin
   pub copy-marked : (n p c : ℕ) → IsCopy n p c → In (markOf (baseOf P c) p) (marksTo says P o h n)
   copy-marked n p c w = copy-marks n p c w (markOf (baseOf P c) p) (by-test (leb P (countOf (says p))) _ (λ u. rw u (inl refl)) (λ u. rw u (inl refl)))
 
+  -- at the end of its bytes
   pub count-marked : (n p c : ℕ) → IsCopy n p c → countOf (says p) < P → In (markOf (baseOf P c + countOf (says p)) noPage) (marksTo says P o h n)
   count-marked n p c w l = copy-marks n p c w (markOf (baseOf P c + countOf (says p)) noPage) (rw (lt-leb P (countOf (says p)) l) (inr (inl refl)))
 
+  -- and at the end of its page
   pub end-marked : (n p c : ℕ) → IsCopy n p c → In (markOf (baseOf P c + P) noPage) (marksTo says P o h n)
   end-marked n p c w =
       copy-marks n p c w (markOf (baseOf P c + P) noPage)

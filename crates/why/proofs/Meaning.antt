@@ -54,6 +54,7 @@ end-reached says P o a (suc n) i X f =
     let e : dataEnd says P o a (suc n) ≡ dataEnd says P o a n = end-suc says P o a n ∙ rw t in
     end-reached says P o a n (omega arith) X (λ p b d y k. f p (omega arith) d y (omega arith)))
 
+-- one of two tests holds where either does, and the other way round
 or-true : (a b : Bool) → a || b ≡ true → (a ≡ true) ⊎ (b ≡ true)
 or-true true b e = inl refl
 or-true false b e = inr e
@@ -85,6 +86,7 @@ module _ (says : ℕ → Record) (P o n h : ℕ) where
   abbrev setting : ℕ → Bool
   setting p = setsBy P o h (ageOf says h) size p (says p)
 
+  -- the test says so, and only then
   test-sets : (p : ℕ) → p < n → setting p ≡ true → Sets p
   test-sets p b t =
       record {
@@ -107,6 +109,7 @@ module _ (says : ℕ → Record) (P o n h : ℕ) where
       rw (u .0, lt-ltb (ageOf says h) (ageOf says p) (u .1), eq-eqb (endOf P (says p)) size (u .2)) (or-right (eqb p h && eqb (fileSize (says p)) size) true refl))
       (w .sets)
 
+  -- so the search finds one
   setter-found : h < n → newestWhere says setting n ≡ some (setter says P o n h)
   unfolding setter
   setter-found b = found (newestWhere says setting n) refl
@@ -212,6 +215,7 @@ module _ (says : ℕ → Record) (P o n h : ℕ) where
         (λ _ k. clash (cc))
         (λ t k. record { number = ltb-false _ _ t; newest = newest-found says (copyOf o (chunkAt P x)) n q k })
 
+    -- none: the number is above the largest, or no page is a copy
     pub copy-missing : found ≡ none → (mostChunk < chunkAt P x) ⊎ ((q : ℕ) → q < n → copyOf o (chunkAt P x) (says q) ≡ false)
     unfolding copyFor
     copy-missing e =
@@ -223,6 +227,7 @@ module _ (says : ℕ → Record) (P o n h : ℕ) where
     abbrev cutting : (q p : ℕ) → Bool
     cutting q p = cutsAt says P o n h x p && ltb (ageOf says q) (ageOf says p)
 
+    -- the test says that a header cuts, and only then
     test-cuts : (q p : ℕ) → p < n → cutting q p ≡ true → CutsBehind q p
     test-cuts q p b t =
         let c = and-left (cutsAt says P o n h x p) _ t in
@@ -236,6 +241,7 @@ module _ (says : ℕ → Record) (P o n h : ℕ) where
     cuts-test : (q p : ℕ) → CutsBehind q p → cutting q p ≡ true
     cuts-test q p w = rw (w .header, w .cuts, lt-ltb (ageOf says q) (ageOf says p) (w .newer))
 
+    -- what is found is the newest that cuts
     pub cutter-found :
         (q p : ℕ) → cut-by q ≡ some p → CutsBehind q p × ((r : ℕ) → CutsBehind q r → ageOf says r ≤ ageOf says p)
     unfolding cutter
@@ -243,6 +249,7 @@ module _ (says : ℕ → Record) (P o n h : ℕ) where
         let w = where-found says (cutting q) n p e in
         (test-cuts q p (w .below) (w .passes), λ r c. w .newest r (c .below) (cuts-test q r c))
 
+    -- and where nothing is found none cuts
     pub cutter-missing : (q : ℕ) → cut-by q ≡ none → (p : ℕ) → CutsBehind q p → ⊥
     unfolding cutter
     cutter-missing q e p c = let f = where-missing says (cutting q) n e p (c .below) in let t = cuts-test q p c in clash (cc)
@@ -258,6 +265,7 @@ module _ (says : ℕ → Record) (P o n h : ℕ) where
         (λ q i e d k. record { inside = i; copy = copy-found q e; uncut = cutter-missing q d; ended = k })
         (λ q i e d k. record { inside = i; copy = copy-found q e; uncut = cutter-missing q d; byte = refl; counted = k })
 
+    -- past the end it is the setter
     pub reason-past : size ≤ x → reasonAt says P o n h x ≡ PastEnd (record { 0 = setter says P o n h })
     unfolding reasonAt
     reason-past i = rw (le-leb _ _ i)
@@ -265,10 +273,12 @@ module _ (says : ℕ → Record) (P o n h : ℕ) where
     -- ---- and no other would be
 
     module _ (few : n ≤ 4294967296) where
+      -- the copy is what the search finds
       copy-is : (q : ℕ) → TheCopy q → found ≡ some q
       unfolding copyFor
       copy-is q w = rw (le-ltb mostChunk (chunkAt P x) (w .number)) (where-is says (λ p. copyOf o (chunkAt P x) (says p)) n q (w .newest) few)
 
+      -- where there is none it finds nothing
       none-is : BecauseNoCopy → found ≡ none
       unfolding copyFor
       none-is w =
@@ -278,21 +288,25 @@ module _ (says : ℕ → Record) (P o n h : ℕ) where
           by-test (ltb mostChunk (chunkAt P x)) _ (λ t. rw t) (λ t. rw t (where-none-is says (λ p. copyOf o (chunkAt P x) (says p)) n f)))
           (w .missing)
 
+      -- the newest header that cuts is what the search finds
       cutter-is : (q p : ℕ) → CutsBehind q p → ((r : ℕ) → CutsBehind q r → ageOf says r ≤ ageOf says p) → cut-by q ≡ some p
       unfolding cutter
       cutter-is q p c w =
           where-is says (cutting q) n p record { below = c .below; passes = cuts-test q p c; newest = λ r b t. w r (test-cuts q r b t) } few
 
+      -- and where none cuts it finds nothing
       uncut-is : (q : ℕ) → ((p : ℕ) → CutsBehind q p → ⊥) → cut-by q ≡ none
       unfolding cutter
       uncut-is q w =
           where-none-is says (cutting q) n (λ p b. by-test (cutting q p) _ (λ t. absurd (w p (test-cuts q p b t))) (λ t. t))
 
+      -- the newest page that sets the size is the setter
       setter-is : (p : ℕ) → BecausePastEnd p → setter says P o n h ≡ p
       unfolding setter
       setter-is p w =
           rw (where-is says setting n p record { below = w .sets .below; passes = sets-test p (w .sets); newest = λ r b t. w .newest r (test-sets r b t) } few)
 
+      -- so a reason that is true is the one
       pub means-reason : (r : Reason) → Means r → reasonAt says P o n h x ≡ r
       unfolding reasonAt
       means-reason (Held q at) w =

@@ -1,4 +1,5 @@
--- Where positions and chunks lie, with P data bytes to a page.
+-- Where positions and chunks lie, with P data bytes to a page. A position is its chunk's begin and its data byte, as a number is what a division leaves of
+-- it; so the next position is one data byte further, or begins the next chunk.
 use Prim.Native.Nat.{ℕ, suc, _+_, _-_, _*_, _/_, _≤_, _<_}
 use mathlib.Core.Bool.{false}
 use mathlib.Core.Logic.{_↔_}
@@ -33,6 +34,7 @@ module _ (P : ℕ) (some : 0 < P) where
   pub position : (x : ℕ) → baseOf P (chunkAt P x) + byteAt P x ≡ x
   position x = let e : x / P + 1 - 1 ≡ x / P = omega arith in rw e (div-add-mod' x P)
 
+  -- and that byte is one of the page
   pub byte-below : (x : ℕ) → byteAt P x < P
   byte-below x = mod-lt x some
 

@@ -48,6 +48,7 @@ module _ (says : ℕ → Record) (P o h : ℕ) where
   cut-few p Nowhere = zero-le
   cut-few p (At a) = by-test (ltb a places) _ (λ t. rw t (omega arith)) (λ t. rw t (omega arith))
 
+  -- whatever the page says
   of-few : (p : ℕ) (r : Record) → length (marksOf P o h p r) ≤ 3
   of-few p Other = zero-le
   of-few p (Header k) = by-test (eqb (k .object .0) o) _ (λ t. rw t (cut-few p (cutOf (eqb p h) (Header k)))) (λ t. rw t (omega arith))
@@ -70,15 +71,18 @@ module _ (says : ℕ → Record) (P o h : ℕ) where
   unfolding marksTo
   marks-more n = gather-step (λ p marks. marks ++ marksOf P o h p (says p)) (markOf 0 noPage ∷ []) n
 
+  -- a page that is no record of the object adds none
   pub marks-same : (n : ℕ) → isOf o (says n) ≡ false → marksTo says P o h (n + 1) ≡ marksTo says P o h n
   marks-same n t = marks-more n ∙ ap (λ (r : List ℕ). marksTo says P o h n ++ r) (of-none n (says n) t) ∙ append-nil (marksTo says P o h n)
 
+  -- they are counted page by page
   pub count-more : (n : ℕ) → length (marksTo says P o h (n + 1)) ≡ length (marksTo says P o h n) + length (marksOf P o h n (says n))
   count-more n = ap length (marks-more n) ∙ length-append (marksTo says P o h n) (marksOf P o h n (says n))
 
   count-suc : (n : ℕ) → length (marksTo says P o h (suc n)) ≡ length (marksTo says P o h n) + length (marksOf P o h n (says n))
   count-suc n = ap length (marks-suc says P o h n) ∙ length-append (marksTo says P o h n) (marksOf P o h n (says n))
 
+  -- and begin with that of the file's begin
   pub count-none : length (marksTo says P o h 0) ≡ 1
   count-none = ap length (marks-none says P o h)
 

@@ -1,4 +1,5 @@
--- The search for the page that sets the size.
+-- The search for the page that sets the size. A page sets it as the newest header, or as data of the object; so one that is neither that header nor named
+-- for the object may be passed over, and the newest of the others is the setter.
 use Prim.Native.Nat.{ℕ}
 use mathlib.Core.Bool.{Bool, true, false, _&&_, _||_}
 use mathlib.Core.List.{List}
@@ -40,10 +41,12 @@ module _ (says : ℕ → Record) (P o n h age size : ℕ) (a : age ≡ ageOf say
   abbrev pub sets : ℕ → Bool
   sets p = setsBy P o h age size p (says p)
 
+  -- the page found, or the newest header where none is, is the setter
   found : foundOr h (newestWhere says sets n) ≡ setter says P o n h
   unfolding setter
   found = rw (a, s)
 
+  -- where the search kept nothing, and where it kept a page
   pub setter-none : newestIn says (newestWhere says sets n) ≡ Nothing → h ≡ setter says P o n h
   setter-none e = let k = in-none says (newestWhere says sets n) e in rw k at found
 

@@ -34,6 +34,7 @@ expected =
     PastEnd (record { 0 = 6 }) ∷
     []
 
+-- by what the pages say
 computed : reasons (λ i. recordOf (getD shelfKinds i Blank)) ≡ expected
 unfolding reasonAt copyFor cutter setter sizeOf dataEnd cutOf newestWhere gather shelfKinds
 computed = refl

@@ -128,6 +128,7 @@ module _
   abbrev lowest : ℕ → Cut
   lowest q = lowestCut says o (h .0) (ageOf says q) n
 
+  -- the position is the begin of its chunk and its data byte
   place : base + at ≡ x
   place = position P some-data x
 
@@ -149,6 +150,7 @@ module _
       (λ t. rw (copy-hidden says o n P c (h .0) shown q t) (refl, omega arith))
       (λ t. rw (copy-shown says o n P c (h .0) shown q t) (refl, (omega (arith, leaves-most (lowest q) base shown), omega arith)))
 
+  -- so what the lookup answers fits
   pub looked-fits : Fits P answer
   looked-fits =
       by-test (leb size base) _
@@ -176,6 +178,7 @@ module _
   pub past-refused : size ≤ base → answer ≡ looked.Refused PastEnd v 0
   past-refused i = by-file ∙ looked-past says o n P c h v i
 
+  -- and not where it begins inside the file
   pub not-refused : (r : Refusal) (w m : ℕ) → base < size → answer ≡ looked.Refused r w m → ⊥
   not-refused r w m b e = never (newestCopy says o c n) (sym (by-copy b) ∙ e)
     where
@@ -191,6 +194,7 @@ module _
   unfolding copyFor
   same-copy = rw (le-ltb mostChunk c number)
 
+  -- so no page's bytes reach x
   uncopied : x < size → newestCopy says o c n ≡ none → holderIn at answer ≡ none
   uncopied i e = ap (holderIn at) (by-copy (omega (arith, place)) ∙ ap (copyBy says o n P c (h .0) shown) e ∙ copy-missing says o n P c (h .0) shown)
 
@@ -207,6 +211,7 @@ module _
         let l : leaves (lowest q) base shown ≤ at = leaves-less (lowest q) base at shown (ap (hides (lowest q)) place ∙ t) in
         ap (holderIn at) (answered ∙ copy-shown says o n P c (h .0) shown q u) ∙ rw (le-ltb at (validOf P c (says q) shown (lowest q)) (omega arith)))
 
+    -- where the lowest later cut is behind x the copy is shown
     in-sight : hides (lowest q) x ≡ false → holderIn at answer ≡ pick (ltb at (validOf P c (says q) shown (lowest q))) (some q) none
     in-sight t =
         by-test (hides (lowest q) base) _
@@ -341,6 +346,7 @@ module _ (g : Geometry) (dump : List ℕ) where
       abbrev lookup : Looked
       lookup = chunkOn g dump o (chunkAt P x)
 
+      -- its lookup is that by what the pages say
       looked-up : lookup ≡ lookedOf (recordAt g dump) o n P (chunkAt P x)
       unfolding chunkOn
       looked-up = rw accepted
@@ -364,6 +370,7 @@ module _ (g : Geometry) (dump : List ℕ) where
       pub read-past : sizeOf (recordAt g dump) P o (h .0) n ≤ x → shownIn lookup ≤ byteAt P x
       read-past i = rw looked-up (past-shown (recordAt g dump) o n P v x h data-some object number live i)
 
+      -- and the other way round
       pub past-read : shownIn lookup ≤ byteAt P x → sizeOf (recordAt g dump) P o (h .0) n ≤ x
       past-read i =
           by-test (leb (sizeOf (recordAt g dump) P o (h .0) n) x) _
@@ -425,6 +432,7 @@ module _ (g : Geometry) (dump : List ℕ) (m : Moment) (o x : ℕ) where
             shown = λ buffer number i. shown-byte g dump seen o n v x h buffer (data-some g dump n accepted) object number live i ∙ ap (shownBy g dump) e;
           }
 
+      -- by what the object is, what refuses it, and what refuses the dump
       of-file : (f : File) → badObject o ≡ false → fileOf seen o n ≡ f → onFile refuse (tell n) (filedBy f) ≡ told.Because r u → Answered r u
       of-file (file.Refused f v) object live k = clash (cc)
       of-file (file.Header h v) object live k =

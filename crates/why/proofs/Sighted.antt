@@ -52,6 +52,7 @@ same-page a b p q h k e = omega arith
 same-place : (a b p q : ℕ) → p < pageValues → q < pageValues → markOf a p ≡ markOf b q → a ≡ b
 same-place a b p q h k e = omega arith
 
+-- and marks in order have their places in order
 mark-order : (a b p q : ℕ) → p < pageValues → q < pageValues → markOf a p ≤ markOf b q → a ≤ b
 mark-order a b p q h k e = omega arith
 
@@ -183,6 +184,7 @@ module _ (says : ℕ → Record) (P o h n : ℕ) (few : n < pageValues) (some-da
 
       -- data
       module _ (p c : ℕ) (w : IsCopy says P o h n p c) (e : k ≡ markOf (baseOf P c) p) where
+        -- its mark is of its page alone, which is no header, and data of no other chunk
         same : (q b : ℕ) → q < n → markOf b q ≡ markOf (baseOf P c) p → q ≡ p
         same q b l f = same-page b (baseOf P c) q p (omega (arith, few, l)) (omega (arith, few, w .below)) f
 
@@ -192,11 +194,13 @@ module _ (says : ℕ → Record) (P o h n : ℕ) (few : n < pageValues) (some-da
         chunk : (q d : ℕ) → IsCopy says P o h n q d → markOf (baseOf P d) q ≡ markOf (baseOf P c) p → d ≡ c
         chunk q d v f = one-chunk o c d (says p) (w .copy) (rw (← same q (baseOf P d) (v .below) f) (v .copy))
 
+        -- so the newest header passed stays
         cuts : Latest says (CutIn more) (s .cut)
         cuts =
             latest-same says (CutIn A) (CutIn more) (s .cut) (before .newest-cut) cut-kept
             (λ q i. cut-parts (CutIn A q) q i (λ a v f. absurd (header q a v (f ∙ e))) (λ j. j))
 
+        -- the data itself is passed now
         new : CopyIn more c p
         new = record { is = w; there = rw (← e) last }
 
@@ -243,6 +247,7 @@ module _ (says : ℕ → Record) (P o h n : ℕ) (few : n < pageValues) (some-da
       taken-bare : pageOn k ≡ noPage → taken says s k ≡ s
       taken-bare e = rw (eq-eqb _ _ e)
 
+      -- or of the page that it has
       taken-page : (p : ℕ) → p < n → pageOn k ≡ p → taken says s k ≡ seenWith s p (says p)
       taken-page p b e = rw (e, ne-eqb p noPage (λ z. omega (arith, few, b, z)))
 
@@ -339,6 +344,7 @@ module _ (says : ℕ → Record) (P o h n : ℕ) (few : n < pageValues) (some-da
         (λ t. rw (t, a-cutter (q .0) (p .0) (l .0) (omega (arith, ltb-true age later t, e, l .1)) (λ r i. le-trans (l .2 r i) (omega (arith, l .1)))))
         (λ t. rw (t, no-cutter (q .0) (λ r i. le-trans (l .2 r i) (omega (arith, ltb-false age later t, e)))))
 
+    -- the newest copy passed decides, if it is of the place's chunk; a chunk passed before has ended
     by-copy : (r : Newest) → Latest says (CopyIn A (s .chunk)) r → copySeen says P s x r ≡ reasonBy says P o n h x (copyFor says P o n h x)
     by-copy Nothing l =
         rw (no-copy
@@ -364,6 +370,7 @@ module _ (says : ℕ → Record) (P o h n : ℕ) (few : n < pageValues) (some-da
               absurd (eqb-false (s .chunk) c t (omega (arith, lo, hi)))),
         ))
 
+    -- so the reason is that of the place
     pub reason-seen : reasonSeen says P s x ≡ reasonBy says P o n h x (copyFor says P o n h x)
     unfolding reasonSeen
     reason-seen = by-copy (s .copy) (w .newest-copy)

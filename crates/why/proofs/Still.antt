@@ -64,6 +64,7 @@ module _ (says : ℕ → Record) (P o n h : ℕ) (some-data : 0 < P) (most-data 
             absurd (bare (markOf a p) (cut-marked says P o h n p a c) (mark-place a p (omega (arith, few, b)) ∙ z)))
             (λ v. rw (u, v)))
 
+    -- so the newest that cuts is the same
     same-cutter : (q : ℕ) → x + 1 < places → cutter says P o n h q x ≡ cutter says P o n h q (x + 1)
     unfolding cutter
     same-cutter q l =
@@ -87,10 +88,12 @@ module _ (says : ℕ → Record) (P o n h : ℕ) (some-data : 0 < P) (most-data 
           (mark-place _ noPage (omega arith) ∙ ap (λ (v : ℕ). baseOf P (chunkAt P (x + 1)) + v) z ∙ position P some-data (x + 1))))
           (λ u. rw (t, u)))
 
+      -- and so is the reason, cut or not
       same-behind : (q : ℕ) → IsCopy says P o h n q (chunkAt P (x + 1)) → (r : Option ℕ) → codeOf (reasonBehind says P o n h q x r) ≡ codeOf (reasonBehind says P o n h q (x + 1) r)
       same-behind q w none = same-held q w
       same-behind q w (some p) = refl
 
+      -- and that of the chunk's copy
       by-same : (r : Option ℕ) → copyFor says P o n h (x + 1) ≡ r → codeOf (reasonBy says P o n h x r) ≡ codeOf (reasonBy says P o n h (x + 1) r)
       by-same none e = refl
       by-same (some q) e =
@@ -134,9 +137,11 @@ module _ (says : ℕ → Record) (P o n h : ℕ) (some-data : 0 < P) (most-data 
         let e : chunkAt P x ≡ chunkAt P (x + 1) → ⊥ = eqb-false _ _ t in
         rw (none-before e, none-here e))
 
+    -- inside the file
     pub still : x + 1 < sizeOf says P o h n → codeAt says P o n h x ≡ codeAt says P o n h (x + 1)
     still l = rw (inside-reason x (omega (arith, l)), inside-reason (x + 1) l) still-by
 
+    -- and nothing changes there
     pub quiet-at : x + 1 < sizeOf says P o h n → changesAt says P o n h (x + 1) ≡ false
     unfolding changesAt
     quiet-at l =

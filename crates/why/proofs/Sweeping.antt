@@ -111,22 +111,27 @@ module _ (says : ℕ → Record) (P o n h : ℕ) (some-data : 0 < P) (most-data 
     abbrev next : List ℕ
     next = A ++ (k ∷ [])
 
+    -- the mark is not below those passed, and those ahead are not below it
     up : b ≤ k
     up = rises-cons b k L (w .rising) .0
 
     ahead : rises k L ≡ true
     ahead = rises-cons b k L (w .rising) .1
 
+    -- it is one of the file's
     a-mark : Mark says P o h n k
     a-mark = mark-of says P o h n k (w .each k (inr (inl refl)))
 
+    -- with it those passed are not above it
     snoc-every : (B : List ℕ) → Every (λ m. m ≤ b) B → Every (λ m. m ≤ k) (B ++ (k ∷ []))
     snoc-every [] e = (le-refl k, tt)
     snoc-every (m ∷ B) e = (omega (arith, e .0, up), snoc-every B (e .1))
 
+    -- its page is taken in
     seen-more : Sighted says P o h n few some-data next (taken says s k)
     seen-more = take-in says P o h n few some-data A k s (w .sighted) a-mark (every-weaker (λ m. m ≤ b) (λ m. m ≤ k) (λ m e. omega (arith, e, up)) A (w .passed-below))
 
+    -- so the sweep stands one mark further
     stand : (code : ℕ) → Ready (edge L) code → Standing next L (taken says s k) code k
     stand last' r = record {
       sighted = seen-more;
@@ -152,6 +157,7 @@ module _ (says : ℕ → Record) (P o n h : ℕ) (some-data : 0 < P) (most-data 
               let t = rises-every y M (rises-cons k y M r .1) in
               ⊎-elim (λ (e : m ≡ y). rw e (omega arith)) (λ z. let q = place-le y m (every-in (λ v. y ≤ v) m M t z) in omega (arith, q)) j
 
+      -- and so is the next place
       later : x < edge L
       later = go L ahead ends
         where
@@ -161,6 +167,7 @@ module _ (says : ℕ → Record) (P o n h : ℕ) (some-data : 0 < P) (most-data 
               let q = place-le k y (rises-cons k y M r .0) in
               omega (arith, q, inside, eqb-false (placeOf y) x e)
 
+      -- which is not past the end
       edge-most : edge L ≤ size
       edge-most = go L
         where
@@ -175,6 +182,7 @@ module _ (says : ℕ → Record) (P o n h : ℕ) (some-data : 0 < P) (most-data 
           (λ j. ⊎-elim (λ e. joined-in m A (k ∷ []) (inr (inl e))) (λ z. absurd (omega (arith, behind m z, later, l))) j)
           (w .all m i)
 
+      -- and nothing behind it
       upto : (m : ℕ) → In m next → placeOf m ≤ x
       upto m i = place-le m k (every-in (λ v. v ≤ k) m next (snoc-every A (w .passed-below)) i)
 
@@ -252,6 +260,7 @@ module _ (says : ℕ → Record) (P o n h : ℕ) (some-data : 0 < P) (most-data 
             sym (append-assoc (passed changes row (placeOf k)) (row (placeOf k) ∷ []) (swept says P size (taken says s k) (code (placeOf k)) L))
             ∙ rw (← takes inside ends (other-changes (placeOf k) last r v)) (rest (code (placeOf k)) (ready-next inside ends))
 
+      -- together, whichever it is
       onward : passed changes row (edge (k ∷ L)) ++ swept says P size s last (k ∷ L) ≡ passed changes row size
       unfolding swept
       onward =

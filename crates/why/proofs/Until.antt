@@ -61,6 +61,7 @@ pub record SameReason (a b : Reason) : Type 0 where
   pub kind : kindOf a ≡ kindOf b
   pub page : pageIn a ≡ pageIn b
 
+-- a kind is one of those that a code tells apart
 kind-below : (r : Reason) → kindOf r < kindValues
 kind-below (Held p at) = omega arith
 kind-below NoCopy = omega arith
@@ -115,6 +116,7 @@ module _ (says : ℕ → Record) (P o n h : ℕ) where
   unfolding changesAt
   begin-changes = refl
 
+  -- a later position changes where its code is not that of the one before
   change-is : (x : ℕ) → changes (x + 1) ≡ not (eqb (code x) (code (x + 1)))
   unfolding changesAt
   change-is x =
@@ -140,6 +142,7 @@ module _ (says : ℕ → Record) (P o n h : ℕ) where
     between : (y : ℕ) → x < y → y < end → changes y ≡ false
     there : end < size → changes end ≡ true
 
+  -- `until` is that position
   next-change : (x : ℕ) → x < size → NextChange x (until x)
   next-change x i =
       rw (until-inside x i) record {
@@ -162,6 +165,7 @@ module _ (says : ℕ → Record) (P o n h : ℕ) where
           let f : changes u ≡ false = b .between u (a .behind) i in
           clash (cc)
 
+  -- so positions up to it share their `until`
   pub until-shared : (x y : ℕ) → x < size → x ≤ y → y < until x → until y ≡ until x
   until-shared x y i a b =
       let w = next-change x i in
@@ -184,6 +188,7 @@ module _ (says : ℕ → Record) (P o n h : ℕ) where
       ∙ unchanged (x + d) (same (x + d + 1) (omega arith) (omega arith))
       ∙ code-stays x d (λ y a b. same y a (omega arith))
 
+  -- so the code is the same up to `until`
   pub until-same : (x y : ℕ) → x < size → x ≤ y → y < until x → code y ≡ code x
   until-same x y i a b =
       let e : y ≡ x + (y - x) = omega arith in
@@ -226,6 +231,7 @@ module _ (says : ℕ → Record) (P o n h : ℕ) where
   rows x zero = []
   rows x (suc d) = let rest = rows (x + 1) d in pick (changes x) (row x ∷ rest) rest
 
+  -- none of no positions; a change is a row; and no change is none
   rows-none : (x : ℕ) → rows x 0 ≡ []
   unfolding rows
   rows-none x = refl

@@ -1,4 +1,5 @@
--- The loop's invariant: the rows of the ages passed are laid over the words.
+-- The loop's invariant: the rows of the ages passed are laid over the words. There are as many words as ages, so that all rows fill them, and sorted they
+-- are the places.
 use Prim.Native.Nat.{_≤_, _-_}
 use mathlib.Core.Path.{_≡_, refl, sym, _∙_}
 use native.Mathlib.Omega.{arith}
@@ -18,6 +19,11 @@ Inv-loop dump g t ages words₀ i₀ words i =
 
 abbrev μ-loop : tie.MeasureT-loop
 μ-loop dump g t ages words₀ i₀ words i = length ages - i
+
+slice-write-words : tie.Need-slice-write-words Inv-loop μ-loop
+slice-write-words c =
+    let l = c .before .before .before .before .before .before in
+    omega (arith, l .loop .inv .1, l .before .before .before .before .pre .0)
 
 loop-again : tie.Need-loop-again Inv-loop μ-loop
 loop-again c =
@@ -61,7 +67,7 @@ fill-places-spec =
     (search needs)
     (search needs)
     (search needs)
-    (λ c. let q = c .before .before .before .before .before .before .loop in omega (arith, q .inv .1, c .before .before .before .before .before .before .before .before .before .before .pre .0))
+    slice-write-words
     (search needs)
     (search needs)
     loop-again

@@ -1,4 +1,5 @@
--- The loop's invariant: what following the records passed comes to.
+-- The loop's invariant: what following the records passed comes to. After all of them that is what a size lookup answers, where the object has a record
+-- and so an id.
 use Prim.Native.Nat.{_≤_, _-_}
 use mathlib.Core.Path.{_≡_, sym, ap, _∙_}
 use native.Mathlib.Omega.{arith}

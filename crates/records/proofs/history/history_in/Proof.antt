@@ -1,4 +1,5 @@
--- Refused as the records are, and then nothing is written; else the fronts of both slices are filled.
+-- Refused as the records are, and then nothing is written. Else the records have room in both slices, since they have in the shorter; and the fronts of both
+-- are filled.
 use Prim.Native.Nat.{ℕ, min}
 use mathlib.Core.Path.{_≡_, sym, ap, _∙_}
 use native.Mathlib.Omega.{arith}

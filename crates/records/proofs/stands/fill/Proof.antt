@@ -1,4 +1,5 @@
--- The ages, then of them the lowest cuts and the places, are what the rows are put by. The words of the places are as many, and are cleared.
+-- What the rows are put by is filled in before: the ages, then by them the lowest cuts, the places and what the file is. There are as many working words as
+-- records, and all of them are cleared.
 use Prim.Native.Nat.{ℕ, _<_}
 use mathlib.Core.List.{List}
 use mathlib.Core.Path.{_≡_, refl, sym, ap, _∙_}
@@ -34,35 +35,46 @@ few s =
 long : (s : tie.Start) → length (s .args .work .now) ≡ length (ages s)
 long s = s .pre .1 .1 .1 ∙ sym (written-length (says s) (s .args .o .0) (s .args .pages))
 
+-- from the ages that were filled in back to the start, and from the places back to the ages
+abbrev start : tie.After-fill-ages → tie.Start
+start f = f .before .before .before .before .before .before
+
+abbrev aged : tie.After-fill-places → tie.After-fill-ages
+aged p = p .before .before .before .before .before .before .before .before .before .before
+
 fill-places-requires : tie.Need-fill-places-requires
 fill-places-requires c κs =
     let f = c .before .before .before .before .before .before .before .before .before in
-    let s = f .before .before .before .before .before .before in
     let e = f .fill-ages .ensures in
-    (long s ∙ ap length (sym e), rw e (omega (arith, few s)))
+    (long (start f) ∙ ap length (sym e), rw e (omega (arith, few (start f))))
+
+after-all-requires : tie.Need-after-all-requires
+after-all-requires c κs = let f = aged (c .before .before .before) in (start f .pre .0, f .fill-ages .ensures)
+
+-- the places are those of the ages
+places : (p : tie.After-fill-places) → p .fill-places .last .1 .1 .1 .1 .0 ≡ placesOf (says (start (aged p))) (ages (start (aged p)))
+places p = p .fill-places .ensures ∙ ap (placesOf (says (start (aged p)))) (aged p .fill-ages .ensures)
 
 put-standings-requires : tie.Need-put-standings-requires
 put-standings-requires c κs =
     let l = c .before .before .before in
     let p = l .before .before .before .before in
-    let w = p .before .before .before .before .before in
-    let f = w .before .before .before .before .before in
-    let s = f .before .before .before .before .before .before in
+    let f = aged p in
     let e = f .fill-ages .ensures in
-    (s .pre .0, (l .after-all .ensures, (p .fill-places .ensures ∙ ap (placesOf (says s)) e, (e, w .fill-lows .ensures ∙ ap (lowsOf (says s)) e))))
+    let w = p .before .before .before .before .before in
+    (start f .pre .0, (l .after-all .ensures, (places p, (e, w .fill-lows .ensures ∙ ap (lowsOf (says (start f))) e))))
 
 returns : tie.Need-returns
 returns c =
     let t = c .before .before .before .before .before .before .before .before in
     let p = t .before .before .before .before .before .before .before .before in
-    let f = p .before .before .before .before .before .before .before .before .before .before in
-    let s = f .before .before .before .before .before .before in (
+    let s = start (aged p) in (
       t .put-standings .ensures .0,
       (
         t .put-standings .ensures .1,
         c .before .before .clear .ensures
             ∙ cleared-all (p .fill-places .last .1 .1 .1 .1 .0) _ refl
-            ∙ ap (λ (w : List ℕ). replicate (length w) 0) (p .fill-places .ensures ∙ ap (placesOf (says s)) (f .fill-ages .ensures))
+            ∙ ap (λ (w : List ℕ). replicate (length w) 0) (places p)
             ∙ ap (λ (n : ℕ). replicate n 0) (places-length (says s) (ages s) ∙ sym (long s)),
       ),
     )
@@ -74,7 +86,7 @@ fill-spec =
     (search needs)
     (search needs)
     fill-places-requires
-    (λ c κs. (c .before .before .before .before .before .before .before .before .before .before .before .before .before .before .before .before .before .before .before .pre .0, c .before .before .before .before .before .before .before .before .before .before .before .before .before .fill-ages .ensures))
+    after-all-requires
     put-standings-requires
     (search needs)
     (search needs)

@@ -1,4 +1,5 @@
--- The first of the ages is that of the record at place i. It stands as the laws of `Last` say, by what it says and the last place of its chunk.
+-- The first of the ages is that of the record at place i. It stands as the laws of `Last` say, by what it says and the last place of its chunk: its own, and
+-- then it is the newest of its kind; or a later one, whose age is among those behind.
 use Prim.Native.Nat.{ℕ, _<_}
 use mathlib.Core.Bool.{true}
 use mathlib.Core.List.{List}

@@ -1,4 +1,5 @@
--- Refused as the records are, and then nothing is written; else the fronts of all slices are filled, and those of the working words cleared.
+-- Refused as the records are, and then nothing is written. Else the records have room in each slice, since they have in the shortest; the fronts of the
+-- slices are filled, and that of the working words is cleared.
 use Prim.Native.Nat.{ℕ, min}
 use mathlib.Core.Path.{_≡_, sym, ap, _∙_}
 use native.Mathlib.Omega.{arith}

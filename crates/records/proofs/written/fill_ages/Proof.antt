@@ -52,8 +52,9 @@ loop-again-2 c =
 -- a record has room
 room :
     (c : tie.After-order-of Inv-loop μ-loop) →
-    let q = c .before .before .before .before .before .before .before .before .loop in
-    let s = c .before .before .before .before .before .before .before .before .before .before .before in
+    let l = c .before .before .before .before .before .before .before .before in
+    let q = l .loop in
+    let s = l .before .before .before in
     (isRecord (says s) (s .args .o .0) (q .i) ≡ true) × (q .at < length (s .args .words .now))
 room c =
     let e = c .before .before in

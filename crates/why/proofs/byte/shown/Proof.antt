@@ -1,5 +1,6 @@
--- A page that holds a byte lies in the dump, and the byte in its data.
-use Prim.Native.Nat.{_+_, _*_, _<_}
+-- A page that is not in the dump shows nothing, nor does a byte that is none of its data bytes. Another lies in the dump, at the page's begin and as many
+-- bytes further.
+use Prim.Native.Nat.{ℕ, _+_, _*_, _<_}
 use mathlib.Core.Bool.{true}
 use mathlib.Core.Path.{_≡_, sym, _∙_}
 use native.Mathlib.Omega.{arith}
@@ -22,45 +23,40 @@ returns-2 c =
     let h = e .before in
     rw (h .before .before .r .given .1, ← h .holds .ensures, not-false (h .holds .result) (e .if1 .left), le-ltb _ _ (c .if2 .taken))
 
--- the page lies in the dump
-there :
-    (c : tie.After-page-len) →
-    let h = c .before .before .before .before .before in
-    let a = h .before .before .before .before .before .args in
-    pageIn (a .g) (length (a .dump .now)) (h .before .before .r .given .0 .0 .0) ≡ true
+-- the page and the data byte that are asked for
+module _ (h : tie.After-holds) where
+  abbrev start : tie.Start
+  start = h .before .before .before .before .before
+
+  abbrev page : ℕ
+  page = h .before .before .r .given .0 .0 .0
+
+  abbrev at : ℕ
+  at = h .before .before .r .given .0 .1 .0
+
+-- behind both tests: the page lies in the dump, and so does the byte
+there : (c : tie.After-page-len) → let h = c .before .before .before .before .before in pageIn (start h .args .g) (length (start h .args .dump .now)) (page h) ≡ true
 there c =
     let e = c .before .before .before .before in
     let h = e .before in
     sym (h .holds .ensures) ∙ not-false (h .holds .result) (e .if1 .left)
 
--- and so does the byte
 inside :
     (c : tie.After-page-len) →
     let h = c .before .before .before .before .before in
-    let r = h .before .before .r in
-    r .given .0 .0 .0 * c .page-len .result + r .given .0 .1 .0 < length (h .before .before .before .before .before .args .dump .now)
+    page h * c .page-len .result + at h < length (start h .args .dump .now)
 inside c =
     let t = c .before .before in
     let h = t .before .before .before in
-    let r = h .before .before .r in
-    let a = h .before .before .before .before .before .args in
-    rw (c .page-len .ensures .0) (byte-inside (a .g) (a .dump .now) (r .given .0 .0 .0) (r .given .0 .1 .0) (there c) (t .if2 .left))
-
-mul-i : tie.Need-mul-i
-mul-i c = omega (arith, inside c)
-
-add-i : tie.Need-add-i
-add-i c = omega (arith, inside c)
+    rw (c .page-len .ensures .0) (byte-inside (start h .args .g) (start h .args .dump .now) (page h) (at h) (there c) (t .if2 .left))
 
 returns-3 : tie.Need-returns-3
 returns-3 c =
     let l = c .before in
     let t = l .before .before in
     let h = t .before .before .before in
-    let r = h .before .before .r in
-    let a = h .before .before .before .before .before .args in
-    rw (r .given .1, there l, lt-ltb _ _ (t .if2 .left), l .page-len .ensures .0)
-    (sym (byte-there (a .g) (a .dump .now) (r .given .0 .0 .0) (r .given .0 .1 .0) (there l) (t .if2 .left)))
+    rw (h .before .before .r .given .1, there l, lt-ltb _ _ (t .if2 .left), l .page-len .ensures .0)
+    (sym (byte-there (start h .args .g) (start h .args .dump .now) (page h) (at h) (there l) (t .if2 .left)))
 
 pub shown-spec : {M : Type 1} → statement M
 shown-spec =
@@ -72,9 +68,9 @@ shown-spec =
     returns-2
     (search needs)
     (search needs)
-    mul-i
+    (λ c. omega (arith, inside c))
     (search needs)
-    add-i
+    (λ c. omega (arith, inside c))
     (λ c. inside (c .before))
     (search needs)
     (search needs)

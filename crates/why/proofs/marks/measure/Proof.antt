@@ -1,6 +1,8 @@
--- The loop's invariant: how many marks the pages passed make, and the largest end of those that are newer than the newest header.
-use Prim.Native.Nat.{_+_, _≤_, _-_}
+-- The loop's invariant: how many marks the pages passed make, and the largest end of those that are newer than the newest header. A page whose tags do not
+-- name the object makes none and ends nothing. A page makes no more than three, so that their number is a word.
+use Prim.Native.Nat.{ℕ, _+_, _≤_, _-_}
 use mathlib.Core.Bool.{false}
+use mathlib.Core.List.{List}
 use mathlib.Core.Path.{_≡_, sym, ap, _∙_}
 use native.Mathlib.Omega.{arith}
 use borrow.Author.Needs.{needs}
@@ -8,6 +10,7 @@ use borrow.Author.Tests.{not-true}
 use lib.ListN.{length}
 use Rattle.page.specs.Records.{recordAt}
 use Rattle.page.specs.Tags.{namesAt}
+use Rattle.page.specs.declared.record.Record.{Record}
 use Rattle.chunk.specs.Records.{isOf}
 use Rattle.chunk.specs.Takes.{seenBy}
 use Rattle.chunk.specs.Sizes.{dataEnd, sizeOf}
@@ -54,36 +57,37 @@ marks-of-requires c κs =
     let s = t .before .before .before .before .before .before in
     (omega (arith, t .loop-test .taken, s .pre .0), s .pre .1)
 
--- the marks with those of the page
+-- the marks of the first pages
+module _ (r : tie.After-order-of Inv-loop μ-loop) where
+  abbrev start : tie.Start Inv-loop μ-loop
+  start = r .before .before .before .before
+
+  abbrev says : ℕ → Record
+  says = seenBy (start .args .t) (recordAt (start .args .g) (start .args .dump .now))
+
+  abbrev marksBelow : ℕ → List ℕ
+  marksBelow i = let a = start .args in marksTo says (a .g .layout .«data») (a .o .0) (a .h .0) i
+
+-- with those of the page they are one page more's
 counted :
     (c : tie.After-count Inv-loop μ-loop) →
-    let q = c .before .before .before .before .before .before .before .loop in
-    let a = c .before .before .before .before .before .before .before .before .before .before .before .before .args in
-    q .marks + c .count .result ≡ length (marksTo (seenBy (a .t) (recordAt (a .g) (a .dump .now))) (a .g .layout .«data») (a .o .0) (a .h .0) (q .i + 1))
+    let q = c .before .before .before .before .before .before .before in
+    q .loop .marks + c .count .result ≡ length (marksBelow (q .before) (q .loop .i + 1))
 counted c =
     let m = c .before in
     let s = m .before .before in
-    let q = s .before .before .before .before .loop in
-    let a = s .before .before .before .before .before .before .before .before .before .args in
-    rw (q .inv .1 .0, c .count .ensures, m .marks-of .ensures, s .seen-at2 .ensures)
-    (sym (count-more (seenBy (a .t) (recordAt (a .g) (a .dump .now))) (a .g .layout .«data») (a .o .0) (a .h .0) (q .i)))
+    let q = s .before .before .before .before in
+    let a = start (q .before) .args in
+    rw (q .loop .inv .1 .0, c .count .ensures, m .marks-of .ensures, s .seen-at2 .ensures)
+    (sym (count-more (says (q .before)) (a .g .layout .«data») (a .o .0) (a .h .0) (q .loop .i)))
 
 add-marks : tie.Need-add-marks Inv-loop μ-loop
 add-marks c =
     let t = c .before .before .before .before .before .before in
-    let q = t .before .loop in
-    let e = t .before .before .before .before .before .before in
-    let a = e .args in
-    record {
-      fits =
-          omega (
-            arith,
-            counted c,
-            marks-few (seenBy (a .t) (recordAt (a .g) (a .dump .now))) (a .g .layout .«data») (a .o .0) (a .h .0) (q .i + 1),
-            t .loop-test .taken,
-            e .pre .0,
-          );
-    }
+    let r = t .before .before in
+    let a = start r .args in
+    let few = marks-few (says r) (a .g .layout .«data») (a .o .0) (a .h .0) (t .before .loop .i + 1) in
+    record { fits = omega (arith, counted c, few, t .loop-test .taken, start r .pre .0) }
 
 loop-again-2 : tie.Need-loop-again-2 Inv-loop μ-loop
 loop-again-2 c =

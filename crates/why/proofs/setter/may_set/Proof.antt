@@ -4,11 +4,7 @@ use borrow.Author.Tests.{eq-eqb, ne-eqb}
 use Rattle.why.proofs.setter.may_set.Statement.{statement}
 use Rattle.why.proofs.setter.may_set.Tie as tie
 
-returns : tie.Need-returns
-returns c = rw (eq-eqb _ _ (c .if1 .taken))
-
-returns-2 : tie.Need-returns-2
-returns-2 c = rw (ne-eqb _ _ (c .before .if1 .left)) (c .names-object .ensures)
+ruleset cases = (eq-eqb, ne-eqb, needs)
 
 pub may-set-spec : {M : Type 1} → statement M
-may-set-spec = tie.close (tie.spec returns (search needs) returns-2)
+may-set-spec = tie.close (tie.spec (λ c. search cases) (search needs) (λ c. search cases))

@@ -1,4 +1,4 @@
--- The loop's invariant: the newest page of those passed that sets the size.
+-- The loop's invariant: the newest page of those passed that sets the size. One whose tags name another object sets it only as the newest header.
 use Prim.Native.Nat.{ℕ, _≤_, _-_}
 use mathlib.Core.Bool.{Bool, true, false, _||_}
 use mathlib.Core.Path.{_≡_, sym, ap, _∙_}
@@ -8,6 +8,7 @@ use borrow.Author.Tests.{not-true, not-false}
 use lib.Dec.{eqb}
 use Rattle.page.specs.Records.{recordAt}
 use Rattle.page.specs.Tags.{namesAt}
+use Rattle.page.specs.declared.record.Record.{Record}
 use Rattle.chunk.specs.Takes.{seenBy}
 use Rattle.chunk.specs.Records.{ageOf}
 use Rattle.chunk.specs.Newest.{newestWhere}
@@ -18,10 +19,14 @@ use Rattle.why.proofs.Setting.{unnamed-sets, setter-none, setter-some}
 use Rattle.why.proofs.setter.setter.Statement.{statement}
 use Rattle.why.proofs.setter.setter.Tie as tie
 
+-- whether page p sets the size: what is searched
+abbrev sets : (says : ℕ → Record) (P o h age size : ℕ) → ℕ → Bool
+sets says P o h age size p = setsBy P o h age size p (says p)
+
 abbrev Inv-loop : tie.InvT-loop
 Inv-loop dump g t pages o h size age best₀ i₀ best i =
     let says = seenBy t (recordAt g dump) in
-    (i ≤ pages) × (best ≡ newestIn says (newestWhere says (λ p. setsBy (g .layout .«data») (o .0) (h .0) age size p (says p)) i))
+    (i ≤ pages) × (best ≡ newestIn says (newestWhere says (sets says (g .layout .«data») (o .0) (h .0) age size) i))
 
 abbrev μ-loop : tie.MeasureT-loop
 μ-loop dump g t pages o h size age best₀ i₀ best i = pages - i
@@ -38,7 +43,7 @@ loop-again c =
     let says = seenBy (a .t) (recordAt (a .g) (a .dump .now)) in
     let u : eqb (q .i) (a .h .0) || namesAt (a .g) (a .dump .now) (q .i) (a .o .0) ≡ false = rw (← k .may-set .ensures) (not-true (k .may-set .result) (c .if1 .taken)) in
     let t = unnamed-sets (a .g) (a .dump .now) (a .t) (a .g .layout .«data») (a .o .0) (a .h .0) age (a .size) (q .i) u in
-    (search needs, q .inv .1 ∙ ap (newestIn says) (sym (where-skip says (λ p. setsBy (a .g .layout .«data») (a .o .0) (a .h .0) age (a .size) p (says p)) (q .i) t)))
+    (search needs, q .inv .1 ∙ ap (newestIn says) (sym (where-skip says (sets says (a .g .layout .«data») (a .o .0) (a .h .0) age (a .size)) (q .i) t)))
 
 loop-again-2 : tie.Need-loop-again-2 Inv-loop μ-loop
 loop-again-2 c =
@@ -47,10 +52,10 @@ loop-again-2 c =
     let age = k .before .before .before .before .before .order-of .result in
     let a = k .before .before .before .before .before .before .before .before .before .args in
     let says = seenBy (a .t) (recordAt (a .g) (a .dump .now)) in
-    let t : setsBy (a .g .layout .«data») (a .o .0) (a .h .0) age (a .size) (q .i) (says (q .i)) ≡ false =
+    let t : sets says (a .g .layout .«data») (a .o .0) (a .h .0) age (a .size) (q .i) ≡ false =
     rw (← k .seen-at2 .ensures, ← c .before .sets-size .ensures) (not-true (c .before .sets-size .result) (c .if2 .taken))
     in
-    (search needs, q .inv .1 ∙ ap (newestIn says) (sym (where-skip says (λ p. setsBy (a .g .layout .«data») (a .o .0) (a .h .0) age (a .size) p (says p)) (q .i) t)))
+    (search needs, q .inv .1 ∙ ap (newestIn says) (sym (where-skip says (sets says (a .g .layout .«data») (a .o .0) (a .h .0) age (a .size)) (q .i) t)))
 
 loop-again-3 : tie.Need-loop-again-3 Inv-loop μ-loop
 loop-again-3 c =
@@ -60,7 +65,7 @@ loop-again-3 c =
     let age = k .before .before .before .before .before .order-of .result in
     let a = k .before .before .before .before .before .before .before .before .before .args in
     let says = seenBy (a .t) (recordAt (a .g) (a .dump .now)) in
-    let test : ℕ → Bool = λ p. setsBy (a .g .layout .«data») (a .o .0) (a .h .0) age (a .size) p (says p) in
+    let test : ℕ → Bool = sets says (a .g .layout .«data») (a .o .0) (a .h .0) age (a .size) in
     let t : test (q .i) ≡ true =
     rw (← k .seen-at2 .ensures, ← e .before .sets-size .ensures) (not-false (e .before .sets-size .result) (e .if2 .left))
     in

@@ -1,4 +1,5 @@
--- The loop's invariant is `Swept`: the rows of the marks passed are made, and the words not yet read are as they were.
+-- The loop's invariant is `Swept`: the rows of the marks passed are made, and the words not yet read are as they were. Each turn passes one mark, and ends in
+-- one of four ways: another mark of its place follows, the file has ended, the reason is the last row's, or it makes a row.
 use Prim.Native.Nat.{_-_, _<_}
 use mathlib.Core.Path.{_≡_, sym, _∙_}
 use native.Mathlib.Omega.{arith}
