@@ -27,7 +27,7 @@ use Rattle.why.specs.Reasons.{cutsAt, cutter}
 use Rattle.records.specs.Lows.{nowhere, cutWord, ownCut, headless, lowOf, lowsOf}
 use Rattle.records.specs.Written.{saidAt, isRecord, written, pageAt}
 use Rattle.records.proofs.Lowering.{cut-same, word-hides, word-shows, headless-none, headless-one, low-none, low-one, lows-length, lows-at}
-use Rattle.records.proofs.Writing.{written-at, written-place, written-rises, last-newest, none-newest}
+use Rattle.records.proofs.Writing.{either, written-at, written-place, written-rises, last-newest, none-newest}
 
 module _ (says : ℕ → Record) where
   -- the record at a place among records is a header, and no later one is
@@ -126,12 +126,7 @@ module _ (says : ℕ → Record) (o n : ℕ) (few : n ≤ 4294967296) where
   -- a newer record has a later place
   later-place : (i j : ℕ) → i < length ages → getD ages i 0 < getD ages j 0 → i < j
   later-place i j k l =
-      by-test (ltb i j) _
-      (λ t. ltb-true _ _ t)
-      (λ t.
-      by-test (ltb j i) _
-      (λ u. absurd (omega (arith, l, written-rises says o n few j i (ltb-true _ _ u) k)))
-      (λ u. let q : i ≡ j = omega (arith, ltb-false i j t, ltb-false j i u) in absurd (omega (arith, rw q at l))))
+      either i j _ (λ b. b) (λ (q : i ≡ j). absurd (omega (arith, rw q at l))) (λ b. absurd (omega (arith, l, written-rises says o n few j i b k)))
 
   -- and a header of the object is one of its records
   its-header : (p : ℕ) → headerOf o (says p) ≡ true → isRecord says o p ≡ true

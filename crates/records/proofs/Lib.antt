@@ -1,14 +1,13 @@
 pub mod Writing
 pub mod Placing
 pub mod Last
-pub mod Seen
 pub mod Rowing
 pub mod Lowering
 pub mod Hiding
 pub mod InSight
 pub mod Inside
 pub mod Meaning
-mod Holding
+mod Arms
 mod Steps
 mod Growing
 mod Following

@@ -8,7 +8,7 @@ use mathlib.Core.Bool.{true, false}
 use mathlib.Core.Logic.{⊎-elim}
 use mathlib.Core.Option.{Option, none, some}
 use mathlib.Core.Path.{_≡_, refl, sym, ap, _∙_}
-use native.Mathlib.Nat.{le-antisymm, eq-or-lt-of-le}
+use native.Mathlib.Nat.{eq-or-lt-of-le}
 use native.Mathlib.Omega.{arith}
 use borrow.Author.Tests.{eq-eqb, eqb-true, eqb-false}
 use lib.Dec.{eqb}
@@ -35,7 +35,7 @@ use Rattle.chunk.specs.declared.answer.Sized.the-variants as sized
 use Rattle.chunk.proofs.Cases.{sized-refused, size-bad, size-by-file, sized-file, looked-refused, chunk-bad-object, chunk-bad-number, chunk-by-file}
 use Rattle.chunk.proofs.Meaning.{IsNewest, Hides, newest-found, newest-missing, where-is, hides-lowest-cut}
 use Rattle.why.specs.Reasons.{cutter}
-use Rattle.why.proofs.Meaning.{cutter-found, cutter-missing, file-newest}
+use Rattle.why.proofs.Meaning.{cutter-found, cutter-missing, file-newest, cutter-is, uncut-is}
 use Rattle.records.specs.Standings.{heldBy, cutBy, copyStands, dataStands, standsBy, standsOf}
 use Rattle.records.specs.Written.{isRecord}
 use Rattle.records.specs.declared.standing.Standing.{Standing}
@@ -112,6 +112,7 @@ module _ (says : ℕ → Record) (P o n : ℕ) where
 
   -- ---- the record that a page is
 
+  -- a header, data, and a copy of chunk c, as the case that it is
   of-header : (X : Type 0) (r : Record) → isHeader r ≡ true → ((k : header.Header) → r ≡ Header k → X) → X
   of-header X Other t f = clash (cc)
   of-header X (Header k) t f = f k refl
@@ -200,6 +201,7 @@ module _ (says : ℕ → Record) (P o n : ℕ) where
     own-copy : (d : «data».Data) → says p ≡ Data d → copyOf o (d .chunk .0) (says p) ≡ true
     own-copy d e = rw (own, e) (eq-eqb (d .chunk .0) (d .chunk .0) refl)
 
+    -- a header that is not the newest is older than it
     older-means : (r : Option ℕ) → newestHeader says o n ≡ r → isHeader (says p) ≡ true → isAt p r ≡ false → IsOlderHeader p
     older-means none e i t = let z = newest-missing says (headerOf o) n e p below in clash (cc (rw (own, i) at z))
     older-means (some q) e i t =
@@ -207,9 +209,11 @@ module _ (says : ℕ → Record) (P o n : ℕ) where
         record { is = i; page = q; newest = w; newer = newer-than q (w .below) (eqb-false q p t) (w .newest p below (rw (own, i))) }
 
     module _ (c : ℕ) (its : chunkOf (says p) ≡ c) (is : isData (says p) ≡ true) where
+      -- the newest copy of its chunk is that
       copy-means : newestCopy says o c n ≡ some p → TheCopy p
       copy-means i = record { is = is; newest = rw its (newest-found says (copyOf o c) n p i) }
 
+      -- where a later header cuts it, the newest of these does
       cut-means : (r : ℕ) → newestCopy says o c n ≡ some p → its-cut p c ≡ some r → IsCut p r
       cut-means r i j = by-header (newestHeader says o n) refl j
         where
@@ -219,9 +223,11 @@ module _ (says : ℕ → Record) (P o n : ℕ) where
               let w = cutter-found says P o n h (baseOf P c) p r k in
               record { copy = copy-means i; header = h; newest-header = e; cuts = rw its (w .0); newest = rw its (w .1) }
 
+      -- and where none does, none cuts it
       uncut-means : its-cut p c ≡ none → (h r : ℕ) → newestHeader says o n ≡ some h → CutsIt p h r → ⊥
       uncut-means j h r e k = cutter-missing says P o n h (baseOf P c) p (rw e at j) r (rw its at k)
 
+      -- then the lookup of its chunk answers it, or the object is no live file
       held-means : newestCopy says o c n ≡ some p → its-cut p c ≡ none → Means p (heldBy c (lookedOf says o n P c))
       held-means i j =
           by-test (badObject o) _
@@ -240,6 +246,7 @@ module _ (says : ℕ → Record) (P o n : ℕ) where
               (λ r. uncut-means j (h .0) r (file-newest says o n v h e)) t (sound is .0) (rw its i) in
               rw (← its, a .looked) record { is = is; its = refl; shown = a .shown; visits = a .visits; looked = a .looked }
 
+    -- so how it stands is true
     pub stands-means : Means p (standsOf says P o n p)
     stands-means =
         stands-by p (Means p)
@@ -290,29 +297,16 @@ module _ (says : ℕ → Record) (P o n : ℕ) where
       by-file t (file.Header h w) e = let z = sym s ∙ size-by-file says o n P t ∙ ap (sizedBy says o n P) e ∙ sized-file says o n P h w in clash (cc)
 
   module _ (few : n ≤ 4294967296) (p : ℕ) where
-    -- the newest of the headers that cut, or none
-    cutter-is : (h x r : ℕ) → Hides says o h (ageOf says p) n x r → ((s : ℕ) → Hides says o h (ageOf says p) n x s → ageOf says s ≤ ageOf says r) → cutter says P o n h p x ≡ some r
-    cutter-is h x r c w = found (cutter says P o n h p x) refl
-      where
-        found : (m : Option ℕ) → cutter says P o n h p x ≡ m → m ≡ some r
-        found none e = absurd (cutter-missing says P o n h x p e r c)
-        found (some s) e =
-            let f = cutter-found says P o n h x p s e in
-            let same : ageOf says s ≡ ageOf says r = le-antisymm (w s (f .0)) (f .1 r c) in
-            let i : s ≡ r = omega (arith, f .0 .below, c .below) in
-            ap some i
-
+    -- no header cuts it
     none-cuts : (m : Option ℕ) → newestHeader says o n ≡ m → ((h r : ℕ) → newestHeader says o n ≡ some h → CutsIt p h r → ⊥) → cutBy says P o n p (chunkOf (says p)) m ≡ none
     none-cuts none e f = refl
-    none-cuts (some h) e f = found (cutter says P o n h p (begin p)) refl
-      where
-        found : (m : Option ℕ) → cutter says P o n h p (begin p) ≡ m → m ≡ none
-        found none i = refl
-        found (some r) i = absurd (f h r e (cutter-found says P o n h (begin p) p r i .0))
+    none-cuts (some h) e f = uncut-is says P o n h (begin p) few p (λ r c. f h r e c)
 
+    -- it is the newest copy that the search finds
     copy-is : (d : «data».Data) → d .chunk .0 ≡ chunkOf (says p) → TheCopy p → newestCopy says o (d .chunk .0) n ≡ some p
     copy-is d its w = rw its (where-is says (λ r. copyOf o (chunkOf (says p)) (says r)) n p (w .newest) few)
 
+    -- so what is true of it is how it stands
     pub means-stands : (s : Standing) → Means p s → standsOf says P o n p ≡ s
     means-stands NewestHeader w =
         of-header _ (says p) (and-right (isOf o (says p)) _ (w .newest .passes))
@@ -331,7 +325,7 @@ module _ (says : ℕ → Record) (P o n : ℕ) where
         of-data _ (says p) (w .copy .is)
         (λ d e its.
         stands-copy says P o n p d e (copy-is d its (w .copy))
-        ∙ rw (w .newest-header, its, cutter-is (w .header) (begin p) (r .0) (w .cuts) (w .newest)))
+        ∙ rw (w .newest-header, its, cutter-is says P o n (w .header) (begin p) few p (r .0) (w .cuts) (w .newest)))
     means-stands (Holds c a) w = lookup-holds (c .0) (record { 0 = p }) a (w .shown) (w .visits) (w .looked)
     means-stands NoFile w =
         of-data _ (says p) (w .copy .is)
@@ -347,6 +341,7 @@ module _ (says : ℕ → Record) (P o n : ℕ) where
     pub stands : standsOf says P o n page ≡ NewestHeader
     pub only : (p : ℕ) → standsOf says P o n p ≡ NewestHeader → p ≡ page
 
+  -- it is the newest header
   pub one-newest : n ≤ 4294967296 → (q : ℕ) → q < n → headerOf o (says q) ≡ true → OneNewest
   one-newest few q h t = found (newestHeader says o n) refl
     where

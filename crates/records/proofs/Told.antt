@@ -15,7 +15,7 @@ use Rattle.page.specs.declared.geometry.Opened.the-variants as opened
 use Rattle.page.specs.declared.record.Record.{Record}
 use Rattle.page.specs.declared.record.Record.the-variants.{Other, Header, Data}
 use Rattle.page.proofs.Layouts.{roomy-facts}
-use Rattle.page.proofs.Lengths.{opened-facts, opened-pages}
+use Rattle.page.proofs.Lengths.{opened-facts}
 use Rattle.page.proofs.Searching.{clash}
 use Rattle.page.proofs.Within.{chunk-good}
 use Rattle.sort.specs.Packed.{wordValues, packed, keyOf}
@@ -40,7 +40,7 @@ use Rattle.records.proofs.Answering.{recorded-fits}
 use Rattle.records.proofs.Inside.{looked-found}
 use Rattle.records.proofs.Meaning.{Means, stands-means}
 use Rattle.records.proofs.Rowing.{rows-length, details-length, row-at, detail-at}
-use Rattle.records.proofs.Seen.{seen-within}
+use Rattle.records.proofs.Accepted.{opened-few, seen-within}
 use Rattle.records.proofs.Writing.{written-length, written-at}
 
 -- ---- the words of a standing
@@ -84,7 +84,7 @@ module _ (g : Geometry) (dump : List ℕ) (t : Takes) (o n : ℕ) (accepted : op
 
   -- there are no more pages than page numbers
   few : n ≤ 4294967296
-  few = omega (arith, opened-pages g (length dump) n accepted)
+  few = opened-few g dump n accepted
 
   -- data have a chunk's number, and as many bytes as a page at most, but some
   record Sound (k : Record) : Type 0 where

@@ -289,13 +289,13 @@ module _ (says : ℕ → Record) (P o n h : ℕ) where
           (w .missing)
 
       -- the newest header that cuts is what the search finds
-      cutter-is : (q p : ℕ) → CutsBehind q p → ((r : ℕ) → CutsBehind q r → ageOf says r ≤ ageOf says p) → cut-by q ≡ some p
+      pub cutter-is : (q p : ℕ) → CutsBehind q p → ((r : ℕ) → CutsBehind q r → ageOf says r ≤ ageOf says p) → cut-by q ≡ some p
       unfolding cutter
       cutter-is q p c w =
           where-is says (cutting q) n p record { below = c .below; passes = cuts-test q p c; newest = λ r b t. w r (test-cuts q r b t) } few
 
       -- and where none cuts it finds nothing
-      uncut-is : (q : ℕ) → ((p : ℕ) → CutsBehind q p → ⊥) → cut-by q ≡ none
+      pub uncut-is : (q : ℕ) → ((p : ℕ) → CutsBehind q p → ⊥) → cut-by q ≡ none
       unfolding cutter
       uncut-is q w =
           where-none-is says (cutting q) n (λ p b. by-test (cutting q p) _ (λ t. absurd (w p (test-cuts q p b t))) (λ t. t))

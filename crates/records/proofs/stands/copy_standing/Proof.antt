@@ -16,7 +16,7 @@ use Rattle.chunk.specs.Takes.{seenBy}
 use Rattle.records.specs.Lows.{cutWord, lowOf, lowsOf}
 use Rattle.records.specs.Written.{written}
 use Rattle.records.proofs.InSight.{NewestAt, first-there, first-word, words-sorted, stands-held, Hidden, stands-cut}
-use Rattle.records.proofs.Seen.{seen-within}
+use Rattle.records.proofs.Accepted.{seen-within}
 use Rattle.records.proofs.stands.copy_standing.Statement.{statement}
 use Rattle.records.proofs.stands.copy_standing.Tie as tie
 

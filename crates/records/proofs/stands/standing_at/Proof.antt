@@ -15,7 +15,7 @@ use Rattle.chunk.specs.Records.{chunkOf}
 use Rattle.chunk.specs.Takes.{seenBy}
 use Rattle.records.specs.Written.{written, pageAt}
 use Rattle.records.proofs.Last.{rest-some, rest-first, rest-inside, rest-at, written-few, has-its, ByLast, by-last}
-use Rattle.records.proofs.Seen.{seen-chunk}
+use Rattle.records.proofs.Accepted.{seen-chunk}
 use Rattle.records.proofs.stands.standing_at.Statement.{statement}
 use Rattle.records.proofs.stands.standing_at.Tie as tie
 

@@ -1,6 +1,6 @@
 -- Only a record that holds bytes has a begin.
 use borrow.Author.Needs.{needs}
-use Rattle.records.proofs.Holding.{else-holds}
+use Rattle.records.proofs.Arms.{else-holds}
 use Rattle.records.proofs.standing.Standing.from.Statement.{statement}
 use Rattle.records.proofs.standing.Standing.from.Tie as tie
 

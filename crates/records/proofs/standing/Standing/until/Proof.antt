@@ -1,6 +1,6 @@
 -- Only a record that holds bytes has an end.
 use borrow.Author.Needs.{needs}
-use Rattle.records.proofs.Holding.{else-holds}
+use Rattle.records.proofs.Arms.{else-holds}
 use Rattle.records.proofs.standing.Standing.until.Statement.{statement}
 use Rattle.records.proofs.standing.Standing.until.Tie as tie
 

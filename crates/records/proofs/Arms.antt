@@ -9,9 +9,11 @@ use Rattle.records.specs.declared.standing.Standing.{Standing}
 use Rattle.records.specs.declared.standing.Standing.the-variants.{NewestHeader, OlderHeader, Superseded, Cut, Holds, NoFile}
 use Rattle.records.proofs.standing.Standing.{the-type}
 
+-- the number of that case
 abbrev holding : ℕ
 holding = tagOf the-type (Holds (record { 0 = 0 }) 0)
 
+-- it has neither a begin nor an end
 pub else-holds : (P : ℕ) (s : Standing) → OneOf (allBut holding 6) (tagOf the-type s) → (0 ≡ fromOf P s) × (0 ≡ untilOf P s)
 else-holds P NewestHeader h = (refl, refl)
 else-holds P OlderHeader h = (refl, refl)
