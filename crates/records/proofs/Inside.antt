@@ -17,8 +17,8 @@ use Rattle.page.specs.declared.record.Record.the-variants.{Other, Header, Data}
 use Rattle.page.proofs.Layouts.{and-right}
 use Rattle.page.proofs.Searching.{clash, by-test, pick-cases}
 use Rattle.chunk.specs.Cuts.{isShrink, cutOf, lowestCut, hides}
-use Rattle.chunk.specs.Lookups.{fileAt, fileBy, fileOf, shownOf, validOf, copyAt, copyBy, chunkBy, lookedBy, lookedOf}
-use Rattle.chunk.specs.Newest.{newestHeader, newestCopy, records}
+use Rattle.chunk.specs.Lookups.{fileOf, shownOf, validOf, copyAt, copyBy, chunkBy, lookedBy, lookedOf}
+use Rattle.chunk.specs.Newest.{newestCopy}
 use Rattle.chunk.specs.Records.{ageOf, isOf, headerOf, dataOf, chunkOf, countOf, fileSize, isGone, isFile, baseOf}
 use Rattle.chunk.specs.Sizes.{endOf, dataEnd, sizeOf}
 use Rattle.chunk.specs.declared.answer.File.{File}
@@ -29,7 +29,7 @@ use Rattle.chunk.proofs.Cases.{size-larger}
 use Rattle.chunk.proofs.Gathering.{end-suc}
 use Rattle.chunk.proofs.Holes.{copy-in-sight}
 use Rattle.chunk.proofs.Meaning.{Hides, newest-found, size-at-least}
-use Rattle.why.proofs.Meaning.{file-newest}
+use Rattle.why.proofs.Meaning.{file-newest, file-live}
 
 -- a header is no data
 no-header : (k : Record) → isHeader k ≡ true → isData k ≡ true → ⊥
@@ -43,22 +43,6 @@ unfolding cutOf
 cut-file k g f = by-test (isShrink k) _ (λ t. rw (g, f, t)) (λ t. rw (g, f, t))
 
 module _ (says : ℕ → Record) (o n : ℕ) where
-  -- it is a file's, and not gone
-  file-says : (h : PageNumber) (v : ℕ) → fileOf says o n ≡ file.Header h v → (isGone (says (h .0)) ≡ false) × (isFile (says (h .0)) ≡ true)
-  unfolding fileOf fileBy fileAt
-  file-says h v e =
-      pick-cases (eqb (records says o n) 0) _ _ _ _ e (λ _ k. clash (cc)) (λ _ k. by-header (newestHeader says o n) k)
-    where
-      by-header : (r : Option ℕ) → fileBy says o n r ≡ file.Header h v → (isGone (says (h .0)) ≡ false) × (isFile (says (h .0)) ≡ true)
-      by-header none k = clash (cc)
-      by-header (some g) k =
-          pick-cases (isGone (says g)) _ _ _ _ k
-          (λ _ j. clash (cc))
-          (λ t j.
-          pick-cases (isFile (says g)) _ _ _ _ j
-          (λ u i. let z : g ≡ h .0 = cc in rw (← z) (t, u))
-          (λ _ i. clash (cc)))
-
   module _ (P : ℕ) where
     -- later data end within the end of all later data
     end-within : (x p m : ℕ) → p < m → dataOf o (says p) ≡ true → x < ageOf says p → endOf P (says p) ≤ dataEnd says P o x m
@@ -97,8 +81,8 @@ module _ (says : ℕ → Record) (o n : ℕ) where
           (eq-or-lt-of-le (ltb-false _ _ t)) in
           by-test (leb (fileSize (says (h .0))) base) _
           (λ u.
-          let s = file-says h v live in
-          let cuts : hides (cutOf (eqb (h .0) (h .0)) (says (h .0))) base ≡ true = rw (eq-eqb (h .0) (h .0) refl, cut-file (says (h .0)) (s .0) (s .1)) u in
+          let s = file-live says o n v h live in
+          let cuts : hides (cutOf (eqb (h .0) (h .0)) (says (h .0))) base ≡ true = rw (eq-eqb (h .0) (h .0) refl, cut-file (says (h .0)) (s .linked) (s .file)) u in
           absurd (uncut (h .0) record { below = w .below; header = w .passes; newer = older; cuts = cuts }))
           (λ u. le-trans (leb-false _ _ u) (size-at-least says P o (h .0) n)))
 

@@ -19,13 +19,12 @@ use Rattle.page.specs.declared.number.PageNumber.{PageNumber}
 use Rattle.page.specs.declared.record.Record.{Record}
 use Rattle.page.proofs.Layouts.{and-left, and-right}
 use Rattle.page.proofs.Searching.{clash, by-test, pick-cases}
-use Rattle.chunk.specs.Records.{ageOf, headerOf, dataOf, countOf, fileSize}
+use Rattle.chunk.specs.Records.{ageOf, headerOf, dataOf, countOf, fileSize, isGone, isFile}
 use Rattle.chunk.specs.Newest.{copyOf, newestWhere, newestHeader, records}
 use Rattle.chunk.specs.Sizes.{endOf, dataEnd, sizeOf}
-use Rattle.chunk.specs.Visits.{headed, visits}
-use Rattle.chunk.specs.Lookups.{fileBy, fileOf}
+use Rattle.chunk.specs.Lookups.{fileAt, fileBy, fileOf}
 use Rattle.chunk.specs.declared.answer.File.the-variants as file
-use Rattle.chunk.proofs.Cases.{file-cases, size-larger}
+use Rattle.chunk.proofs.Cases.{size-larger}
 use Rattle.chunk.proofs.Gathering.{end-none, end-suc}
 use Rattle.chunk.proofs.Meaning.{IsNewest, Hides, newest-found, newest-missing, where-found, where-missing, where-is, where-none-is}
 use Rattle.why.specs.Reasons.{chunkAt, byteAt, foundOr, setsBy, copyFor, cutsAt, cutter, setter, reasonBehind, reasonBy, reasonAt}
@@ -319,18 +318,30 @@ module _ (says : ℕ → Record) (P o n h : ℕ) where
 
 -- ---- the file of a lookup
 
--- the header of a live file is the newest of its object
-pub file-newest : (says : ℕ → Record) (o n v : ℕ) (h : PageNumber) → fileOf says o n ≡ file.Header h v → newestHeader says o n ≡ some (h .0)
-unfolding fileOf fileBy
-file-newest says o n v h e =
-    pick-cases (eqb (records says o n) 0) _ _ _ _ e (λ _ k. clash (cc)) (λ _ k. by-header (newestHeader says o n) k)
+-- page h is the header of a live file: the newest of its object, of a file, and not gone
+pub record IsLive (says : ℕ → Record) (o n h : ℕ) : Type 0 where
+  pub newest : newestHeader says o n ≡ some h
+  pub linked : isGone (says h) ≡ false
+  pub file : isFile (says h) ≡ true
+
+-- so is the one that a lookup goes by
+pub file-live : (says : ℕ → Record) (o n v : ℕ) (h : PageNumber) → fileOf says o n ≡ file.Header h v → IsLive says o n (h .0)
+unfolding fileOf fileBy fileAt
+file-live says o n v h e =
+    pick-cases (eqb (records says o n) 0) _ _ _ _ e (λ _ k. clash (cc)) (λ _ k. by-header (newestHeader says o n) refl k)
   where
-    by-header : (r : Option ℕ) → fileBy says o n r ≡ file.Header h v → r ≡ some (h .0)
-    by-header none k = clash (cc)
-    by-header (some g) k =
-        file-cases (says g) g (visits says o n (headed g)) (λ f. f ≡ file.Header h v → some g ≡ some (h .0))
-        (λ r j. clash (cc))
-        (λ j. let z : g ≡ h .0 = cc in ap some z) k
+    by-header : (r : Option ℕ) → newestHeader says o n ≡ r → fileBy says o n r ≡ file.Header h v → IsLive says o n (h .0)
+    by-header none i k = clash (cc)
+    by-header (some g) i k =
+        pick-cases (isGone (says g)) _ _ _ _ k
+        (λ _ j. clash (cc))
+        (λ t j.
+        pick-cases (isFile (says g)) _ _ _ _ j
+        (λ u l. let z : g ≡ h .0 = cc in record { newest = i ∙ ap some z; linked = rw (← z) t; file = rw (← z) u })
+        (λ _ l. clash (cc)))
+
+pub file-newest : (says : ℕ → Record) (o n v : ℕ) (h : PageNumber) → fileOf says o n ≡ file.Header h v → newestHeader says o n ≡ some (h .0)
+file-newest says o n v h e = file-live says o n v h e .newest
 
 -- so of every position of a live file the reason is true
 pub file-means :
