@@ -1,7 +1,7 @@
 -- The answers for W's file, computed from the definitions: the words of its standings and what they tell, number by number, and each refusal in its turn.
 use Prim.Native.Nat.{ℕ}
-use mathlib.Core.List.{List, [], _∷_, map}
-use mathlib.Core.Path.{_≡_, refl, ap, _∙_, fun-ext}
+use mathlib.Core.List.{List, [], _∷_}
+use mathlib.Core.Path.{_≡_, refl, ap, _∙_}
 use lib.ListN.{getD}
 use Rattle.page.specs.Numbers.{badObject, badChunk}
 use Rattle.page.specs.Records.{recordOf, recordAt}
@@ -9,7 +9,7 @@ use Rattle.page.specs.Shelf.{shelfGeometry, shelf, shelfKinds}
 use Rattle.page.specs.declared.record.Record.{Record}
 use Rattle.page.specs.declared.kind.Kind.the-variants.{Blank}
 use Rattle.page.specs.declared.refusal.Refusal.the-variants.{BadPage, BadObject, NoObject, NoHeader, ShortBuffer}
-use Rattle.page.proofs.Marked as pages
+use Rattle.page.proofs.Marked.{shelf-says}
 use Rattle.sort.specs.Arranged.{ascend, arranged}
 use Rattle.chunk.specs.Cuts.{cutOf, lowestCut}
 use Rattle.chunk.specs.Gather.{gather}
@@ -25,13 +25,8 @@ use Rattle.records.specs.Rows.{standingRows, standingDetails, standingOf
 use Rattle.records.specs.Standings.{standsBy}
 use Rattle.records.specs.Written.{written}
 use Rattle.records.specs.declared.history.After.the-variants.{Size, Refused}
-use Rattle.records.specs.declared.standing.Standing.{Standing}
-use Rattle.records.specs.declared.standing.Standing.the-variants.{NewestHeader, OlderHeader, Superseded, Cut, Holds, NoFile}
 use Rattle.records.specs.declared.written.Recorded.{Recorded}
 use Rattle.records.specs.declared.written.Recorded.the-variants as recorded
-
-says : recordAt shelfGeometry shelf ≡ (λ i. recordOf (getD shelfKinds i Blank))
-says = fun-ext pages.shelf-record
 
 -- the words of the standings of object 257: a page in the upper half of a row and a number in the lower one; beside it a page, or a chunk and a length
 abbrev words : (ℕ → Record) → List ℕ × List ℕ
@@ -50,7 +45,7 @@ unfolding
 words-computed = refl
 
 pub shelf-words : words (recordAt shelfGeometry shelf) ≡ expectedWords
-shelf-words = ap words says ∙ words-computed
+shelf-words = ap words shelf-says ∙ words-computed
 
 -- what two words tell: kind, page, and the bytes that are held, with 512 data bytes to a page
 abbrev numbers : (row detail : ℕ) → List ℕ
@@ -86,4 +81,4 @@ unfolding recordedIn badObject since gather shelfKinds
 asked-computed = refl
 
 pub shelf-refusals : asked (recordAt shelfGeometry shelf) ≡ expectedAnswers
-shelf-refusals = ap asked says ∙ asked-computed
+shelf-refusals = ap asked shelf-says ∙ asked-computed

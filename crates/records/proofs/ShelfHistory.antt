@@ -1,14 +1,14 @@
 -- The history of W's file, computed from the definitions: each of its records with the size after it. What W's pages are is known from the crate of pages.
 use Prim.Native.Nat.{ℕ}
 use mathlib.Core.List.{List, [], _∷_}
-use mathlib.Core.Path.{_≡_, refl, ap, _∙_, fun-ext}
+use mathlib.Core.Path.{_≡_, refl, ap, _∙_}
 use lib.ListN.{getD}
 use Rattle.page.specs.Numbers.{badObject}
 use Rattle.page.specs.Records.{recordOf, recordAt}
 use Rattle.page.specs.Shelf.{shelfGeometry, shelf, shelfKinds}
 use Rattle.page.specs.declared.record.Record.{Record}
 use Rattle.page.specs.declared.kind.Kind.the-variants.{Blank}
-use Rattle.page.proofs.Marked as pages
+use Rattle.page.proofs.Marked.{shelf-says}
 use Rattle.sort.specs.Arranged.{ascend, arranged}
 use Rattle.sort.specs.Packed.{packed}
 use Rattle.chunk.specs.Gather.{gather}
@@ -19,9 +19,6 @@ use Rattle.chunk.specs.Sizes.{dataEnd, sizeOf}
 use Rattle.records.specs.Histories.{sizedAfter}
 use Rattle.records.specs.Rows.{historyRows, historySizes}
 use Rattle.records.specs.Written.{written}
-
-says : recordAt shelfGeometry shelf ≡ (λ i. recordOf (getD shelfKinds i Blank))
-says = fun-ext pages.shelf-record
 
 -- the rows of object 257, none of them with a refusal, and the sizes beside them
 abbrev told : (ℕ → Record) → List ℕ × List ℕ
@@ -40,4 +37,4 @@ unfolding
 computed = refl
 
 pub shelf-history : told (recordAt shelfGeometry shelf) ≡ expected
-shelf-history = ap told says ∙ computed
+shelf-history = ap told shelf-says ∙ computed

@@ -1,14 +1,14 @@
 -- How the records of W's file stand, computed from the definitions, the oldest first. What W's pages are is known from the crate of pages.
 use Prim.Native.Nat.{ℕ}
 use mathlib.Core.List.{List, [], _∷_, map}
-use mathlib.Core.Path.{_≡_, refl, ap, _∙_, fun-ext}
+use mathlib.Core.Path.{_≡_, refl, ap, _∙_}
 use lib.ListN.{getD}
 use Rattle.page.specs.Numbers.{badObject, badChunk}
 use Rattle.page.specs.Records.{recordOf, recordAt}
 use Rattle.page.specs.Shelf.{shelfGeometry, shelf, shelfKinds}
 use Rattle.page.specs.declared.record.Record.{Record}
 use Rattle.page.specs.declared.kind.Kind.the-variants.{Blank}
-use Rattle.page.proofs.Marked as pages
+use Rattle.page.proofs.Marked.{shelf-says}
 use Rattle.sort.specs.Arranged.{ascend, arranged}
 use Rattle.chunk.specs.Cuts.{cutOf, lowestCut}
 use Rattle.chunk.specs.Gather.{gather}
@@ -21,9 +21,6 @@ use Rattle.records.specs.Standings.{standsBy, standsOf}
 use Rattle.records.specs.Written.{pageOf, written}
 use Rattle.records.specs.declared.standing.Standing.{Standing}
 use Rattle.records.specs.declared.standing.Standing.the-variants.{NewestHeader, OlderHeader, Superseded, Cut, Holds}
-
-says : recordAt shelfGeometry shelf ≡ (λ i. recordOf (getD shelfKinds i Blank))
-says = fun-ext pages.shelf-record
 
 -- the pages of the records of object 257, and how each stands
 abbrev told : (ℕ → Record) → List ℕ × List Standing
@@ -49,4 +46,4 @@ unfolding
 computed = refl
 
 pub shelf-standings : told (recordAt shelfGeometry shelf) ≡ expected
-shelf-standings = ap told says ∙ computed
+shelf-standings = ap told shelf-says ∙ computed
