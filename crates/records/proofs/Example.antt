@@ -1,6 +1,6 @@
 -- An object that was a file only at times, computed from the definitions: data before any header, a file, a deletion with data behind it, a directory,
--- and a file again, whose header is the newest though its page is the first. Its history has each refusal that a record can leave. As it stood before
--- that header, data that no header cuts are no file's.
+-- and a file again, whose header is the newest though its page is the first, and cuts just where chunk 2 begins. Its history has each refusal that a
+-- record can leave. As it stood before that header, data that no header cuts are no file's.
 use Prim.Native.Nat.{ℕ}
 use mathlib.Core.Bool.{false}
 use mathlib.Core.List.{List, [], _∷_}
@@ -43,7 +43,7 @@ dataOf sequence chunk count = Data (record { sequence = sequence; object = recor
 -- the pages
 unfoldable pub examplePages : List Record
 examplePages =
-    headerOf 4099 1 1 10 ∷
+    headerOf 4099 1 1 512 ∷
     dataOf 4097 1 3 ∷
     headerOf 4097 1 1 2 ∷
     dataOf 4097 2 1 ∷
@@ -58,20 +58,23 @@ exampleSays p = getD examplePages p Other
 -- its history: NoHeader, two sizes, Deleted twice, NotAFile, and a size
 pub example-history :
     (historyRows exampleSays 512 5 7 ≡ packed 1 7 ∷ packed 2 0 ∷ packed 3 0 ∷ packed 4 8 ∷ packed 5 8 ∷ packed 6 9 ∷ packed 0 0 ∷ [])
-    × (historySizes exampleSays 512 5 7 ≡ 0 ∷ 2 ∷ 513 ∷ 0 ∷ 0 ∷ 0 ∷ 10 ∷ [])
+    × (historySizes exampleSays 512 5 7 ≡ 0 ∷ 2 ∷ 513 ∷ 0 ∷ 0 ∷ 0 ∷ 512 ∷ [])
 unfolding
     examplePages historyRows historySizes written idsOf passed arranged ascend sizedAfter sizedOf sizedBy fileOf fileBy fileAt badObject since sizeOf dataEnd
     newestWhere gather
 example-history = (refl, refl)
 
--- how its records stood before the header on page 0: chunk 1 superseded by page 5, chunk 2 cut by the deletion, and page 5 no file's
+-- how its records stood before the header on page 0: chunk 1 superseded by page 5, chunk 2 cut by the deletion, and page 5 no file's; and how they stand
+-- now: chunk 2 cut by that header, which is newer, and page 5 holds 3 bytes
 abbrev before : ℕ → Record
 before = seenBy (takesAt exampleSays (Before (record { 0 = 0 }))) exampleSays
 
 pub example-standings :
     (standingRows before 512 5 7 ≡ packed 1 3 ∷ packed 2 2 ∷ packed 3 4 ∷ packed 4 2 ∷ packed 5 6 ∷ packed 6 1 ∷ [])
     × (standingDetails before 512 5 7 ≡ packed 5 0 ∷ 0 ∷ packed 4 0 ∷ 0 ∷ 0 ∷ 0 ∷ [])
+    × (standingRows exampleSays 512 5 7 ≡ packed 1 3 ∷ packed 2 2 ∷ packed 3 4 ∷ packed 4 2 ∷ packed 5 5 ∷ packed 6 2 ∷ packed 0 1 ∷ [])
+    × (standingDetails exampleSays 512 5 7 ≡ packed 5 0 ∷ 0 ∷ packed 0 0 ∷ 0 ∷ packed 1 3 ∷ 0 ∷ 0 ∷ [])
 unfolding
     examplePages standingRows standingDetails standsBy written idsOf passed arranged ascend cutter lookedOf lookedBy chunkBy copyBy copyAt fileOf fileBy fileAt
     badObject badChunk since sizeOf dataEnd lowestCut cutOf newestWhere gather
-example-standings = (refl, refl)
+example-standings = (refl, refl, refl, refl)

@@ -64,14 +64,14 @@ kind-fits (Holds c a) = omega arith
 kind-fits NoFile = omega arith
 
 -- they tell it
-words-tell : (p : ℕ) (s : Standing) → Fits s → standingOf (packed p (kindOf s)) (detailOf s) ≡ s
+words-read-back : (p : ℕ) (s : Standing) → Fits s → standingOf (packed p (kindOf s)) (detailOf s) ≡ s
 unfolding standingOf
-words-tell p NewestHeader w = rw (packed-value p 1 (omega arith))
-words-tell p OlderHeader w = rw (packed-value p 2 (omega arith))
-words-tell p (Superseded q) w = rw (packed-value p 3 (omega arith), packed-key (q .0) 0 (omega arith))
-words-tell p (Cut r) w = rw (packed-value p 4 (omega arith), packed-key (r .0) 0 (omega arith))
-words-tell p (Holds c a) w = rw (packed-value p 5 (omega arith), packed-key (c .0) a w, packed-value (c .0) a w)
-words-tell p NoFile w = rw (packed-value p 6 (omega arith))
+words-read-back p NewestHeader w = rw (packed-value p 1 (omega arith))
+words-read-back p OlderHeader w = rw (packed-value p 2 (omega arith))
+words-read-back p (Superseded q) w = rw (packed-value p 3 (omega arith), packed-key (q .0) 0 (omega arith))
+words-read-back p (Cut r) w = rw (packed-value p 4 (omega arith), packed-key (r .0) 0 (omega arith))
+words-read-back p (Holds c a) w = rw (packed-value p 5 (omega arith), packed-key (c .0) a w, packed-value (c .0) a w)
+words-read-back p NoFile w = rw (packed-value p 6 (omega arith))
 
 -- ---- the records of an accepted dump
 
@@ -133,7 +133,7 @@ module _ (g : Geometry) (dump : List ℕ) (t : Takes) (o n : ℕ) (accepted : op
     pub place-tells : standingOf (getD (standingRows says P o n) i 0) (getD (standingDetails says P o n) i 0) ≡ standsOf says P o n page
     place-tells =
         rw (row-at says P o n i inside, detail-at says P o n i inside)
-        (words-tell page (standsOf says P o n page) (stands-fits page (standsOf says P o n page) place-means))
+        (words-read-back page (standsOf says P o n page) (stands-fits page (standsOf says P o n page) place-means))
 
 -- ---- an answer
 
