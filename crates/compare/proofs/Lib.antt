@@ -33,3 +33,4 @@ pub mod Told
 pub mod Answered
 -- computed
 pub mod Examples
+pub mod ShelfAnswers

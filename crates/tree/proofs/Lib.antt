@@ -29,4 +29,5 @@ pub mod Answering
 pub mod Told
 -- computed
 pub mod Shelf
+pub mod ShelfAnswers
 pub mod Example

@@ -15,3 +15,4 @@ pub mod Still
 pub mod Sweeping
 pub mod Filling
 pub mod Shelf
+pub mod ShelfAnswers
