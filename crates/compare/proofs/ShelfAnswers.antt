@@ -1,10 +1,7 @@
 -- The answers for W and for a report, computed from the definitions: the words that are asked for and the bytes that are needed.
-use mathlib.Core.Path.{_≡_, fun-ext, refl}
-use lib.ListN.{getD}
+use mathlib.Core.Path.{_≡_, refl}
 use Rattle.page.specs.Search.{count}
-use Rattle.page.specs.Records.{recordOf, recordAt}
 use Rattle.page.specs.Shelf.{shelfGeometry, shelf, shelfKinds}
-use Rattle.page.specs.declared.kind.Kind.the-variants.{Blank}
 use Rattle.page.specs.declared.refusal.Refusal.the-variants.{ShortBuffer}
 use Rattle.page.proofs.Marked as pages
 use Rattle.text.specs.declared.written.Written.the-variants as written
@@ -12,9 +9,6 @@ use Rattle.compare.specs.Answers.{comparedBy}
 use Rattle.compare.specs.Prepared.{preparedOn}
 use Rattle.compare.specs.declared.answer.Compared.the-variants as compared
 use Rattle.compare.specs.declared.prepare.Prepared.the-variants as prepared
-
-says : recordAt shelfGeometry shelf ≡ (λ i. recordOf (getD shelfKinds i Blank))
-says = fun-ext pages.shelf-record
 
 -- W has 7 records: as many words of order and copies are enough, and twice as many to work in; one too few in each
 pub shelf-room :
@@ -26,7 +20,7 @@ unfolding preparedOn count shelfKinds
 shelf-room =
     let length = pages.marked .shelf-length in
     let opened = pages.marked .shelf-opened in
-    (rw (length, opened, says), rw (length, opened, says), rw (length, opened, says), rw (length, opened, says))
+    (rw (length, opened, pages.shelf-says), rw (length, opened, pages.shelf-says), rw (length, opened, pages.shelf-says), rw (length, opened, pages.shelf-says))
 
 -- a report that fits, and one that does not
 pub report-answers : (comparedBy (written.Bytes 90) ≡ compared.Written 90) × (comparedBy (written.Short 90) ≡ compared.Refused ShortBuffer 90)

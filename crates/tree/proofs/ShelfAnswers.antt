@@ -1,11 +1,8 @@
 -- The answers for W's tree, computed from the definitions, and each reason as a number and in words.
 use mathlib.Core.List.{List, [], _∷_, map}
-use mathlib.Core.Path.{_≡_, refl, fun-ext}
-use lib.ListN.{getD}
+use mathlib.Core.Path.{_≡_, refl}
 use Rattle.page.specs.Search.{count}
-use Rattle.page.specs.Records.{recordOf, recordAt}
 use Rattle.page.specs.Shelf.{shelfGeometry, shelf, shelfKinds}
-use Rattle.page.specs.declared.kind.Kind.the-variants.{Blank}
 use Rattle.page.specs.declared.refusal.Refusal.the-variants.{BadPage, ShortBuffer}
 use Rattle.page.proofs.Marked as pages
 use Rattle.chunk.specs.declared.moment.Moment.the-variants.{Now, Before}
@@ -32,9 +29,6 @@ pub reason-words :
     map wordsOf reasons ≡ bytesOf "too deep" ∷ bytesOf "loop" ∷ bytesOf "missing" ∷ bytesOf "deleted" ∷ bytesOf "non-directory" ∷ []
 reason-words = refl
 
-says : recordAt shelfGeometry shelf ≡ (λ i. recordOf (getD shelfKinds i Blank))
-says = fun-ext pages.shelf-record
-
 -- a page that W lacks; and of the 3 words that its headers need, one too few in each slice
 pub shelf-refusals :
     (treeOn shelfGeometry shelf (Before (record { 0 = 8 })) 0 0 0 ≡ grown.Refused BadPage 0)
@@ -45,7 +39,7 @@ unfolding treeOn count shelfKinds
 shelf-refusals =
     let length = pages.marked .shelf-length in
     let opened = pages.marked .shelf-opened in
-    (rw (length, opened), rw (length, opened, says), rw (length, opened, says), rw (length, opened, says))
+    (rw (length, opened), rw (length, opened, pages.shelf-says), rw (length, opened, pages.shelf-says), rw (length, opened, pages.shelf-says))
 
 -- a text that fits, and one that does not
 pub text-answers : (textedBy (written.Bytes 27) ≡ texted.Written 27) × (textedBy (written.Short 27) ≡ texted.Refused ShortBuffer 27)

@@ -1,7 +1,7 @@
 -- The answers for W's file, computed from the definitions, number by number: what each reason is told by, the span of a row, and each refusal in its turn.
 use Prim.Native.Nat.{ℕ}
 use mathlib.Core.List.{List, [], _∷_}
-use mathlib.Core.Path.{_≡_, refl, ap, _∙_, fun-ext}
+use mathlib.Core.Path.{_≡_, refl, ap, _∙_}
 use lib.ListN.{getD}
 use Rattle.page.specs.Numbers.{badObject, badChunk}
 use Rattle.page.specs.Records.{recordOf, recordAt}
@@ -26,9 +26,6 @@ use Rattle.why.specs.declared.reason.Reason.the-variants.{Held, NoCopy, 
 use Rattle.why.specs.declared.spans.Filed.{Filed}
 use Rattle.why.specs.declared.spans.Filed.the-variants as filed
 use Rattle.why.specs.declared.spans.Spanned.the-variants as spanned
-
-says : recordAt shelfGeometry shelf ≡ (λ i. recordOf (getD shelfKinds i Blank))
-says = fun-ext pages.shelf-record
 
 -- what a reason is told by: its kind, its page and its data byte
 abbrev numbers : Reason → List ℕ
@@ -61,15 +58,15 @@ unfolding filedIn fileOf fileBy fileAt badObject since newestWhere gather shelfK
 computed = refl
 
 pub shelf-refusals : asked (recordAt shelfGeometry shelf) ≡ expected
-shelf-refusals = ap asked says ∙ computed
+shelf-refusals = ap asked pages.shelf-says ∙ computed
 
 -- one word less than its marks are
 pub shelf-short :
     (spansOn shelfGeometry shelf Now 257 12 ≡ spanned.Refused ShortBuffer 13) × (whyOn shelfGeometry shelf Now 257 0 12 ≡ told.Refused ShortBuffer 13)
 unfolding spansOn whyOn filedIn fileOf fileBy fileAt badObject badChunk marksTo cutOf since newestWhere gather shelfKinds
-shelf-short = (rw (pages.marked .shelf-length, pages.marked .shelf-opened, says), rw (pages.marked .shelf-length, pages.marked .shelf-opened, says))
+shelf-short = (rw (pages.marked .shelf-length, pages.marked .shelf-opened, pages.shelf-says), rw (pages.marked .shelf-length, pages.marked .shelf-opened, pages.shelf-says))
 
 -- past the end a reason holds up to the largest position
 pub shelf-until : untilOf (recordAt shelfGeometry shelf) 512 257 8 4 1034 ≡ 0xFFFFFFFFFFFFFFFF
 unfolding untilOf sizeOf dataEnd gather shelfKinds
-shelf-until = rw says
+shelf-until = rw pages.shelf-says
