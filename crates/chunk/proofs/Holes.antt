@@ -1,5 +1,5 @@
--- Demand 2's sentence on holes: inside the size of a live file, where nothing is refused, a hole is answered exactly when no copy exists or a
--- later cut hides the newest one; otherwise the newest copy is answered, with at least one valid byte.
+-- Demand 2 on holes. A chunk that a live file reaches, and of which nothing is refused, is told as a hole if it has no copy, or a later cut hides its
+-- newest one, and in no other case; else that copy is told, with at least one valid byte.
 use Prim.Native.Nat.{ℕ, _-_, _<_}
 use mathlib.Core.Bool.{false}
 use mathlib.Core.Option.{none, some}
