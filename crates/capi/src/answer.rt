@@ -13,7 +13,7 @@ use page::number::PageNumber;
 
 // The size of a file, and the records visited.
 #[repr(C)]
-#[derive(Drop)]
+#[derive(Clone, Copy)]
 pub struct SizeAnswer {
     pub refusal: u32,
     pub visits: u32,
@@ -23,7 +23,7 @@ pub struct SizeAnswer {
 // A chunk of a file: 1 in `copy` and the page that holds it, or a hole; the valid and the shown length. Beside ShortBuffer `need` is the
 // length needed, and 0 else.
 #[repr(C)]
-#[derive(Drop)]
+#[derive(Clone, Copy)]
 pub struct ChunkAnswer {
     pub refusal: u32,
     pub visits: u32,
@@ -36,7 +36,7 @@ pub struct ChunkAnswer {
 
 // A part of the dump: where it begins and how long it is. An empty one is at 0.
 #[repr(C)]
-#[derive(Drop)]
+#[derive(Clone, Copy)]
 pub struct PlaceAnswer {
     pub offset: usize,
     pub length: usize,
@@ -44,7 +44,7 @@ pub struct PlaceAnswer {
 
 // How many ids a listing wrote. Beside ShortBuffer `need` is how many words it needs, and 0 else.
 #[repr(C)]
-#[derive(Drop)]
+#[derive(Clone, Copy)]
 pub struct ListAnswer {
     pub refusal: u32,
     pub need: u32,
@@ -53,7 +53,7 @@ pub struct ListAnswer {
 
 // The size of a file and how many rows its table has. Beside ShortBuffer `need` is how many words it needs, and 0 else.
 #[repr(C)]
-#[derive(Drop)]
+#[derive(Clone, Copy)]
 pub struct TableAnswer {
     pub refusal: u32,
     pub need: u32,
@@ -64,7 +64,7 @@ pub struct TableAnswer {
 // The size of a file and how many rows its copies are; 1 in `damaged` if a damaged link keeps one of its chunks from being found. Beside
 // ShortBuffer `need` is how many words it needs, and 0 else.
 #[repr(C)]
-#[derive(Drop)]
+#[derive(Clone, Copy)]
 pub struct CopiesAnswer {
     pub refusal: u32,
     pub count: u32,
@@ -75,7 +75,7 @@ pub struct CopiesAnswer {
 
 // The copy of a chunk: the page that holds it, and how many of its bytes are valid.
 #[repr(C)]
-#[derive(Drop)]
+#[derive(Clone, Copy)]
 pub struct CopyAnswer {
     pub chunk: u32,
     pub page: u32,
@@ -84,7 +84,7 @@ pub struct CopyAnswer {
 
 // How a run of additions ended: with 0 all were done, else the addition of this page was refused, and those before it stand.
 #[repr(C)]
-#[derive(Drop)]
+#[derive(Clone, Copy)]
 pub struct RunAnswer {
     pub refusal: u32,
     pub page: u32,
@@ -92,7 +92,7 @@ pub struct RunAnswer {
 
 // A number of objects.
 #[repr(C)]
-#[derive(Drop)]
+#[derive(Clone, Copy)]
 pub struct TallyAnswer {
     pub refusal: u32,
     pub count: u32,

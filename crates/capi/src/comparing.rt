@@ -17,7 +17,7 @@ use page::number::ObjectId;
 
 // How many records the dump has. Beside ShortBuffer `need` is that number, and 0 else.
 #[repr(C)]
-#[derive(Drop)]
+#[derive(Clone, Copy)]
 pub struct PreparedAnswer {
     pub refusal: u32,
     pub need: u32,
@@ -26,7 +26,7 @@ pub struct PreparedAnswer {
 
 // The object that comes next, 0 where there are no words, and how many words at the front of each list are of it.
 #[repr(C)]
-#[derive(Drop)]
+#[derive(Clone, Copy)]
 pub struct NextAnswer {
     pub object: u32,
     pub first: u64,

@@ -8,7 +8,7 @@ use crate::layout::{Geometry, geometry_at};
 use page::count::{Counted, count_kinds};
 
 #[repr(C)]
-#[derive(Drop)]
+#[derive(Clone, Copy)]
 pub struct CountsAnswer {
     pub refusal: u32,
     pub blank: u32,

@@ -11,7 +11,7 @@ use page::number::PageNumber;
 
 // The fields in the table's order.
 #[repr(C)]
-#[derive(Drop)]
+#[derive(Clone, Copy)]
 pub struct HeaderAnswer {
     pub refusal: u32,
     pub page_type: u32,

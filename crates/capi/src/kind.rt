@@ -10,7 +10,7 @@ use page::number::PageNumber;
 
 // What a page is: 1 blank, 2 foreign, 3 damaged, 4 header, 5 data; 0 beside a refusal. Fields that its kind lacks are 0.
 #[repr(C)]
-#[derive(Drop)]
+#[derive(Clone, Copy)]
 pub struct KindAnswer {
     pub refusal: u32,
     pub kind: u32,

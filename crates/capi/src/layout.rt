@@ -12,7 +12,7 @@ use page::layout::{Layout, Named};
 
 // How a dump is read: the number of its layout in the table, and how many pages a block has.
 #[repr(C)]
-#[derive(Drop)]
+#[derive(Clone, Copy)]
 pub struct Geometry {
     pub layout: u32,
     pub block: u32,
@@ -20,7 +20,7 @@ pub struct Geometry {
 
 // A layout with its number in the table; beside a refusal that is 13, which the table lacks.
 #[repr(C)]
-#[derive(Drop)]
+#[derive(Clone, Copy)]
 pub struct LayoutAnswer {
     pub refusal: u32,
     pub number: u32,
@@ -30,7 +30,7 @@ pub struct LayoutAnswer {
 }
 
 #[repr(C)]
-#[derive(Drop)]
+#[derive(Clone, Copy)]
 pub struct PagesAnswer {
     pub refusal: u32,
     pub pages: u32,

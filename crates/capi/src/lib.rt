@@ -1,5 +1,7 @@
 // The library's calls for C and Rust: numbers, slices and plain answers with the refusal's number first, 0 where nothing is refused.
 // A layout is given by its number in the table, 0 to 12; any other number is BadLayout. No call has a premise.
+#![tactic(auto)]
+
 pub mod alone;
 pub mod answer;
 pub mod comparing;

@@ -15,7 +15,7 @@ use why::spans::{Spanned, spans};
 // Why a byte is what it is: the number of the reason's kind, the page that it goes by, the data byte of a held one, the byte that is shown, and up to
 // where the reason and its page hold. Beside ShortBuffer `need` is how many words it needs, and 0 else.
 #[repr(C)]
-#[derive(Drop)]
+#[derive(Clone, Copy)]
 pub struct WhyAnswer {
     pub refusal: u32,
     pub need: u32,
@@ -28,7 +28,7 @@ pub struct WhyAnswer {
 
 // The size of a file and how many rows its spans are. Beside ShortBuffer `need` is how many words it needs, and 0 else.
 #[repr(C)]
-#[derive(Drop)]
+#[derive(Clone, Copy)]
 pub struct SpansAnswer {
     pub refusal: u32,
     pub need: u32,
@@ -38,7 +38,7 @@ pub struct SpansAnswer {
 
 // A span of a file: where it begins, the number of the reason's kind, the page that it goes by, and the data byte of a held one.
 #[repr(C)]
-#[derive(Drop)]
+#[derive(Clone, Copy)]
 pub struct SpanAnswer {
     pub from: u64,
     pub reason: u32,

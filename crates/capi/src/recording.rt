@@ -18,7 +18,7 @@ use sort::rows::{key_of, value_of};
 
 // How many records an object has. Beside ShortBuffer `need` is that number, which is how many words each slice needs, and 0 else.
 #[repr(C)]
-#[derive(Drop)]
+#[derive(Clone, Copy)]
 pub struct RecordsAnswer {
     pub refusal: u32,
     pub need: u32,
@@ -27,7 +27,7 @@ pub struct RecordsAnswer {
 
 // How a record stands: its page, the number of the kind, the page that supersedes or cuts it, and from where up to where it holds bytes of the file.
 #[repr(C)]
-#[derive(Drop)]
+#[derive(Clone, Copy)]
 pub struct StandingAnswer {
     pub from: u64,
     pub until: u64,
@@ -38,7 +38,7 @@ pub struct StandingAnswer {
 
 // What the file was after a record: the record's page, the size, or the number of the refusal.
 #[repr(C)]
-#[derive(Drop)]
+#[derive(Clone, Copy)]
 pub struct HistoryAnswer {
     pub size: u64,
     pub page: u32,

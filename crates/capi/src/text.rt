@@ -12,7 +12,7 @@ use page::number::PageNumber;
 
 // A part of the dump: where it begins and how long it is. Beside a refusal it is empty, at 0.
 #[repr(C)]
-#[derive(Drop)]
+#[derive(Clone, Copy)]
 pub struct PartAnswer {
     pub refusal: u32,
     pub offset: usize,

@@ -14,7 +14,7 @@ use tree::whole::{Grown, tree};
 
 // How many rows the first list has, and the second. Beside ShortBuffer `need` is how many words each slice needs, and 0 else.
 #[repr(C)]
-#[derive(Drop)]
+#[derive(Clone, Copy)]
 pub struct TreeAnswer {
     pub refusal: u32,
     pub need: u32,
@@ -24,7 +24,7 @@ pub struct TreeAnswer {
 
 // How many bytes were written. Beside ShortBuffer `need` is how many it needs, and 0 else.
 #[repr(C)]
-#[derive(Drop)]
+#[derive(Clone, Copy)]
 pub struct TextAnswer {
     pub refusal: u32,
     pub need: u64,
@@ -33,7 +33,7 @@ pub struct TextAnswer {
 
 // A row of the tree: its key, and the page of its object's newest header.
 #[repr(C)]
-#[derive(Drop)]
+#[derive(Clone, Copy)]
 pub struct RowAnswer {
     pub key: u32,
     pub page: u32,

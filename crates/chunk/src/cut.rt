@@ -7,7 +7,7 @@ use crate::record::{FILE, gone_under, smaller};
 use page::record::Header;
 
 // A cut at a place in the file, or none.
-#[derive(Drop)]
+#[derive(Clone, Copy)]
 pub enum Cut {
     At(u64),
     Nowhere,

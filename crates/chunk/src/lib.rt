@@ -1,4 +1,6 @@
 // What a file held last, from the dump alone: newest records, sizes, cuts, chunks and the live list.
+#![tactic(auto)]
+
 pub mod answer;
 pub mod cut;
 pub mod list;

@@ -10,7 +10,7 @@ use page::number::PageNumber;
 use page::record::record_at;
 
 // Now, or before the record on a page.
-#[derive(Drop)]
+#[derive(Clone, Copy)]
 pub enum Moment {
     Now,
     Before(PageNumber),

@@ -8,7 +8,7 @@ use page::number::{ChunkNumber, ObjectId, PageNumber};
 use page::record::Record;
 
 // Which records of an object are wanted: all, its headers, or the data pages of a chunk.
-#[derive(Drop)]
+#[derive(Clone, Copy)]
 pub enum Want {
     Record,
     Header,

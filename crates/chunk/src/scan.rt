@@ -17,7 +17,7 @@ use page::record::{Data, Header, Record};
 use page::tags::names_object;
 
 // The newest page of a scan with its age, if there is one.
-#[derive(Drop)]
+#[derive(Clone, Copy)]
 pub enum Newest {
     At(PageNumber, u64),
     Nothing,

@@ -9,7 +9,7 @@ use page::number::PageNumber;
 use page::record::{Record, record_at};
 
 // Which pages are taken: every one, or the records below an age.
-#[derive(Drop)]
+#[derive(Clone, Copy)]
 pub enum Takes {
     Every,
     Older(u64),

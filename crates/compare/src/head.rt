@@ -19,14 +19,14 @@ use page::record::{Record, record_at};
 use sort::rows::value_of;
 
 // The page of the newest header and the largest end of the data above it, or that there is none.
-#[derive(Drop)]
+#[derive(Clone, Copy)]
 pub enum Head {
     At(PageNumber, u64),
     Nothing,
 }
 
 // The size of a live file, or that the object is none.
-#[derive(Drop)]
+#[derive(Clone, Copy)]
 pub enum Size {
     Bytes(u64),
     Nothing,

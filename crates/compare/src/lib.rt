@@ -1,4 +1,6 @@
 // Two dumps compared: what differs, object by object.
+#![tactic(auto)]
+
 pub mod answer;
 mod bytes;
 mod fields;

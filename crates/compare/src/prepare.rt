@@ -13,7 +13,7 @@ use page::refusal::Refusal;
 use sort::room::clear;
 
 // How many records a dump has; or a refusal, with that number beside ShortBuffer.
-#[derive(Drop)]
+#[derive(Clone, Copy)]
 pub enum Prepared {
     Records(u32),
     Refused(Refusal, u32),

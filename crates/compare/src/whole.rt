@@ -32,7 +32,7 @@ const PLAIN_BYTES: u64 = 1024;
 const LINE_BYTES: u64 = 29;
 
 // The object that comes next, and how many words at the front of each list are of it.
-#[derive(Drop)]
+#[derive(Clone, Copy)]
 pub struct Turn {
     pub object: u32,
     pub first: usize,

@@ -3,7 +3,7 @@ ghost use Rattle.std.specs.Prelude.{◌≡◌};
 
 use page::geometry::Geometry;
 
-#[derive(Drop)]
+#[derive(Clone, Copy)]
 pub struct OpenDump<'a> {
     pub bytes: &'a [u8],
     pub geometry: Geometry,

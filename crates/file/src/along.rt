@@ -25,7 +25,7 @@ use sort::keys::sort;
 use sort::rows::value_of;
 
 // How many rows the copies are; or a refusal, with the words that ShortBuffer needs.
-#[derive(Drop)]
+#[derive(Clone, Copy)]
 pub enum Along {
     Rows(u32),
     Refused(Refusal, u32),

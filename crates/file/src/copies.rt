@@ -38,14 +38,14 @@ use sort::rows::{key_of, pack, value_of};
 
 // The size of a file, how many rows its copies are, and whether the lookup of one of its chunks meets a damaged link; or a refusal, with the
 // words that ShortBuffer needs.
-#[derive(Drop)]
+#[derive(Clone, Copy)]
 pub enum Copied {
     Rows(u64, u32, bool),
     Refused(Refusal, u32),
 }
 
 // How many copies a walk down a chain met, and whether the chain ends at a damaged link.
-#[derive(Drop)]
+#[derive(Clone, Copy)]
 struct Walked {
     copies: u32,
     broken: bool,

@@ -5,7 +5,7 @@ ghost use Rattle.file.specs.Copies.{Fits, packed_copy, copy_of};
 use page::number::PAGE_VALUES;
 
 // The chunk, the page that holds its copy, and how many bytes of that are valid.
-#[derive(Drop)]
+#[derive(Clone, Copy)]
 pub struct Copy {
     pub chunk: u32,
     pub page: u32,

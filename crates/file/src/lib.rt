@@ -1,4 +1,6 @@
 // Whole files: where the copy of every chunk is, by one walk down the object's chain.
+#![tactic(auto)]
+
 pub mod along;
 pub mod copies;
 pub mod copy;

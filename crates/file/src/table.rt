@@ -22,7 +22,7 @@ use page::record::Data;
 use page::refusal::Refusal;
 
 // The size of a file and how many rows its table has; or a refusal, with the words that ShortBuffer needs.
-#[derive(Drop)]
+#[derive(Clone, Copy)]
 pub enum Tabled {
     Rows(u64, u32),
     Refused(Refusal, u32),

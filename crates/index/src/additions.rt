@@ -18,7 +18,7 @@ use page::record::{Record, record_at};
 use page::refusal::Refusal;
 
 // What a start or an addition answers.
-#[derive(Drop)]
+#[derive(Clone, Copy)]
 pub enum Added {
     Done,
     Refused(Refusal),

@@ -14,14 +14,14 @@ use page::record::{Data, Record, record_at};
 pub const TOP: u64 = 18_446_744_073_709_551_615;
 
 // What a record is on its chain. What a header says is not read here: it stands elsewhere on the page.
-#[derive(Drop)]
+#[derive(Clone, Copy)]
 pub enum Role {
     Header,
     Data(Data),
 }
 
 // A step down a chain by a link: it leads nowhere, where it may not, or to a record, with its age and what it is.
-#[derive(Drop)]
+#[derive(Clone, Copy)]
 pub enum Step {
     End,
     Damaged,

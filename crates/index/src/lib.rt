@@ -1,4 +1,6 @@
 // The index: lent words that hold, for each object, its added records from the newest to the oldest.
+#![tactic(auto)]
+
 pub mod additions;
 pub mod cells;
 pub mod chains;

@@ -21,14 +21,14 @@ use page::refusal::Refusal;
 use sort::words::sort;
 
 // Which objects are asked for: the live ones, or any that has a record.
-#[derive(Drop)]
+#[derive(Clone, Copy)]
 pub enum Ask {
     Live,
     Any,
 }
 
 // How an object stands: it is asked for, a damaged link was met, or neither.
-#[derive(Drop)]
+#[derive(Clone, Copy)]
 pub enum Standing {
     Asked,
     Damaged,

@@ -12,7 +12,7 @@ use page::number::{ObjectId, PageNumber};
 use page::refusal::Refusal;
 
 // Where in the cells the link to a page goes, or why nowhere.
-#[derive(Drop)]
+#[derive(Clone, Copy)]
 pub enum Place {
     At(usize),
     Refused(Refusal),

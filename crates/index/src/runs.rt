@@ -45,7 +45,7 @@ fn is_taken(dump: &[u8], g: Geometry, takes: Takes, p: PageNumber) -> bool
 }
 
 // How a run of additions ended: all were done, or one was refused, and those before it stand.
-#[derive(Drop)]
+#[derive(Clone, Copy)]
 pub enum Run {
     Done,
     Stopped(PageNumber, Refusal),

@@ -13,7 +13,7 @@ const BELOW_PRODUCT: u64 = 0x4000;
 const BELOW_SQUARE: u64 = 0x1_0000;
 
 // A slot that was looked for.
-#[derive(Drop)]
+#[derive(Clone, Copy)]
 pub enum Found {
     Slot(usize),
     Nothing,

@@ -21,7 +21,7 @@ use page::record::{Data, Record, record_at};
 use page::refusal::Refusal;
 
 // The first copy of a chunk that a walk met.
-#[derive(Drop)]
+#[derive(Clone, Copy)]
 pub enum Met {
     Copy(PageNumber),
     Nothing,
@@ -29,7 +29,7 @@ pub enum Met {
 
 // What a walk down to an object's newest header reached: the header, the largest end of the data met, the first copy met of a chunk, and the
 // records visited; or why no header.
-#[derive(Drop)]
+#[derive(Clone, Copy)]
 pub enum Reached {
     Header(PageNumber, u64, Met, u32),
     Refused(Refusal, u32),

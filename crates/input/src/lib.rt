@@ -1,8 +1,10 @@
 // Input that is read whole or not at all: a read that fails is no end of input. What is read no contract can say.
+#![tactic(auto)]
+
 ghost use Rattle.input.specs.Within.{Within};
 
 // The input is so many bytes, or more where they fill all that was lent; or a read failed.
-#[derive(Drop)]
+#[derive(Clone, Copy)]
 pub enum Input {
     Bytes(usize),
     Failed,

@@ -7,7 +7,7 @@ use crate::kind::{Kind, kind_at};
 use crate::number::PageNumber;
 use crate::refusal::Refusal;
 
-#[derive(Drop)]
+#[derive(Clone, Copy)]
 pub struct Counts {
     pub blank: u32,
     pub foreign: u32,
@@ -17,7 +17,7 @@ pub struct Counts {
 }
 
 // The counts of a dump, or why there are none.
-#[derive(Drop)]
+#[derive(Clone, Copy)]
 pub enum Counted {
     Counts(Counts),
     Refused(Refusal),

@@ -6,7 +6,7 @@ ghost use Rattle.page.specs.Headers.{fields_of, text_place, text_length};
 use crate::word::{half_at, long_at, word_at};
 
 // The fields that are numbers, in the table's order.
-#[derive(Drop)]
+#[derive(Clone, Copy)]
 pub struct Fields {
     pub page_type: u32,
     pub parent: u32,
@@ -32,7 +32,7 @@ pub struct Fields {
 }
 
 // The fields that are bytes.
-#[derive(Drop)]
+#[derive(Clone, Copy)]
 pub enum Text {
     Name,
     Alias,

@@ -17,7 +17,7 @@ use crate::tags::{Claim, claim_at, tags_at};
 const GLANCES: u32 = 8;
 
 // What a block adds to its candidate: how many of its pages bear its sequence, and how many are not blank.
-#[derive(Drop)]
+#[derive(Clone, Copy)]
 pub(crate) struct Gain {
     pub score: u32,
     pub marked: u32,

@@ -7,7 +7,7 @@ use crate::layout::Layout;
 use crate::number::PageNumber;
 use crate::refusal::Refusal;
 
-#[derive(Drop)]
+#[derive(Clone, Copy)]
 pub struct Geometry {
     pub layout: Layout,
     // K, the pages of a block
@@ -15,14 +15,14 @@ pub struct Geometry {
 }
 
 // How many pages a dump has, or why it is none.
-#[derive(Drop)]
+#[derive(Clone, Copy)]
 pub enum Opened {
     Pages(u32),
     Refused(Refusal),
 }
 
 // That a page is in a dump, or why not.
-#[derive(Drop)]
+#[derive(Clone, Copy)]
 pub enum Placed {
     Here,
     Refused(Refusal),

@@ -14,14 +14,14 @@ use crate::refusal::Refusal;
 use crate::tags::page_at;
 
 // That a page is a header, or why its fields are refused.
-#[derive(Drop)]
+#[derive(Clone, Copy)]
 enum Asked {
     Header,
     Refused(Refusal),
 }
 
 // The numbers of a header, or why there are none.
-#[derive(Drop)]
+#[derive(Clone, Copy)]
 pub enum Headed {
     Fields(Fields),
     Refused(Refusal),

@@ -12,7 +12,7 @@ use crate::refusal::Refusal;
 use crate::tags::{Claim, Tags, page_at};
 use crate::word::word_at;
 
-#[derive(Drop)]
+#[derive(Clone, Copy)]
 pub enum Kind {
     Blank,
     Foreign,
@@ -98,7 +98,7 @@ pub fn kind_at(dump: &[u8], g: Geometry, n: PageNumber) -> Kind
 }
 
 // The kind of a page, or why there is none.
-#[derive(Drop)]
+#[derive(Clone, Copy)]
 pub enum Told {
     Kind(Kind),
     Refused(Refusal),

@@ -5,7 +5,7 @@ ghost use Rattle.page.specs.Layouts.{layouts, layout_at, by_number, by_sizes, ha
 use crate::fields::Fields;
 use crate::refusal::Refusal;
 
-#[derive(Drop)]
+#[derive(Clone, Copy)]
 pub struct Layout {
     pub data: u32,
     pub spare: u32,
@@ -13,7 +13,7 @@ pub struct Layout {
 }
 
 // A layout that was asked for, or why there is none.
-#[derive(Drop)]
+#[derive(Clone, Copy)]
 pub enum Named {
     Layout(Layout),
     Refused(Refusal),

@@ -1,4 +1,6 @@
 // The pages of a dump: layouts, tags, page kinds, header fields, counts and the finding of the layout.
+#![tactic(auto)]
+
 pub mod count;
 pub mod fields;
 pub mod find;

@@ -3,15 +3,15 @@ ghost use Rattle.std.specs.Prelude.{◌≡◌};
 ghost use Rattle.page.specs.Numbers.{bad_object, bad_chunk, chunks_before, pages_before};
 
 // The number of an object.
-#[derive(Drop)]
+#[derive(Clone, Copy)]
 pub struct ObjectId(pub u32);
 
 // The number of a chunk in its object, from 1.
-#[derive(Drop)]
+#[derive(Clone, Copy)]
 pub struct ChunkNumber(pub u32);
 
 // The number of a page in its dump, from 0.
-#[derive(Drop)]
+#[derive(Clone, Copy)]
 pub struct PageNumber(pub u32);
 
 // How many page numbers there are at most.

@@ -8,7 +8,7 @@ use crate::kind::{Kind, kind_at};
 use crate::number::{ChunkNumber, ObjectId, PageNumber};
 
 // What a header says.
-#[derive(Drop)]
+#[derive(Clone, Copy)]
 pub struct Header {
     pub sequence: u32,
     pub object: ObjectId,
@@ -19,7 +19,7 @@ pub struct Header {
 }
 
 // What a data page says.
-#[derive(Drop)]
+#[derive(Clone, Copy)]
 pub struct Data {
     pub sequence: u32,
     pub object: ObjectId,
@@ -28,7 +28,7 @@ pub struct Data {
 }
 
 // The record that a page is, if it is one.
-#[derive(Drop)]
+#[derive(Clone, Copy)]
 pub enum Record {
     Other,
     Header(Header),

@@ -12,7 +12,7 @@ use crate::record::Data;
 use crate::word::word_at;
 
 // The four words of a page's tags.
-#[derive(Drop)]
+#[derive(Clone, Copy)]
 pub struct Tags {
     pub sequence: u32,
     pub object: u32,
@@ -21,7 +21,7 @@ pub struct Tags {
 }
 
 // What a page's tags alone say of it. A header may still be damaged by its type, which stands in the page.
-#[derive(Drop)]
+#[derive(Clone, Copy)]
 pub enum Claim {
     Blank,
     Foreign,

@@ -25,7 +25,7 @@ use page::refusal::Refusal;
 use sort::rows::{pack, value_of};
 
 // The size of a file, or why the object was none.
-#[derive(Drop)]
+#[derive(Clone, Copy)]
 pub enum After {
     Size(u64),
     Refused(Refusal),

@@ -9,7 +9,7 @@ use sort::rows::{key_of, pack, value_of};
 
 // The newest header, or an older one; data that is superseded by the newest copy of its chunk, which is on a page, or cut by the header on a page; data
 // that holds bytes of the file, so many from the begin of its chunk on; or other data of an object that is no live file.
-#[derive(Drop)]
+#[derive(Clone, Copy)]
 pub enum Standing {
     NewestHeader,
     OlderHeader,

@@ -17,7 +17,7 @@ use page::tags::names_object;
 use sort::keys::sort;
 
 // How many records an object has; or a refusal, with that number beside ShortBuffer.
-#[derive(Drop)]
+#[derive(Clone, Copy)]
 pub enum Recorded {
     Records(u32),
     Refused(Refusal, u32),

@@ -1,6 +1,8 @@
 // The replay: reads test vectors of at most 65,536 bytes together from standard input, and prints what the proved calls answer on each. A vector
 // is a byte for the pages of a block, three for a length, little-endian, and a dump of that length; a last one that is not whole is passed over.
 // Where a read fails nothing is printed but a sentence on standard error.
+#![tactic(auto)]
+
 ghost use Rattle.std.specs.Prelude.{◌≤◌, ◌<◌, ◌^◌, length};
 
 use chunk::answer::{Listed, Looked, Sized};

@@ -1,6 +1,8 @@
 // The report: reads a dump of at most 65,536 bytes from standard input, in blocks of 4 pages, finds its layout and prints ten lines about it,
 // or the one line of a refusal. A dump of which a read failed is not reported on: standard output stays empty, and a sentence on standard error
 // says why. The status is 0 all the same, since a program has none of its own to give.
+#![tactic(auto)]
+
 ghost use Rattle.std.specs.Prelude.{◌≡◌, ◌≤◌, length};
 ghost use Rattle.io.specs.Counts.{IsPrefixLen};
 ghost use Rattle.text.specs.Whole.{written_by, bytes_by};

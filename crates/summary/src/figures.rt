@@ -10,7 +10,7 @@ use page::geometry::{Geometry, Opened};
 use page::layout::Named;
 use page::refusal::Refusal;
 
-#[derive(Drop)]
+#[derive(Clone, Copy)]
 pub struct Figures {
     // the layout and the pages of a block
     pub geometry: Geometry,
@@ -22,7 +22,7 @@ pub struct Figures {
     pub live: u32,
 }
 
-#[derive(Drop)]
+#[derive(Clone, Copy)]
 pub enum Figured {
     Figures(Figures),
     Refused(Refusal),

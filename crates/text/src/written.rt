@@ -1,6 +1,6 @@
 // What became of a text that was to be written whole.
 
-#[derive(Drop)]
+#[derive(Clone, Copy)]
 pub enum Written {
     // it is written; so many bytes
     Bytes(usize),

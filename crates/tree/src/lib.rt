@@ -1,4 +1,6 @@
 // The tree of a dump's live objects as the operator saw it: paths from the root, and why an object has none.
+#![tactic(auto)]
+
 mod children;
 mod climb;
 mod heads;

@@ -2,7 +2,7 @@
 ghost use Rattle.std.specs.Prelude.{◌≡◌};
 ghost use Rattle.tree.specs.Rows.{number_of, reason_at};
 
-#[derive(Drop)]
+#[derive(Clone, Copy)]
 pub enum Reason {
     // at the root, but from too far below
     TooDeep,

@@ -6,7 +6,7 @@ use sort::rows::{key_of, pack};
 use sort::search::first_from;
 
 // The place of a row, or that there is none.
-#[derive(Drop)]
+#[derive(Clone, Copy)]
 pub enum Found {
     At(usize),
     Nowhere,

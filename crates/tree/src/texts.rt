@@ -24,7 +24,7 @@ use text::put::{put_byte, put_line, put_text};
 use text::written::Written;
 
 // How many bytes were written; or a refusal, with the bytes that ShortBuffer needs.
-#[derive(Drop)]
+#[derive(Clone, Copy)]
 pub enum Texted {
     Written(u64),
     Refused(Refusal, u64),

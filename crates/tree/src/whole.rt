@@ -25,7 +25,7 @@ use page::refusal::Refusal;
 use sort::room::clear;
 
 // How many rows the first list has, and the second; or a refusal, with the words that each slice needs beside ShortBuffer.
-#[derive(Drop)]
+#[derive(Clone, Copy)]
 pub enum Grown {
     Rows(u32, u32),
     Refused(Refusal, u32),

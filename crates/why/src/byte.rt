@@ -19,7 +19,7 @@ use page::refusal::Refusal;
 use sort::room::clear;
 
 // The reason of a byte and the position up to which it and its page hold; or a refusal, with the words that ShortBuffer needs.
-#[derive(Drop)]
+#[derive(Clone, Copy)]
 pub enum Told {
     Because(Reason, u64),
     Refused(Refusal, u32),
@@ -29,14 +29,14 @@ pub enum Told {
 const LAST_POSITION: u64 = 0xFFFF_FFFF_FFFF_FFFF;
 
 // A span of a file: where it begins, and the reason of its first byte.
-#[derive(Drop)]
+#[derive(Clone, Copy)]
 pub struct Span {
     pub from: u64,
     pub reason: Reason,
 }
 
 // The code of the span that a position lies in, and where that ends.
-#[derive(Drop)]
+#[derive(Clone, Copy)]
 pub(crate) struct Found {
     pub code: u64,
     pub until: u64,

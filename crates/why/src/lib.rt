@@ -1,4 +1,6 @@
 // Why each byte of a file is what it is, from the dump alone.
+#![tactic(auto)]
+
 pub mod byte;
 mod marks;
 pub mod reason;

@@ -57,7 +57,7 @@ pub(crate) fn has_page(page: u32) -> bool
 }
 
 // The marks that a page makes.
-#[derive(Drop)]
+#[derive(Clone, Copy)]
 pub(crate) enum Marks {
     Nothing,
     One(u64),
@@ -163,7 +163,7 @@ fn marks_of(data: u32, o: ObjectId, h: PageNumber, p: PageNumber, r: Record) -> 
 }
 
 // How many marks a file has, and its size.
-#[derive(Drop)]
+#[derive(Clone, Copy)]
 pub(crate) struct Measured {
     pub marks: u32,
     pub size: u64,

@@ -6,7 +6,7 @@ use page::number::PageNumber;
 
 // Held by a page at a data byte; zero because its chunk has no copy, because the header on a page cut it, or because the byte count of the copy on a
 // page ends before it; or past the end, which a page sets.
-#[derive(Drop)]
+#[derive(Clone, Copy)]
 pub enum Reason {
     Held(PageNumber, u32),
     NoCopy,

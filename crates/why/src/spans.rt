@@ -24,14 +24,14 @@ use page::refusal::Refusal;
 use sort::keys::sort;
 
 // The size of a file and how many rows its spans are; or a refusal, with the words that ShortBuffer needs.
-#[derive(Drop)]
+#[derive(Clone, Copy)]
 pub enum Spanned {
     Rows(u64, u32),
     Refused(Refusal, u32),
 }
 
 // The newest header of a live file; or why the object is none.
-#[derive(Drop)]
+#[derive(Clone, Copy)]
 pub(crate) enum Filed {
     Header(PageNumber),
     Refused(Refusal),

@@ -21,7 +21,7 @@ use page::record::Record;
 use sort::room::clear;
 
 // What has been taken in: the newest header that cuts, and the newest copy of the last chunk.
-#[derive(Drop)]
+#[derive(Clone, Copy)]
 pub(crate) struct Seen {
     pub cut: Newest,
     pub chunk: u32,
