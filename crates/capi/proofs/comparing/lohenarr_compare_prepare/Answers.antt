@@ -1,0 +1,9 @@
+-- The answer and the words are those of the call.
+use borrow.Author.Rules.{rules}
+use Rattle.capi.proofs.comparing.lohenarr_compare_prepare.Goals as goal
+
+pub returns : goal.returns
+returns c =
+    let l = c.geometry_at.ensures in
+    let e = c.prepare_dump.ensures in
+    record { value = rw (c.prepared_answer.ensures, e.0, l); order_after = rw (← l) e.1.0; copies_after = rw (← l) e.1.1.0; work_after = rw (← l) e.1.1.1 }

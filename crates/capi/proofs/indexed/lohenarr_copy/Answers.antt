@@ -1,0 +1,6 @@
+-- The answer is the copy.
+use borrow.Author.Rules.{rules}
+use Rattle.capi.proofs.indexed.lohenarr_copy.Goals as goal
+
+pub returns : goal.returns
+returns c = rw (c.copy_answer.ensures, c.of.ensures)

@@ -1,0 +1,6 @@
+-- The answer is that of the search, as plain numbers.
+use borrow.Author.Rules.{rules}
+use Rattle.capi.proofs.layout.lohenarr_find.Goals as goal
+
+pub returns : goal.returns
+returns c = rw (c.layout_answer.ensures, c.find.ensures)

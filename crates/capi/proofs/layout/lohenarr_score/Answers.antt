@@ -1,0 +1,6 @@
+-- The call, on the geometry of the numbers.
+use borrow.Author.Rules.{rules}
+use Rattle.capi.proofs.layout.lohenarr_score.Goals as goal
+
+pub returns : goal.returns
+returns c = rw (← c.geometry_at.ensures) c.score.ensures

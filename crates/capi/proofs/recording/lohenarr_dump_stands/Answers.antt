@@ -1,0 +1,9 @@
+-- The answer and the words are those of the call.
+use borrow.Author.Rules.{rules}
+use Rattle.capi.proofs.recording.lohenarr_dump_stands.Goals as goal
+
+pub returns : goal.returns
+returns c =
+    let l = c.geometry_at.ensures in
+    let k = c.moment_at.ensures in
+    let e = c.stands.ensures in record { value = rw (c.records_answer.ensures, e.0, l, k); rows_after = rw (← l, ← k) e.1.0; details_after = rw (← l, ← k) e.1.1.0; work_after = rw (← l, ← k) e.1.1.1 }

@@ -1,0 +1,47 @@
+-- Each arm of the match is a case of the definition; a page whose fields were given lies in the dump, so that its place fits.
+use Prim.Native.Nat.{◌+◌, ◌*◌, ◌≤◌}
+use mathlib.Core.Path.{sym, ◌∙◌}
+use lib.ListN.{length}
+use native.Mathlib.Omega.{arith}
+use borrow.Author.Rules.{rules}
+use Rattle.page.proofs.Lengths.{page_within}
+use Rattle.page.proofs.Sound.{text_fits}
+use Rattle.page.proofs.Texts.{headed_in}
+use Rattle.capi.specs.Headers.{text_answer}
+use Rattle.capi.proofs.text.text_answer.Goals as goal
+
+-- the page ends within the dump
+page-place :
+    (c : goal.After-page_len) →
+    let a = c.args in
+    a.page * c.page_len.result + c.page_len.result ≤ length a.dump.now
+page-place c =
+    let a = c.args in
+    rw c.page_len.ensures.value
+    (page_within c.geometry_at-g.result (length a.dump.now) a.page
+    (headed_in c.geometry_at-g.result a.dump.now a.page _ (sym c.header-h.ensures ∙ c.in-Fields.is))).ends
+
+pub overflow_mul-result : goal.overflow_mul-result
+overflow_mul-result c = omega (arith, page-place c)
+
+pub overflow_add-result : goal.overflow_add-result
+overflow_add-result c =
+    let a = c.args in
+    omega (arith, page-place c.before, c.place.ensures, text_fits a.f)
+
+pub returns-in-Refused : goal.returns-in-Refused
+unfolding text_answer
+returns-in-Refused c =
+    rw (← c.geometry_at-g.ensures, ← c.header-h.ensures, c.in-Refused.is, c.number.ensures)
+
+pub returns-in-Fields : goal.returns-in-Fields
+unfolding text_answer
+returns-in-Fields c =
+    rw (
+      ← c.geometry_at-g.ensures,
+      ← c.header-h.ensures,
+      c.in-Fields.is,
+      c.page_len.ensures.value,
+      c.place.ensures,
+      c.length.ensures,
+    )

@@ -1,0 +1,12 @@
+-- A refused dump is refused before anything else.
+use borrow.Author.Rules.{rules}
+use Rattle.chunk.specs.Lists.{object_count_on}
+use Rattle.chunk.proofs.list.object_count.Goals as goal
+
+pub returns-in-Refused : goal.returns-in-Refused
+unfolding object_count_on
+returns-in-Refused c = rw (← c.opened-p.ensures, c.in-Refused.is)
+
+pub returns-in-Pages : goal.returns-in-Pages
+unfolding object_count_on
+returns-in-Pages c = rw (← c.opened-p.ensures, c.in-Pages.is, c.objects_in.ensures)

@@ -1,0 +1,12 @@
+-- A refused dump is refused before anything else.
+use borrow.Author.Rules.{rules}
+use Rattle.chunk.specs.Answers.{size_on}
+use Rattle.chunk.proofs.lookup.size.Goals as goal
+
+pub returns-in-Refused : goal.returns-in-Refused
+unfolding size_on
+returns-in-Refused c = rw (← c.opened-p.ensures, c.in-Refused.is)
+
+pub returns-in-Pages : goal.returns-in-Pages
+unfolding size_on
+returns-in-Pages c = rw (← c.opened-p.ensures, c.in-Pages.is) c.size_in.ensures

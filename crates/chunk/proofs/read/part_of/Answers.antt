@@ -1,0 +1,16 @@
+-- Each arm of the match is a case of the definition.
+use borrow.Author.Rules.{rules}
+use Rattle.chunk.specs.Answers.{part_by}
+use Rattle.chunk.proofs.read.part_of.Goals as goal
+
+pub returns-in-Refused : goal.returns-in-Refused
+unfolding part_by
+returns-in-Refused c = rw c.enum_told-1.given.1
+
+pub returns-in-Hole : goal.returns-in-Hole
+unfolding part_by
+returns-in-Hole c = rw c.enum_told-in-Hole-1.given.1
+
+pub returns-in-Copy : goal.returns-in-Copy
+unfolding part_by
+returns-in-Copy c = rw c.in-Copy.is c.valid_part.ensures

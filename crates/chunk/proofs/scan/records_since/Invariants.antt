@@ -1,0 +1,21 @@
+-- The loop's invariant: the count of the records passed that are not older.
+use Prim.Native.Nat.{◌≤◌, ◌<◌, ◌-◌}
+use mathlib.Core.Bool.{true, false}
+use mathlib.Core.Path.{◌≡◌, sym, ◌∙◌}
+use native.Mathlib.Omega.{arith}
+use borrow.Author.Rules.{rules}
+use borrow.Author.Tests.{not-true, not-false}
+use Rattle.page.specs.Records.{record_at}
+use Rattle.page.specs.Tags.{names_at}
+use Rattle.chunk.specs.Takes.{seen_by}
+use Rattle.chunk.specs.Records.{age_of, is_of}
+use Rattle.chunk.specs.Newest.{since}
+use Rattle.chunk.proofs.Records.{seen_unnamed}
+use Rattle.chunk.proofs.Gathering.{since_none, since_skip, since_old, since_one, and_true}
+use Rattle.chunk.proofs.scan.records_since.Given as goal
+
+abbrev pub invariant-loop-i : goal.invariant-loop-i
+invariant-loop-i l = (l.i ≤ l.pages) × (l.count ≤ l.i) × (l.count ≡ since (seen_by l.t (record_at l.g l.dump)) l.o.0 l.age l.i)
+
+abbrev pub decreases-loop-i : goal.decreases-loop-i
+decreases-loop-i l = l.pages - l.i

@@ -1,0 +1,83 @@
+use Prim.Native.Nat.{ℕ, ◌+◌, ◌-◌}
+use mathlib.Core.List.{List, ◌++◌}
+use mathlib.Core.Path.{◌≡◌, refl, sym, ap, ◌∙◌}
+use native.Mathlib.Omega.{arith}
+use lib.ListN.{length, take, drop}
+use borrow.Author.Rules.{rules}
+use Rattle.page.specs.Records.{record_at}
+use Rattle.compare.specs.Rows.{copies_in}
+use Rattle.compare.proofs.Filling.{part_length, Filling, Turn, fill_start, turn_at, fill_end}
+use Rattle.compare.proofs.rows.fill_copies.Goals as goal
+
+pub loop-i-init : goal.loop-i-init
+loop-i-init c =
+    let a = c.args in
+    (refl, fill_start a.g a.dump.now a.pages a.g.layout.«data» c.requires.dump_value a.order.now c.requires.order_value a.copies.now c.requires.copies_len)
+
+-- the run of words that a turn is about
+module _ (k : goal.After-run_of) where
+  abbrev start : goal.Start invariant-loop decreases-loop
+  start = k.before.before.before.before.before.before.before.before.before
+
+  abbrev run : ℕ
+  run = k.run_of.result
+
+  turn :
+      let q = k.loop-i in
+      let a = start.args in
+      Turn a.g a.dump.now a.pages a.g.layout.«data» a.order.now q.copies q.i run
+  turn =
+      let q = k.loop-i in
+      let s = start in
+      let a = s.args in
+      turn_at a.g a.dump.now a.pages a.g.layout.«data» s.requires.dump_value a.order.now s.requires.order_value q.copies q.i q.inv.1
+      k.loop-i-test.taken _ run k.key_of-o.ensures k.run_of.ensures
+
+pub fill_run-requires : goal.fill_run-requires
+fill_run-requires c =
+    let k = c.before.before.before in
+    let q = k.loop-i in
+    let s = start k in
+    let t = turn k in
+    let l = part_length s.args.order.now q.i (run k) t.inside in
+    let m = part_length q.copies q.i (run k) (omega (arith, t.inside, q.invariant.1.long)) in record { dump_value = s.requires.dump_value; list_len_bound = omega (arith, l, t.few); rows_len = m ∙ sym l; list_in_bounds = omega (arith, l, t.inside, q.invariant.0, s.requires.order_in_bounds) }
+
+pub loop-i-preserved : goal.loop-i-preserved
+loop-i-preserved c =
+    let f = c.before.before.before.before in
+    let k = f.before.before.before.before in
+    let q = k.loop-i in
+    let a = (start k).args in
+    let t = turn k in
+    let r : q.i + run k - q.i ≡ run k = omega arith in
+    let e = rw r at f.fill_run.ensures in (
+      c.work-1.given ∙ q.invariant.0,
+      t.onward _
+          (rw r
+          (ap (λ (l : List ℕ). take q.i q.copies ++ (l ++ drop (run k) (drop q.i q.copies)))
+          (e ∙ ap (copies_in (record_at a.g a.dump.now) a.g.layout.«data») t.words))),
+    )
+
+pub returns : goal.returns
+returns c =
+    let q = c.loop-i in
+    let a = c.args in
+    fill_end a.g a.dump.now a.pages a.g.layout.«data» c.requires.dump_value a.order.now c.requires.order_value q.copies q.i q.invariant.1 c.loop-i-test.false
+
+pub overflow_add-end : goal.overflow_add-end
+overflow_add-end c = omega (arith, (turn c).inside)
+
+pub slice_bounds-fill_run-end : goal.slice_bounds-fill_run-end
+slice_bounds-fill_run-end c = omega (arith, (turn c).inside)
+
+pub slice_bounds-fill_run-end-in-loop-i : goal.slice_bounds-fill_run-end-in-loop-i
+slice_bounds-fill_run-end-in-loop-i c = omega (arith, (turn c.before).inside)
+
+pub loop-i-smaller : goal.loop-i-smaller
+loop-i-smaller c = omega (arith, (turn c.before.before.before.before.before.before.before.before).some)
+
+pub shape_of-copies : goal.shape_of-copies
+shape_of-copies c = c.loop-i.invariant.1.long ∙ sym c.requires.copies_len
+
+pub shape_of-work : goal.shape_of-work
+shape_of-work c = c.loop-i.invariant.0

@@ -1,0 +1,31 @@
+-- The loop's invariant: each row is free, and then its answer lies ahead, or it is done; all behind the rows is as it came. Each turn goes on to
+-- an older record, so that the bound falls.
+use Prim.Native.Nat.{ℕ, ◌≤◌, ◌<◌, min}
+use mathlib.Core.List.{List, ◌++◌}
+use mathlib.Core.Path.{◌≡◌, refl, sym, ap, ◌∙◌}
+use native.Mathlib.Omega.{arith}
+use lib.ListN.{length, drop, replicate}
+use borrow.Author.Rules.{rules}
+use Rattle.page.specs.Records.{record_at}
+use Rattle.chunk.specs.Lookups.{shown_of}
+use Rattle.index.specs.Cells.{word}
+use Rattle.index.specs.Walks.{under}
+use Rattle.index.specs.Ahead.{ahead}
+use Rattle.index.specs.declared.chains.Step.TheVariants.{End, Damaged, Record}
+use Rattle.index.proofs.Chain.Links.{Meets, stepped, role_data, role_header}
+use Rattle.index.proofs.Walk.Ahead.{ahead_end, ahead_broken}
+use Rattle.file.specs.Table.{words_of, all_ahead}
+use Rattle.file.proofs.Rows.{Row, free, noted_length, noted_rest, header_row, noted_row, row_end_lem, row_broken, clear_length, clear_rest, cleared, table_is}
+use Rattle.file.proofs.table.fill.Given as goal
+
+abbrev pub invariant-loop-table : goal.invariant-loop-table
+invariant-loop-table l =
+    let says = record_at l.g l.dump in
+    let P = l.g.layout.«data» in
+    (length l.table ≡ length l.initial.table)
+    × (drop (words_of l.count) l.table ≡ drop (words_of l.count) l.initial.table)
+    × ((c : ℕ) → 0 < c → c ≤ l.count →
+    Row l.table c (ahead says P c (shown_of P c l.size) l.newest l.cut (under says l.pages l.cells l.o.0 l.bound l.link)) (all_ahead says P l.size l.pages l.cells l.o.0 l.first c))
+
+abbrev pub decreases-loop-table : goal.decreases-loop-table
+decreases-loop-table l = l.bound

@@ -1,0 +1,51 @@
+use Prim.Native.Nat.{◌+◌, ◌-◌, ◌≤◌, ◌<◌}
+use mathlib.Core.Path.{◌≡◌}
+use native.Mathlib.Omega.{arith}
+use lib.ListN.{length}
+use borrow.Author.Rules.{rules}
+use Rattle.file.specs.Table.{Closed}
+use Rattle.file.proofs.Rows.{closed_none, closed_more}
+use Rattle.file.proofs.table.mark_damaged.Goals as goal
+
+-- the row of this turn has room
+abbrev Within : goal.After-words_of-i invariant-loop decreases-loop → Type 0
+Within w = w.words_of-i.result + 1 < length w.args.table.now
+
+within : (w : goal.After-words_of-i) → Within w
+within w = omega (arith, w.words_of-i.ensures, w.loop-r-test.true, w.requires)
+
+pub loop-r-preserved : goal.loop-r-preserved
+loop-r-preserved c =
+    let w = c.before.before in
+    let q = w.loop-r in
+    (omega arith, rw w.words_of-i.ensures (closed_more q.r _ _ q.invariant.1 (rw w.words_of-i.ensures at (within w)) _ (rw (← w.words_of-i.ensures) c.closed_word.ensures)))
+
+pub returns : goal.returns
+returns c =
+    let q = c.loop-r in
+    let e : q.r ≡ c.args.count = omega arith in
+    rw e at q.invariant.1
+
+pub loop-r-init : goal.loop-r-init
+loop-r-init c = (omega arith, closed_none _)
+
+pub offset_bounds-table-i : goal.offset_bounds-table-i
+offset_bounds-table-i c = omega (arith, within c)
+
+pub bounds-table-i : goal.bounds-table-i
+bounds-table-i c = omega (arith, within c.before, c.loop-r.invariant.1.long)
+
+pub offset_bounds-table-i-in-loop-r : goal.offset_bounds-table-i-in-loop-r
+offset_bounds-table-i-in-loop-r c = omega (arith, within c.before.before)
+
+pub bounds-table-i-in-loop-r : goal.bounds-table-i-in-loop-r
+bounds-table-i-in-loop-r c = omega (arith, within c.before.before, c.loop-r.invariant.1.long)
+
+pub overflow_add-r : goal.overflow_add-r
+overflow_add-r c = omega arith
+
+pub loop-r-smaller : goal.loop-r-smaller
+loop-r-smaller c = omega arith
+
+pub shape_of-table : goal.shape_of-table
+shape_of-table c = c.loop-r.invariant.1.long

@@ -1,0 +1,109 @@
+use Prim.Native.Nat.{◌+◌, ◌≤◌}
+use mathlib.Core.Path.{◌≡◌, refl, sym, ap, ◌∙◌}
+use native.Mathlib.Omega.{arith}
+use borrow.Author.Rules.{rules}
+use borrow.Author.Tests.{ne_eqb}
+use Rattle.page.specs.Records.{record_at}
+use Rattle.page.proofs.Within.{data_within}
+use Rattle.chunk.specs.Records.{age_of}
+use Rattle.index.specs.Cells.{word}
+use Rattle.index.specs.Chains.{objects, top}
+use Rattle.index.specs.Walks.{records_in, size_reached, reach, size_walk, under}
+use Rattle.index.specs.declared.chains.Step.TheVariants.{End, Damaged, Record}
+use Rattle.index.specs.declared.walks.Met.TheVariants.{Nothing}
+use Rattle.index.proofs.Chain.Links.{Meets, stepped, role_data, role_header}
+use Rattle.index.proofs.Chain.Turns.{reach_nothing, reach_headless, reach_broken, reach_here, reach_on, count_on, few}
+use Rattle.index.proofs.lookups.size_walk.Goals as goal
+
+pub loop-q-init : goal.loop-q-init
+unfolding size_walk
+loop-q-init c =
+    let a = c.args in
+    let says = record_at a.g a.dump.now in
+    (omega (arith, few a.pages (objects says) (age_of says) a.cells.now a.o.0 top a.first), refl)
+
+pub returns-then-visits-eq0 : goal.returns-then-visits-eq0
+unfolding size_reached
+returns-then-visits-eq0 c =
+    let q = c.loop-q in
+    let k = stepped _ _ _ _ _ _ End (sym c.in-End.is ∙ c.follow-step.ensures) in
+    sym (q.invariant.1 ∙ ap (size_reached _) (reach_nothing _ _ _ _ _ _ _ k c.if-visits-eq0.true))
+
+pub returns-in-End : goal.returns-in-End
+unfolding size_reached
+returns-in-End c =
+    let q = c.loop-q in
+    let k = stepped _ _ _ _ _ _ End (sym c.in-End.is ∙ c.follow-step.ensures) in
+    sym (q.invariant.1 ∙ ap (size_reached _) (reach_headless _ _ _ _ _ _ _ k c.if-visits-eq0.false))
+
+pub returns-in-Damaged : goal.returns-in-Damaged
+unfolding size_reached
+returns-in-Damaged c =
+    let q = c.loop-q in
+    let k = stepped _ _ _ _ _ _ Damaged (sym c.in-Damaged.is ∙ c.follow-step.ensures) in
+    sym (q.invariant.1 ∙ ap (size_reached _) (reach_broken _ _ _ _ _ _ _ k))
+
+-- the turn of the loop in which a link led to a record, the function's start, and what is known of the record
+abbrev turn : goal.In-Record-2 invariant-loop decreases-loop → goal.At-loop-q invariant-loop decreases-loop
+turn c = c.before.before.before
+
+abbrev start : goal.In-Record-2 invariant-loop decreases-loop → goal.Start invariant-loop decreases-loop
+start c = (turn c).before.before.before
+
+abbrev Here : goal.In-Record-2 invariant-loop decreases-loop → Type 0
+Here c =
+    let q = (turn c).loop in
+    let a = (start c).args in
+    Meets (record_at a.g a.dump.now) a.pages a.o.0 a.cells.now q.bound q.link c.in-Record.q c.in-Record.age c.in-Record.role
+
+here : (c : goal.In-Record-2) → Here c
+here c = stepped _ _ _ _ _ _ (Record _ _ _) (sym c.in-Record.is ∙ c.follow-step.ensures)
+
+pub overflow_add-visits : goal.overflow_add-visits
+overflow_add-visits c =
+    let g = c.before in
+    omega (arith, (turn g).loop.invariant.0, count_on _ _ _ ((here g).onward _ refl))
+
+pub returns-in_default : goal.returns-in_default
+unfolding size_reached
+returns-in_default c =
+    let g = c.before.before.before.before in
+    let a = (start g).args in
+    let says = record_at a.g a.dump.now in
+    let e = role_header (says g.in-Record.q.0) (here g).leads.some (sym c.in_default.is ∙ (here g).is) in
+    c.size_file.ensures
+    ∙ sym ((turn g).loop.invariant.1 ∙ ap (size_reached _) (reach_here says _ _ _ _ _ _ _ _ ((here g).onward _ refl) e))
+
+-- the record at which data was passed
+abbrev passed : goal.After-link_at-i invariant-loop decreases-loop → goal.In-Record-2 invariant-loop decreases-loop
+passed c = c.before.before.before.before.before
+
+pub offset_bounds-cells-i : goal.offset_bounds-cells-i
+offset_bounds-cells-i c = omega (arith, (here (passed c)).leads.inside, c.link_at-i.ensures)
+
+pub bounds-cells-i : goal.bounds-cells-i
+bounds-cells-i c =
+    let g = passed c.before in
+    omega (arith, (here g).leads.inside, c.link_at-i.ensures, (start g).pre)
+
+pub loop-q-smaller : goal.loop-q-smaller
+loop-q-smaller c = (here (passed c.before.before)).older
+
+-- no page of data has the chunk number 0: nothing is noted as its copy
+pub loop-q-preserved : goal.loop-q-preserved
+loop-q-preserved c =
+    let i = c.before.before in
+    let g = passed i in
+    let q = (turn g).loop in
+    let a = (start g).args in
+    let says = record_at a.g a.dump.now in
+    let d = i.in-Data.d in
+    let e = role_data (says g.in-Record.q.0) d (sym i.in-Data.is ∙ (here g).is) in
+    let some : d.chunk.0 ≡ 0 → ⊥ = λ z. absurd (omega (arith, (data_within a.g a.dump.now g.in-Record.q.0 d e).chunk.least)) in
+    let on = (here g).onward _ (ap (word a.cells.now) i.link_at-i.ensures) in (
+      omega (arith, q.inv.0, count_on _ _ _ on),
+      q.inv.1
+          ∙ ap (size_reached says)
+          (reach_on says _ _ _ _ _ _ _ _ on (rw e refl)
+          ∙ rw (e, ne_eqb d.chunk.0 0 some, c.end_with-end.ensures)),
+    )

@@ -1,0 +1,36 @@
+-- Where the slot is not the object's, the chain is empty and the link goes to its front.
+use Prim.Native.Nat.{◌<◌}
+use mathlib.Core.Path.{sym}
+use lib.ListN.{length}
+use native.Mathlib.Omega.{arith}
+use borrow.Author.Rules.{rules}
+use Rattle.index.proofs.Chain.Links.{trace_end}
+use Rattle.index.proofs.Slot.Words.{key_room}
+use Rattle.index.proofs.Slot.Search.{first_in_own, first_in_none}
+use Rattle.index.proofs.Chain.Place.{place_end}
+use Rattle.index.proofs.places.place_of.Goals as goal
+
+-- the first link stands in the cells
+first-room : (f : goal.After-first_at-from) → let a = f.args in f.first_at-from.result < length a.cells.now
+first-room f = omega (arith, f.first_at-from.ensures.value, f.requires.in_table.room)
+
+pub bounds-cells-i : goal.bounds-cells-i
+bounds-cells-i c =
+    omega (arith, c.key_at-i.ensures.value, key_room _ _ c.requires.in_table)
+
+pub place_from-requires : goal.place_from-requires
+place_from-requires c = let f = c.before.before.before.before in record { recorded = f.requires.recorded; from_in_bounds = first-room f }
+
+pub returns-then-cells-i : goal.returns-then-cells-i
+returns-then-cells-i c =
+    let k = c.before.before.before in
+    let f = k.before in
+    let a = f.args in
+    let none = first_in_none a.cells.now a.s a.o.0 (rw k.key_at-i.ensures.value at c.if-cells-i.true) in
+    record { value = rw f.first_at-from.ensures.value (sym (place_end _ _ _ _ (rw none (trace_end _ _ _ _ _ _ 0 (omega arith))))); within = first-room f }
+
+pub returns : goal.returns
+returns c =
+    let a = c.args in
+    let own = first_in_own a.cells.now a.s a.o.0 (rw c.key_at-i.ensures.value at c.if-cells-i.false) in
+    record { value = rw (own, ← c.first_at-from.ensures.value) c.place_from.ensures.value; within = c.place_from.ensures.within }

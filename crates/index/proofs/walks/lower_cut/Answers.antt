@@ -1,0 +1,10 @@
+-- A page that is no header cuts nowhere.
+use borrow.Author.Rules.{rules}
+use Rattle.page.proofs.Sound.{else_header}
+use Rattle.index.proofs.walks.lower_cut.Goals as goal
+
+pub returns-in_default : goal.returns-in_default
+returns-in_default c = rw (else_header c.args.r c.in_default.keys2)
+
+pub returns : goal.returns
+returns c = rw (c.in-Header.is, ← c.cut_of.ensures) c.lower.ensures

@@ -1,0 +1,26 @@
+use Prim.Native.Nat.{◌≤◌, ◌-◌, ◌^◌}
+use mathlib.Core.Path.{◌≡◌}
+use native.Mathlib.Omega.{arith}
+use borrow.Author.Rules.{rules}
+use Rattle.page.specs.Search.{count}
+use Rattle.page.specs.Counts.{counts_below}
+use Rattle.page.proofs.Counting.{counts_next, counts_at_most}
+use Rattle.page.proofs.count.count_pages.Goals as goal
+
+pub with-c-requires : goal.with-c-requires
+with-c-requires c =
+    let a = c.args in
+    let q = c.loop-i in
+    counts_at_most a.g a.dump.now q.i (2 ^ 31) q.c q.invariant.1 (omega arith)
+
+pub loop-i-preserved : goal.loop-i-preserved
+loop-i-preserved c =
+    let a = c.args in
+    let q = c.loop-i in
+    (search rules, cc (counts_next a.g a.dump.now q.i))
+
+pub returns : goal.returns
+returns c =
+    let a = c.args in
+    let e : c.loop-i.i ≡ a.pages = omega arith in
+    cc

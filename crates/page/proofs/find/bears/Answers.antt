@@ -1,0 +1,38 @@
+-- The sequence word of a page settles whether it bears the sequence, or leaves it to the other tests.
+use mathlib.Core.Bool.{true}
+use mathlib.Core.Path.{◌≡◌, sym, ◌∙◌, ap}
+use lib.ListN.{length}
+use borrow.Author.Rules.{rules}
+use borrow.Author.Tests.{not-true, not-false}
+use Rattle.page.specs.Lengths.{page_in}
+use Rattle.page.specs.Tags.{claim_on, claim_at}
+use Rattle.page.specs.Find.{is_good, bears_sequence}
+use Rattle.page.proofs.Blocks.{bears_other, bears_same}
+use Rattle.page.proofs.find.bears.Goals as goal
+
+lies :
+    (c : goal.Else-not-holds) →
+    page_in c.args.g (length c.args.dump.now) c.args.n.0 ≡ true
+lies c = rw (← c.holds.ensures) (not-false c.holds.result c.if-not-holds.false)
+
+pub returns-then-not-holds : goal.returns-then-not-holds
+unfolding claim_at bears_sequence
+returns-then-not-holds c = rw (← c.holds.ensures, not-true c.holds.result c.if-not-holds.true)
+
+pub returns-then-t-sequence : goal.returns-then-t-sequence
+unfolding claim_at claim_on
+returns-then-t-sequence c =
+    let t = c.before.before in
+    let a = t.args in
+    rw (lies t.before, ← t.tags_at-t.ensures) (sym (bears_other t.tags_at-t.result a.g.layout.«data» a.sequence c.if-t-sequence.true))
+
+pub returns : goal.returns
+unfolding claim_at claim_on
+returns c =
+    let t = c.before.before.before.before in
+    let a = t.args in
+    rw (lies t.before, ← t.tags_at-t.ensures)
+    (c.is_good.ensures ∙ ap is_good c.claim.ensures ∙ sym (bears_same t.tags_at-t.result a.g.layout.«data» a.sequence c.if-t-sequence.false))
+
+pub tags_at-t-requires : goal.tags_at-t-requires
+tags_at-t-requires c = lies c

@@ -1,0 +1,57 @@
+use Prim.Native.Nat.{ℕ, ◌*◌, ◌/◌, ◌-◌, ◌^◌, ◌<◌, ◌≤◌}
+use native.Mathlib.Nat.{div-mul-le_self, mul-le-mul_left, mul-mod_left, mul_right_comm}
+use native.Mathlib.Omega.{arith}
+use lib.ListN.{length}
+use borrow.Author.Rules.{rules}
+use Rattle.page.specs.Tags.{claim_at}
+use Rattle.page.specs.Find.{is_scored}
+use Rattle.page.specs.declared.geometry.Geometry.{Geometry}
+use Rattle.page.proofs.Layouts.{row_roomy}
+use Rattle.page.proofs.Lengths.{block_some, block_most}
+use Rattle.page.proofs.Leaving.{pages_few, count_by}
+use Rattle.page.proofs.find.glance.Goals as goal
+
+-- the strides do not go past the pages
+strides : (pages k i : ℕ) → i ≤ 8 → pages / 8 / k * k * i ≤ pages
+strides pages k i h = omega (arith, mul-le-mul_left (pages / 8 / k * k) h, div-mul-le_self (pages / 8) k, div-mul-le_self pages 8)
+
+pub pages_under-pages-requires : goal.pages_under-pages-requires
+pages_under-pages-requires c =
+    (rw c.row.ensures (row_roomy c.args.n c.requires.n_lt_layouts), c.requires.k_value)
+
+-- the candidate
+abbrev asked : goal.After-pages_under-pages invariant-loop decreases-loop → Geometry
+asked c = record { layout = c.row.result; block = c.args.k }
+
+-- its pages are few
+few : (c : goal.After-pages_under-pages) → c.pages_under-pages.result < 2 ^ 31
+few c =
+    rw c.pages_under-pages.ensures (pages_few (asked c) (length c.args.dump.now) c.requires.dump_value)
+
+pub nonzero_div-stride-2 : goal.nonzero_div-stride-2
+nonzero_div-stride-2 c = block_some c.args.k c.requires.k_value
+
+pub overflow_mul-stride : goal.overflow_mul-stride
+overflow_mul-stride c = omega (arith, strides c.pages_under-pages.result c.args.k 1 (omega arith), few c.before)
+
+pub overflow_mul-stride-in-loop-i : goal.overflow_mul-stride-in-loop-i
+overflow_mul-stride-in-loop-i c = let p = c.before.before.before in omega (arith, strides p.pages_under-pages.result p.args.k c.loop-i.i (omega arith), few p)
+
+pub gain_in-score-requires : goal.gain_in-score-requires
+gain_in-score-requires c =
+    let p = c.before.before.before in
+    let i = c.loop-i.i in
+    let x = p.pages_under-pages.result / 8 / p.args.k in record { block_value = rw (mul_right_comm x p.args.k i) (mul-mod_left (x * i) p.args.k); block_bound = omega (arith, strides p.pages_under-pages.result p.args.k i (omega arith), few p, block_most p.args.k p.requires.k_value) }
+
+-- a block scores at most its pages
+gains : (c : goal.After-gain_in-score) → c.gain_in-score.result.score ≤ 256
+gains c =
+    let p = c.before.before.before.before in
+    let block = p.pages_under-pages.result / 8 / p.args.k * p.args.k * c.loop-i.i in
+    omega (arith, c.gain_in-score.ensures.scored, count_by (is_scored (claim_at (asked p) p.args.dump.now) p.args.k) block p.args.k, block_most p.args.k p.requires.k_value)
+
+pub overflow_add-score : goal.overflow_add-score
+overflow_add-score c = omega (arith, gains c.before, c.loop-i.invariant.1, c.loop-i-test.true)
+
+pub loop-i-preserved : goal.loop-i-preserved
+loop-i-preserved c = (search rules, omega (arith, gains c.before, c.loop-i.invariant.1))

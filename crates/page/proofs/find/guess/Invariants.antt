@@ -1,0 +1,10 @@
+-- The guess is a candidate of the table.
+use Prim.Native.Nat.{◌-◌, ◌≤◌, ◌<◌}
+use borrow.Author.Rules.{rules}
+use Rattle.page.proofs.find.guess.Given as goal
+
+abbrev pub invariant-loop-n : goal.invariant-loop-n
+invariant-loop-n l = (l.n ≤ 13) × (l.first < 13)
+
+abbrev pub decreases-loop-n : goal.decreases-loop-n
+decreases-loop-n l = 13 - l.n

@@ -1,0 +1,13 @@
+-- The tests come in the definition's order.
+use Rattle.page.proofs.Tests.{cases}
+use Rattle.page.specs.Leaving.{in_turn}
+use Rattle.page.proofs.find.in_turn.Goals as goal
+
+pub returns-then-turn-eq0 : goal.returns-then-turn-eq0
+returns-then-turn-eq0 c = search cases
+
+pub returns-then-turn-guess : goal.returns-then-turn-guess
+returns-then-turn-guess c = search cases
+
+pub returns-else-turn-guess : goal.returns-else-turn-guess
+returns-else-turn-guess c = search cases

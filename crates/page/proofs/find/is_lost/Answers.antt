@@ -1,0 +1,11 @@
+-- The tests come in the definition's order.
+use borrow.Author.Rules.{rules}
+use Rattle.page.proofs.Tests.{cases}
+use Rattle.page.specs.Leaving.{is_lost}
+use Rattle.page.proofs.find.is_lost.Goals as goal
+
+pub returns-then-score-left : goal.returns-then-score-left
+returns-then-score-left c = search cases
+
+pub returns : goal.returns
+returns c = search cases

@@ -1,0 +1,11 @@
+-- A number that the table lacks is refused; another has its row.
+use borrow.Author.Rules.{rules}
+use Rattle.page.proofs.Tests.{cases}
+use Rattle.page.specs.Layouts.{by_number}
+use Rattle.page.proofs.layout.Layout.numbered.Goals as goal
+
+pub returns-then-n-ge-COUNT : goal.returns-then-n-ge-COUNT
+returns-then-n-ge-COUNT c = search cases
+
+pub returns : goal.returns
+returns c = search cases

@@ -1,0 +1,7 @@
+-- Each field is the word that its call reads.
+use borrow.Author.Rules.{rules}
+use Rattle.page.specs.Tags.{tags_of}
+use Rattle.page.proofs.tags.Tags.parse.Goals as goal
+
+pub returns : goal.returns
+returns c = cc

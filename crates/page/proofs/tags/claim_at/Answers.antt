@@ -1,0 +1,25 @@
+-- A page that is in the dump says what its tags say, and one that is not says nothing.
+use mathlib.Core.Bool.{true}
+use mathlib.Core.Path.{◌≡◌}
+use lib.ListN.{length}
+use borrow.Author.Rules.{rules}
+use borrow.Author.Tests.{not-true, not-false}
+use Rattle.page.specs.Lengths.{page_in}
+use Rattle.page.specs.Tags.{claim_on, claim_at}
+use Rattle.page.proofs.tags.claim_at.Goals as goal
+
+lies :
+    (c : goal.Else-not-holds) →
+    page_in c.args.g (length c.args.dump.now) c.args.n.0 ≡ true
+lies c = rw (← c.holds.ensures) (not-false c.holds.result c.if-not-holds.false)
+
+pub returns-then-not-holds : goal.returns-then-not-holds
+unfolding claim_at
+returns-then-not-holds c = rw (← c.holds.ensures, not-true c.holds.result c.if-not-holds.true)
+
+pub returns : goal.returns
+unfolding claim_at claim_on
+returns c = let t = c.before in rw (lies t.before, ← t.tags_at.ensures) c.claim.ensures
+
+pub tags_at-requires : goal.tags_at-requires
+tags_at-requires c = lies c

@@ -1,0 +1,27 @@
+-- The loop's invariant is `Listed`: the ages of the records passed stand in front of the words. All of them fill the words, as there are as many words
+-- as records; sorted they are `written`.
+use Prim.Native.Nat.{ℕ, ◌≤◌, ◌<◌, ◌-◌}
+use mathlib.Core.Bool.{true, false}
+use mathlib.Core.Path.{◌≡◌, sym, ◌∙◌}
+use native.Mathlib.Omega.{arith}
+use borrow.Author.Rules.{rules}
+use borrow.Author.Tests.{not-true, not-false}
+use lib.ListN.{length}
+use Rattle.page.specs.Records.{record_at}
+use Rattle.page.specs.Tags.{names_at}
+use Rattle.page.specs.declared.record.Record.{Record}
+use Rattle.chunk.specs.Records.{age_of}
+use Rattle.chunk.specs.Takes.{seen_by}
+use Rattle.chunk.proofs.Records.{seen_unnamed}
+use Rattle.chunk.proofs.Sorting.{Listed, listed_none, listed_skip, listed_room, listed_more, listed_all}
+use Rattle.records.specs.Written.{is_record, written}
+use Rattle.records.proofs.Writing.{records_count}
+use Rattle.records.proofs.written.fill_ages.Given as goal
+
+abbrev pub invariant-loop-i : goal.invariant-loop-i
+invariant-loop-i l =
+    let says = seen_by l.t (record_at l.g l.dump) in
+    (l.i ≤ l.pages) × Listed (is_record says l.o.0) (age_of says) l.initial.words l.words l.at l.i
+
+abbrev pub decreases-loop-i : goal.decreases-loop-i
+decreases-loop-i l = l.pages - l.i

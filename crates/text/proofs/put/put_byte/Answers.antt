@@ -1,0 +1,19 @@
+-- A byte within the lent bytes is stored. One past their end changes nothing, and the position goes on as far as positions count.
+use mathlib.Core.Path.{refl}
+use native.Mathlib.Omega.{arith}
+use borrow.Author.Rules.{rules}
+use Rattle.text.specs.Put.{over, counted}
+use Rattle.text.proofs.Putting.{left_out_lem}
+use Rattle.text.proofs.put.put_byte.Goals as goal
+
+pub returns-then-at-buf : goal.returns-then-at-buf
+unfolding over counted
+returns-then-at-buf c = record { short = omega arith; holds = refl; behind = omega arith }
+
+pub returns-then-at-lt-MOST : goal.returns-then-at-lt-MOST
+unfolding counted
+returns-then-at-lt-MOST c = left_out_lem _ _ _ _ (omega arith) c.if-at-buf.false (omega arith)
+
+pub returns : goal.returns
+unfolding counted
+returns c = left_out_lem _ _ _ _ (omega arith) c.if-at-buf.false (omega arith)

@@ -1,0 +1,26 @@
+use Prim.Native.Nat.{◌-◌}
+use mathlib.Core.Path.{◌≡◌, refl, ◌∙◌}
+use borrow.Author.Rules.{rules}
+use lib.ListN.{length}
+use Rattle.tree.specs.Climbs.{Raised}
+use Rattle.tree.proofs.Climbing.{raised_some, raised_doubled, raised_enough}
+use Rattle.tree.proofs.climb.climb.Goals as goal
+
+pub double-requires : goal.double-requires
+double-requires c =
+    let q = c.loop-steps in
+    raised_some q.steps _ q.ways c.requires q.invariant.1
+
+pub loop-steps-preserved : goal.loop-steps-preserved
+loop-steps-preserved c =
+    let q = c.loop-steps in
+    (c.ways-1.given ∙ q.invariant.0, raised_doubled q.steps _ q.ways _ q.invariant.1 c.double.ensures)
+
+pub returns : goal.returns
+returns c = let q = c.loop-steps in raised_enough _ q.steps _ q.ways q.invariant.1 c.loop-steps-test.false
+
+pub loop-steps-init : goal.loop-steps-init
+loop-steps-init c = (refl, λ says n heads w. w)
+
+pub shape_of-ways : goal.shape_of-ways
+shape_of-ways c = c.loop-steps.invariant.0

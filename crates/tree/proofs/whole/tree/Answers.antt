@@ -1,0 +1,17 @@
+-- A refused dump is refused before anything else, and nothing is written; of another the lists are made.
+use mathlib.Core.Path.{sym, ◌∙◌}
+use borrow.Author.Rules.{rules}
+use Rattle.tree.proofs.Answering.{dump_refused}
+use Rattle.tree.proofs.whole.tree.Goals as goal
+
+pub tree_in-requires : goal.tree_in-requires
+tree_in-requires c = sym c.opened-p.ensures ∙ c.in-Pages.is
+
+pub returns-in-Refused : goal.returns-in-Refused
+returns-in-Refused c =
+    let a = c.args in
+    dump_refused a.g a.dump.now a.m a.rows.now a.heads.now a.work.now _
+    (sym c.opened-p.ensures ∙ c.in-Refused.is)
+
+pub returns-in-Pages : goal.returns-in-Pages
+returns-in-Pages c = c.tree_in.ensures

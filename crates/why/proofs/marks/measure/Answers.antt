@@ -1,0 +1,93 @@
+use Prim.Native.Nat.{ℕ, ◌+◌, ◌≤◌, ◌-◌}
+use mathlib.Core.Bool.{false}
+use mathlib.Core.List.{List}
+use mathlib.Core.Path.{◌≡◌, sym, ap, ◌∙◌}
+use native.Mathlib.Omega.{arith}
+use borrow.Author.Rules.{rules}
+use borrow.Author.Tests.{not-true}
+use lib.ListN.{length}
+use Rattle.page.specs.Records.{record_at}
+use Rattle.page.specs.Tags.{names_at}
+use Rattle.page.specs.declared.record.Record.{Record}
+use Rattle.chunk.specs.Records.{is_of}
+use Rattle.chunk.specs.Takes.{seen_by}
+use Rattle.chunk.specs.Sizes.{data_end, size_of}
+use Rattle.chunk.proofs.Records.{seen_unnamed}
+use Rattle.chunk.proofs.Gathering.{end_none, end_other, end_step}
+use Rattle.why.specs.Marks.{marks_to}
+use Rattle.why.proofs.Putting.{count_none, count_more, marks_same, marks_few}
+use Rattle.why.proofs.marks.measure.Goals as goal
+
+pub loop-i-init : goal.loop-i-init
+loop-i-init c =
+    let a = c.args in
+    let says = seen_by a.t (record_at a.g a.dump.now) in
+    (search rules, (sym (count_none says a.g.layout.«data» a.o.0 a.h.0), rw end_none))
+
+pub loop-i-preserved-then-not-names_object : goal.loop-i-preserved-then-not-names_object
+loop-i-preserved-then-not-names_object c =
+    let q = c.loop-i in
+    let a = c.args in
+    let says = seen_by a.t (record_at a.g a.dump.now) in
+    let u : names_at a.g a.dump.now q.i a.o.0 ≡ false = rw (← c.names_object.ensures) (not-true c.names_object.result c.if-not-names_object.true) in
+    let t : is_of a.o.0 (says q.i) ≡ false = seen_unnamed a.g a.dump.now q.i a.o.0 u a.t in (
+      search rules,
+      (
+        q.invariant.1.0 ∙ ap length (sym (marks_same says a.g.layout.«data» a.o.0 a.h.0 q.i t)),
+        q.invariant.1.1 ∙ sym (end_other says a.g.layout.«data» a.o.0 c.order_of-age.result q.i t),
+      ),
+    )
+
+pub marks_of-made-requires : goal.marks_of-made-requires
+marks_of-made-requires c =
+    record { p_lt_page_values = omega (arith, c.loop-i-test.true, c.requires.pages_lt_page_values); data_le_most_data = c.requires.data_bound }
+
+-- the marks of the first pages
+module _ (r : goal.After-order_of-age) where
+  abbrev start : goal.Start invariant-loop decreases-loop
+  start = r.before.before.before.before
+
+  abbrev says : ℕ → Record
+  says = seen_by start.args.t (record_at start.args.g start.args.dump.now)
+
+  abbrev marksBelow : ℕ → List ℕ
+  marksBelow i = let a = start.args in marks_to says a.g.layout.«data» a.o.0 a.h.0 i
+
+-- with those of the page they are one page more's
+counted :
+    (c : goal.After-count-marks) →
+    let q = c.before.before.before.before.before.before.before in
+    q.loop-i.marks + c.count-marks.result ≡ length (marksBelow q.before (q.loop-i.i + 1))
+counted c =
+    let m = c.before in
+    let s = m.before.before in
+    let q = s.before.before.before.before in
+    let a = (start q.before).args in
+    rw (q.loop-i.invariant.1.0, c.count-marks.ensures, m.marks_of-made.ensures, s.seen_at-r.ensures)
+    (sym (count_more (says q.before) a.g.layout.«data» a.o.0 a.h.0 q.loop-i.i))
+
+pub overflow_add-marks : goal.overflow_add-marks
+overflow_add-marks c =
+    let t = c.before.before.before.before.before.before in
+    let r = t.before.before in
+    let a = (start r).args in
+    let few = marks_few (says r) a.g.layout.«data» a.o.0 a.h.0 (t.loop-i.i + 1) in
+    record { fits = omega (arith, counted c, few, t.loop-i-test.true, (start r).requires.0) }
+
+pub loop-i-preserved : goal.loop-i-preserved
+loop-i-preserved c =
+    let q = c.loop-i in
+    let a = c.args in
+    let says = seen_by a.t (record_at a.g a.dump.now) in (
+      search rules,
+      (
+        counted c,
+        c.end_by-end.ensures ∙ rw (q.invariant.1.1, c.seen_at-r.ensures) (sym (end_step says a.g.layout.«data» a.o.0 c.order_of-age.result q.i)),
+      ),
+    )
+
+pub returns : goal.returns
+unfolding size_of
+returns c =
+    let q = c.loop-i in
+    let e : q.i ≡ c.args.pages = omega (arith, c.loop-i-test.false) in record { marks_value = rw e at q.invariant.1.0; size_value = rw (← c.seen_at-newest.ensures, ← c.sequence_of.ensures, ← c.order_of-age.ensures, ← e, ← q.invariant.1.1, ← c.file_size.ensures) c.larger.ensures }
