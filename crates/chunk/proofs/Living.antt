@@ -195,10 +195,10 @@ module _ (says : ℕ → Record) where
     page-live : (o : ℕ) → Live o → Bears (live_page says n) (object_at says) n o
     page-live o w =
         let p = w.header in
-        let f = newest_found says (header_of o) n p w.newest-header in
+        let f = newest_found says (header_of o) n p w.newest_header_lem in
         let r = and_right (is_of o (says p)) (is_header (says p)) f.passes in
         let e : object_at says p ≡ o = of_object o (says p) (and_left (is_of o (says p)) _ f.passes) in
-        record { page = p; inside = f.below; passes = rw (r, w.kept, e, w.newest-header) (eq-eqb p p refl); bears = e }
+        record { page = p; inside = f.below; passes = rw (r, w.kept, e, w.newest_header_lem) (eq-eqb p p refl); bears = e }
 
     -- an object has one newest header
     live-apart : (p q : ℕ) → live_page says n p ≡ true → live_page says n q ≡ true → object_at says p ≡ object_at says q → p ≡ q

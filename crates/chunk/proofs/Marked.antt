@@ -20,7 +20,7 @@ use Rattle.chunk.specs.Shelf.{answers, expected}
 
 -- W is accepted
 opened : opened_of shelf_geometry (length shelf) ≡ Pages 8
-opened = rw (pages.marked).shelf-length (pages.marked).shelf-opened
+opened = rw (pages.marked).shelf_length (pages.marked).shelf_opened
 
 -- the ids and chunk numbers asked for are not bad
 object : (o : ℕ) → 0 < o → o < 259 → bad_object o ≡ false
@@ -36,7 +36,7 @@ marked_cases =
     rw (
       opened,
       pages.shelf-says,
-      (pages.marked).page-cases,
+      (pages.marked).page_cases_lem,
       object 257 (omega arith) (omega arith),
       object 258 (omega arith) (omega arith),
       number 1 (omega arith) (omega arith),

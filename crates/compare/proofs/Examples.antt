@@ -117,7 +117,7 @@ lengths = (refl, refl, refl)
 known : (dump : List ℕ) (kinds : List Kind) → kinds_from shelf_geometry dump 0 8 ≡ kinds → length dump ≡ 4224 → record_at shelf_geometry dump ≡ (λ i. record_of (get_or kinds i Blank))
 unfolding record_at
 known dump kinds e l =
-    fun_ext (λ i. ap record_of (pages.kinds-known shelf_geometry dump 8 kinds (rw l (pages.marked).shelf-opened) e i))
+    fun_ext (λ i. ap record_of (pages.kinds_known shelf_geometry dump 8 kinds (rw l (pages.marked).shelf_opened) e i))
 
 -- ---- what is seen of an object by what pages say
 

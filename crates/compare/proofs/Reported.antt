@@ -123,11 +123,11 @@ fields_say none t at i = absurd i
 
 -- and one that differs is told
 say_fields : (s t : Option (List ℕ)) (at : ℕ) → FieldsDiffer s t at → In at (fields_of s t)
-say_fields s t at d = rw (d.one-is, d.other-is) (means_field d.a d.b at d.differs)
+say_fields s t at d = rw (d.one_is, d.other_is) (means_field d.a d.b at d.differs)
 
 -- two sizes that differ are told
 say_sizes : (s t : Option ℕ) (a b : ℕ) → SizesDiffer s t a b → In (sizes a b) (sizes_of s t)
-say_sizes s t a b d = rw (d.one-is, d.other-is, ne_eqb a b d.apart) (inl refl)
+say_sizes s t a b d = rw (d.one_is, d.other_is, ne_eqb a b d.apart) (inl refl)
 
 module _ (f g : ℕ → ℕ) where
   -- a stretch that is told differs
@@ -140,7 +140,7 @@ module _ (f g : ℕ → ℕ) where
   -- and one that differs is told
   say_stretches : (s t : Option ℕ) (k : ℕ) → StretchesDiffer f g s t k → In k (stretches_of f g s t)
   unfolding stretches_of
-  say_stretches s t k d = rw (d.one-is, d.other-is) (means_stretch f g (min d.a d.b) k d.differs)
+  say_stretches s t k d = rw (d.one_is, d.other_is) (means_stretch f g (min d.a d.b) k d.differs)
 
 -- ---- all parts
 

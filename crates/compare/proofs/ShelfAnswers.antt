@@ -18,8 +18,8 @@ pub shelf_room :
     × (prepared_on shelf_geometry shelf 7 7 13 ≡ prepared.Refused ShortBuffer 7)
 unfolding prepared_on count shelf_kinds
 shelf_room =
-    let length = (pages.marked).shelf-length in
-    let opened = (pages.marked).shelf-opened in
+    let length = (pages.marked).shelf_length in
+    let opened = (pages.marked).shelf_opened in
     (rw (length, opened, pages.shelf-says), rw (length, opened, pages.shelf-says), rw (length, opened, pages.shelf-says), rw (length, opened, pages.shelf-says))
 
 -- a report that fits, and one that does not

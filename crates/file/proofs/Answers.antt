@@ -41,8 +41,8 @@ table_answers = (refl, refl)
 -- W by a list of more records than there are numbers of pages, and by one record in one word
 pub long_list : (list : List ℕ) (size words : ℕ) → page_values ≤ length list → along_on shelf_geometry shelf list size words ≡ along.Refused BadPage 0
 unfolding along_on
-long_list list size words e = rw ((pages.marked).shelf-length, (pages.marked).shelf-opened, le-leb _ _ e)
+long_list list size words e = rw ((pages.marked).shelf_length, (pages.marked).shelf_opened, le-leb _ _ e)
 
 pub short_list : along_on shelf_geometry shelf (5 ∷ []) 300 1 ≡ along.Refused ShortBuffer 2
 unfolding along_on
-short_list = rw ((pages.marked).shelf-length, (pages.marked).shelf-opened)
+short_list = rw ((pages.marked).shelf_length, (pages.marked).shelf_opened)

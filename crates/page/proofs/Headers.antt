@@ -116,7 +116,7 @@ kind_words p q t claim.Foreign same = refl
 kind_words p q t claim.Damaged same = refl
 kind_words p q t (claim.Header sequence object) same =
     let w = same sequence object refl in
-    rw (w.page-type, w.parent, w.size, w.shrink)
+    rw (w.page_type_lem, w.parent, w.size, w.shrink)
 kind_words p q t (claim.Data d) same = refl
 
 pub kind_reads : (l : Layout) (p q : List ℕ) → SameSaid l p q → kind_of l p ≡ kind_of l q

@@ -86,7 +86,7 @@ module _ (g : Geometry) (dump : List ℕ) where
 
 -- the kinds of W by page number
 pub shelf_kind : (i : ℕ) → kind_at shelf_geometry shelf i ≡ get_or shelf_kinds i Blank
-shelf_kind = kinds_known shelf_geometry shelf 8 shelf_kinds (rw marked.shelf-length marked.shelf-opened) marked.shelf-kinds
+shelf_kind = kinds_known shelf_geometry shelf 8 shelf_kinds (rw marked.shelf_length marked.shelf_opened) marked.shelf_kinds_lem
 
 -- and the records that they are
 pub shelf_record : (i : ℕ) → record_at shelf_geometry shelf i ≡ record_of (get_or shelf_kinds i Blank)

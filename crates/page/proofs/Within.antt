@@ -271,7 +271,7 @@ module _ (g : Geometry) (dump : List ℕ) (i : ℕ) where
       (λ p q.
       let b = header_by (page_at g dump i) tags h (claim_of g.layout.«data» tags) q in
       let w = header_claimed g.layout.«data» tags h.sequence h.object b.claimed in
-      (record { page = p; named = names_word h.object.0 p w.named; sequence = w.sequence; object = w.object; page_type_lem = b.page-type }, b.says))
+      (record { page = p; named = names_word h.object.0 p w.named; sequence = w.sequence; object = w.object; page_type_lem = b.page_type_lem }, b.says))
       (λ _ q. clash (cc))
 
   kind_data : (d : «data».Data) → kind_at g dump i ≡ Data d → DataWithin g dump i d

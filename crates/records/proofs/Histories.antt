@@ -63,7 +63,7 @@ module _ {says : ℕ → Record} {P n : ℕ} {ages sizes₀ rows sizes : List �
   -- the next age is as it was
   pub next_age : (o : ℕ) → ages ≡ written says o n → i < length ages → get_or rows i 0 ≡ get_or ages i 0
   next_age o e h =
-      ap (λ (r : List ℕ). get_or r i 0) (w.laid-over o e).0
+      ap (λ (r : List ℕ). get_or r i 0) (w.laid_over o e).0
       ∙ laid_next (history_rows says P o n) ages i (omega (arith, rows_length says P o n, ap length e)) h
 
   -- one record more
@@ -75,7 +75,7 @@ module _ {says : ℕ → Record} {P n : ℕ} {ages sizes₀ rows sizes : List �
       record {
         inside = omega arith;
         rows_long = length-set rows i row ∙ w.rows_long;
-        sizes_long = length-set sizes i size ∙ w.sizes-long;
+        sizes_long = length-set sizes i size ∙ w.sizes_long;
         file = f;
         laid_over =
             λ o e.
@@ -83,8 +83,8 @@ module _ {says : ℕ → Record} {P n : ℕ} {ages sizes₀ rows sizes : List �
             let g : a ≡ followed says P (written says o n) (i + 1) = rw e at f in
             let x : row ≡ get_or (history_rows says P o n) i 0 = r ∙ rw e (sym (row_is says P o n few (good o l) i l a g)) in
             let y : size ≡ get_or (history_sizes says P o n) i 0 = s ∙ sym (size_is says P o n few (good o l) i l a g) in (
-              rw (x, (w.laid-over o e).0) (laid_more (history_rows says P o n) ages i h (omega (arith, rows_length says P o n))),
-              rw (y, (w.laid-over o e).1) (laid_more (history_sizes says P o n) sizes₀ i k (omega (arith, sizes_length says P o n))),
+              rw (x, (w.laid_over o e).0) (laid_more (history_rows says P o n) ages i h (omega (arith, rows_length says P o n))),
+              rw (y, (w.laid_over o e).1) (laid_more (history_sizes says P o n) sizes₀ i k (omega (arith, sizes_length says P o n))),
             );
       }
 
@@ -93,6 +93,6 @@ module _ {says : ℕ → Record} {P n : ℕ} {ages sizes₀ rows sizes : List �
       (o : ℕ) → ages ≡ written says o n → length ages ≤ i → length sizes₀ ≤ i → (rows ≡ history_rows says P o n) × (sizes ≡ history_sizes says P o n)
   recounted_all o e h k =
       let l = ap length e in (
-        (w.laid-over o e).0 ∙ laid_all (history_rows says P o n) ages i (omega (arith, rows_length says P o n)) h,
-        (w.laid-over o e).1 ∙ laid_all (history_sizes says P o n) sizes₀ i (omega (arith, sizes_length says P o n)) k,
+        (w.laid_over o e).0 ∙ laid_all (history_rows says P o n) ages i (omega (arith, rows_length says P o n)) h,
+        (w.laid_over o e).1 ∙ laid_all (history_sizes says P o n) sizes₀ i (omega (arith, sizes_length says P o n)) k,
       )

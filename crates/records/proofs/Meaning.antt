@@ -325,7 +325,7 @@ module _ (says : ℕ → Record) (P o n : ℕ) where
         of_data _ (says p) w.copy.is
         (λ d e its.
         stands_copy says P o n p d e (copy_is d its w.copy)
-        ∙ rw (w.newest-header, its, cutter_is says P o n w.header (begin p) few p r.0 w.cuts w.newest))
+        ∙ rw (w.newest_header_lem, its, cutter_is says P o n w.header (begin p) few p r.0 w.cuts w.newest))
     means_stands (Holds c a) w = lookup_holds c.0 (record { 0 = p }) a w.shown w.visits w.looked
     means_stands NoFile w =
         of_data _ (says p) w.copy.is

@@ -55,11 +55,11 @@ module _ {says : ℕ → Record} {P o n : ℕ} {rows₀ details₀ rows details 
     -- the words from place i on are as they were
     pub rest_rows : take (length rows - i) (drop i rows) ≡ drop i (written says o n)
     rest_rows =
-        part_rest (standing_rows says P o n) rows₀ rows i (omega (arith, w.inside, ap length own, rows_length says P o n)) w.rows-laid ∙ ap (drop i) own
+        part_rest (standing_rows says P o n) rows₀ rows i (omega (arith, w.inside, ap length own, rows_length says P o n)) w.rows_laid ∙ ap (drop i) own
 
     pub rest_details : take (length details - i) (drop i details) ≡ drop i details₀
     rest_details =
-        part_rest (standing_details says P o n) details₀ details i (omega (arith, w.inside, ap length own, details_length says P o n)) w.details-laid
+        part_rest (standing_details says P o n) details₀ details i (omega (arith, w.inside, ap length own, details_length says P o n)) w.details_laid
 
     -- one more, of the record at place i, which stands as s
     pub put_more :
@@ -67,20 +67,20 @@ module _ {says : ℕ → Record} {P o n : ℕ} {rows₀ details₀ rows details 
         PutTo says P o n rows₀ details₀ (set rows i (packed (value_of (get_or rows i 0)) (kind_of s))) (set details i (detail_of s)) (i + 1)
     put_more s h e =
         let age : get_or rows i 0 ≡ get_or (written says o n) i 0 =
-        ap (λ (r : List ℕ). get_or r i 0) w.rows-laid ∙ rw own (laid_next (standing_rows says P o n) (written says o n) i (omega (arith, rows_length says P o n)) h) in
+        ap (λ (r : List ℕ). get_or r i 0) w.rows_laid ∙ rw own (laid_next (standing_rows says P o n) (written says o n) i (omega (arith, rows_length says P o n)) h) in
         let x : packed (value_of (get_or rows i 0)) (kind_of s) ≡ get_or (standing_rows says P o n) i 0 = rw (age, e) (sym (row_at says P o n i h)) in
         let y : detail_of s ≡ get_or (standing_details says P o n) i 0 = rw e (sym (detail_at says P o n i h)) in
         record {
           inside = omega (arith, ap length own);
           rows_long = length-set rows i _ ∙ w.rows_long;
-          details_long = length-set details i _ ∙ w.details-long;
-          rows_laid = rw (x, w.rows-laid) (laid_more (standing_rows says P o n) rows₀ i (rw own h) (omega (arith, rows_length says P o n)));
-          details_laid = rw (y, w.details-laid) (laid_more (standing_details says P o n) details₀ i (omega arith) (omega (arith, details_length says P o n)));
+          details_long = length-set details i _ ∙ w.details_long;
+          rows_laid = rw (x, w.rows_laid) (laid_more (standing_rows says P o n) rows₀ i (rw own h) (omega (arith, rows_length says P o n)));
+          details_laid = rw (y, w.details_laid) (laid_more (standing_details says P o n) details₀ i (omega arith) (omega (arith, details_length says P o n)));
         }
 
     -- all
     pub put_all : length (written says o n) ≤ i → (rows ≡ standing_rows says P o n) × (details ≡ standing_details says P o n)
     put_all h = (
-      w.rows-laid ∙ laid_all (standing_rows says P o n) rows₀ i (omega (arith, rows_length says P o n)) (omega (arith, ap length own)),
-      w.details-laid ∙ laid_all (standing_details says P o n) details₀ i (omega (arith, details_length says P o n)) (omega arith),
+      w.rows_laid ∙ laid_all (standing_rows says P o n) rows₀ i (omega (arith, rows_length says P o n)) (omega (arith, ap length own)),
+      w.details_laid ∙ laid_all (standing_details says P o n) details₀ i (omega (arith, details_length says P o n)) (omega arith),
     )

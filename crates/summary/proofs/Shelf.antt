@@ -20,8 +20,8 @@ use Rattle.summary.specs.Report.{layout_line, kind_lines, ten_lines, text_of, re
 
 counts : counts_below shelf_geometry shelf 8 ≡ record { blank = 1; foreign = 0; damaged = 0; headers = 3; «data» = 4 }
 counts =
-    let opened : opened_of shelf_geometry (length shelf) ≡ Pages 8 = rw (pages.marked).shelf-length (pages.marked).shelf-opened in
-    let e = sym (counted_pages shelf_geometry shelf 8 opened) ∙ (pages.marked).shelf-counts in
+    let opened : opened_of shelf_geometry (length shelf) ≡ Pages 8 = rw (pages.marked).shelf_length (pages.marked).shelf_opened in
+    let e = sym (counted_pages shelf_geometry shelf 8 opened) ∙ (pages.marked).shelf_counts in
     cc
 
 objects : object_count (record_at shelf_geometry shelf) 8 ≡ 1
@@ -35,4 +35,4 @@ live = rw pages.shelf-says
 pub shelf_report :
     report_of shelf 4 ≡ bytes_of "layout=512/16/0\nblock=4\npages=8\nblank=1\nforeign=0\ndamaged=0\nheaders=3\ndata=4\nobjects=1\nlive=1\n"
 unfolding report_of text_of figured_of figured_by figures_at ten_lines layout_line kind_lines line_of field_of decimal digits
-shelf_report = rw (pages.shelf-found, (pages.marked).shelf-length, counts, objects, live)
+shelf_report = rw (pages.shelf-found, (pages.marked).shelf_length, counts, objects, live)

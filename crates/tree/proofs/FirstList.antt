@@ -173,13 +173,13 @@ module _ (says : ℕ → Record) (names : ℕ → List ℕ) (n : ℕ) where
     unfolding rows_at
     entry-is =
         rw (
-          ← q.its-place,
+          ← q.its_place,
           page_at_lem says n heads w place q.inside,
           stand_at says n heads w place q.inside,
           q.tested,
-          q.its-words,
-          q.its-row,
-          q.its-page,
+          q.its_words,
+          q.its_row,
+          q.its_page,
         )
 
     -- where it does not, they were put

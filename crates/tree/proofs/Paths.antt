@@ -220,7 +220,7 @@ module _ (says : ℕ → Record) (names : ℕ → List ℕ) (n : ℕ) where
 
   -- what is below a directory is in its entries
   pub under_in : (k : ℕ) (path : List ℕ) (d o : ℕ) → Below says n k d o → is_in o (under says names n k path d) ≡ true
-  under_in k path d o b = go b.steps b.some-step b.few b.arrives b.between
+  under_in k path d o b = go b.steps b.some_step b.few b.arrives b.between
     where
       go :
           (j : ℕ) → 1 ≤ j → j ≤ k → up says n j o ≡ d → ((i : ℕ) → 1 ≤ i → i < j → goes_on says n (up says n i o) ≡ true) →
@@ -387,7 +387,7 @@ module _ (says : ℕ → Record) (n : ℕ) where
   not_below_itself : (m k c : ℕ) → Depth (suc m) c → goes_on says n c ≡ true → Below says n k c c → ⊥
   unfolding below_climbs
   not_below_itself m k c a g b =
-      let s : 1 ≤ b.steps = b.some-step in
+      let s : 1 ≤ b.steps = b.some_step in
       let e : m ≡ b.steps + m = depth_one m (b.steps + m) c a (climbs_depth m c c a (below_climbs k c c b g)) in
       omega arith
 

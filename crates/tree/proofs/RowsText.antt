@@ -93,11 +93,11 @@ module _ (g : Geometry) (dump : List ℕ) where
     live-tells few o i =
         let w = live_of says n o i in
         let h = w.header in
-        let f = newest_found says (header_of o) n h w.newest-header in
+        let f = newest_found says (header_of o) n h w.newest_header_lem in
         record {
-          small = rw w.newest-header (omega (arith, f.below));
-          named = rw w.newest-header;
-          its = rw w.newest-header (of_object o (record_at g dump h) (seen_of t (record_at g dump) o h (and_left (is_of o (says h)) _ f.passes)));
+          small = rw w.newest_header_lem (omega (arith, f.below));
+          named = rw w.newest_header_lem;
+          its = rw w.newest_header_lem (of_object o (record_at g dump h) (seen_of t (record_at g dump) o h (and_left (is_of o (says h)) _ f.passes)));
         }
 
     -- ---- the entries of rows

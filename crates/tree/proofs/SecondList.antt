@@ -53,12 +53,12 @@ module _ (says : ℕ → Record) (n : ℕ) (heads : List ℕ) (w : Headed says n
       (λ x i.
       let l = live_of says n x i in
       let p = l.header in
-      let b : p < word_values = omega (arith, head_below says n x p l.newest-header, w.small) in
+      let b : p < word_values = omega (arith, head_below says n x p l.newest_header_lem, w.small) in
       let e : key_of (packed x p) ≡ x = packed_key x p b in
       let v : value_of (packed x p) ≡ p = packed_value x p b in
       rw e at
       (in_map key_of (packed x p) (keep here heads)
-      (keep_in here (packed x p) heads (w.right.all x p l.newest-header) (rw (v, l.kept)))))
+      (keep_in here (packed x p) heads (w.right.all x p l.newest_header_lem) (rw (v, l.kept)))))
 
   module _ (names : ℕ → List ℕ) where
     -- the second list is those of the rows that pass all tests

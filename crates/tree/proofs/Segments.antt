@@ -133,7 +133,7 @@ module _ (says : ℕ → Record) (names : ℕ → List ℕ) (n : ℕ) (short : n
         let c = child_of says names n d o i in
         let l = live_of says n o c.0 in
         let h = l.header in
-        let e = l.newest-header in
+        let e = l.newest_header_lem in
         let s = head_stands says n heads w o h e (omega (arith, head_below says n o h e)) in
         let j = s.0 in
         let said : said_at says heads j ≡ says h = ap says s.3 in

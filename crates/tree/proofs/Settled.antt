@@ -54,7 +54,7 @@ module _ (says : ℕ → Record) (n : ℕ) (heads : List ℕ) (o a code : ℕ) (
       (λ (e : a ≡ m). absurd (d (ap (λ (k : ℕ). up says n k o) e ∙ b.arrives)))
       (λ (k : a < m). absurd (omega (arith, b.few, far (b.between a w.step k))))
       (eq-or-lt_of_le l))
-      (λ (l : m < a). let z : false ≡ true = rw b.arrives at (w.on m b.some-step l) in clash (cc))
+      (λ (l : m < a). let z : false ≡ true = rw b.arrives at (w.on m b.some_step l) in clash (cc))
       (le_or_lt a m))
       (λ t. t)
 

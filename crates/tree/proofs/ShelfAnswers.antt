@@ -37,8 +37,8 @@ pub shelf_refusals :
     × (tree_on shelf_geometry shelf Now 3 3 2 ≡ grown.Refused ShortBuffer 3)
 unfolding tree_on count shelf_kinds
 shelf_refusals =
-    let length = (pages.marked).shelf-length in
-    let opened = (pages.marked).shelf-opened in
+    let length = (pages.marked).shelf_length in
+    let opened = (pages.marked).shelf_opened in
     (rw (length, opened), rw (length, opened, pages.shelf-says), rw (length, opened, pages.shelf-says), rw (length, opened, pages.shelf-says))
 
 -- a text that fits, and one that does not

@@ -64,7 +64,7 @@ shelf_refusals = ap asked pages.shelf-says ∙ computed
 pub shelf_short :
     (spans_on shelf_geometry shelf Now 257 12 ≡ spanned.Refused ShortBuffer 13) × (why_on shelf_geometry shelf Now 257 0 12 ≡ told.Refused ShortBuffer 13)
 unfolding spans_on why_on filed_in file_of file_by file_at bad_object bad_chunk marks_to cut_of since newest_where gather shelf_kinds
-shelf_short = (rw ((pages.marked).shelf-length, (pages.marked).shelf-opened, pages.shelf-says), rw ((pages.marked).shelf-length, (pages.marked).shelf-opened, pages.shelf-says))
+shelf_short = (rw ((pages.marked).shelf_length, (pages.marked).shelf_opened, pages.shelf-says), rw ((pages.marked).shelf_length, (pages.marked).shelf_opened, pages.shelf-says))
 
 -- past the end a reason holds up to the largest position
 pub shelf_until : until_of (record_at shelf_geometry shelf) 512 257 8 4 1034 ≡ 0xFFFFFFFFFFFFFFFF

@@ -149,10 +149,10 @@ module _ (says : ℕ → Record) (P o h n : ℕ) (few : n < page_values) (some-d
       take_bare : (x : ℕ) → k ≡ mark_of x no_page → Sighted more s
       take_bare x e = record {
         newest_cut =
-            latest_same says (CutIn A) (CutIn more) s.cut before.newest-cut cut-kept
+            latest_same says (CutIn A) (CutIn more) s.cut before.newest_cut cut-kept
             (λ q i. cut_parts (CutIn A q) q i (λ a w f. absurd (none q a w.below (f ∙ e))) (λ j. j));
         newest_copy_lem =
-            latest_same says (CopyIn A s.chunk) (CopyIn more s.chunk) s.copy before.newest-copy (copy-kept s.chunk)
+            latest_same says (CopyIn A s.chunk) (CopyIn more s.chunk) s.copy before.newest_copy_lem (copy-kept s.chunk)
             (λ q i. copy_parts (CopyIn A s.chunk q) s.chunk q i (λ w f. absurd (none q _ w.below (f ∙ e))) (λ j. j));
         highest = λ q c i. copy_parts (c ≤ s.chunk) c q i (λ w f. absurd (none q _ w.below (f ∙ e))) (λ j. before.highest q c j);
         one = copied-kept s.chunk before.one;
@@ -167,10 +167,10 @@ module _ (says : ℕ → Record) (P o h n : ℕ) (few : n < page_values) (some-d
           Sighted more (record { cut = later_in s.cut p (age_of says p); chunk = s.chunk; copy = s.copy })
       take-cut p a w e = record {
         newest_cut =
-            latest_more says (CutIn A) (CutIn more) s.cut p before.newest-cut record { place = a; is = w; there = rw (← e) last } cut-kept
+            latest_more says (CutIn A) (CutIn more) s.cut p before.newest_cut record { place = a; is = w; there = rw (← e) last } cut-kept
             (λ q i. cut_parts ((q ≡ p) ⊎ CutIn A q) q i (λ b v f. inl (same q b v.below (f ∙ e))) (λ j. inr j));
         newest_copy_lem =
-            latest_same says (CopyIn A s.chunk) (CopyIn more s.chunk) s.copy before.newest-copy (copy-kept s.chunk)
+            latest_same says (CopyIn A s.chunk) (CopyIn more s.chunk) s.copy before.newest_copy_lem (copy-kept s.chunk)
             (λ q i. copy_parts (CopyIn A s.chunk q) s.chunk q i (λ v f. absurd (other q s.chunk v (f ∙ e))) (λ j. j));
         highest = λ q c i. copy_parts (c ≤ s.chunk) c q i (λ v f. absurd (other q c v (f ∙ e))) (λ j. before.highest q c j);
         one = copied-kept s.chunk before.one;
@@ -197,7 +197,7 @@ module _ (says : ℕ → Record) (P o h n : ℕ) (few : n < page_values) (some-d
         -- so the newest header passed stays
         cuts : Latest says (CutIn more) s.cut
         cuts =
-            latest_same says (CutIn A) (CutIn more) s.cut before.newest-cut cut-kept
+            latest_same says (CutIn A) (CutIn more) s.cut before.newest_cut cut-kept
             (λ q i. cut_parts (CutIn A q) q i (λ a v f. absurd (header q a v (f ∙ e))) (λ j. j))
 
         -- the data itself is passed now
@@ -209,7 +209,7 @@ module _ (says : ℕ → Record) (P o h n : ℕ) (few : n < page_values) (some-d
         take_same z = record {
           newest_cut = cuts;
           newest_copy_lem =
-              latest_more says (CopyIn A s.chunk) (CopyIn more s.chunk) s.copy p before.newest-copy (rw (← z) new) (copy-kept s.chunk)
+              latest_more says (CopyIn A s.chunk) (CopyIn more s.chunk) s.copy p before.newest_copy_lem (rw (← z) new) (copy-kept s.chunk)
               (λ q i. copy_parts ((q ≡ p) ⊎ CopyIn A s.chunk q) s.chunk q i (λ v f. inl (same q _ v.below (f ∙ e))) (λ j. inr j));
           highest = λ q d i. copy_parts (d ≤ s.chunk) d q i (λ v f. omega (arith, chunk q d v (f ∙ e), z)) (λ j. before.highest q d j);
           one = inr record { page = p; copy = rw (← z) new };
@@ -358,7 +358,7 @@ module _ (says : ℕ → Record) (P o h n : ℕ) (few : n < page_values) (some-d
         (λ t.
         let e : s.chunk ≡ c = eqb-true _ _ t in
         let m = rw e at l in
-        rw (t, a_copy q.0 m.0 (λ r i. le_trans (m.2 r i) (omega (arith, m.1)))) (behind q age l.1 s.cut w.newest-cut))
+        rw (t, a_copy q.0 m.0 (λ r i. le_trans (m.2 r i) (omega (arith, m.1)))) (behind q age l.1 s.cut w.newest_cut))
         (λ t.
         rw (
           t,
@@ -373,4 +373,4 @@ module _ (says : ℕ → Record) (P o h n : ℕ) (few : n < page_values) (some-d
     -- so the reason is that of the place
     pub reason_seen_lem : reason_seen says P s x ≡ reason_by says P o n h x (copy_for says P o n h x)
     unfolding reason_seen
-    reason_seen_lem = by_copy s.copy w.newest-copy
+    reason_seen_lem = by_copy s.copy w.newest_copy_lem

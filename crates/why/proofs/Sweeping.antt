@@ -129,14 +129,14 @@ module _ (says : ℕ → Record) (P o n h : ℕ) (some-data : 0 < P) (most-data 
 
     -- its page is taken in
     seen_more : Sighted says P o h n few some-data next (taken says s k)
-    seen_more = take_in says P o h n few some-data A k s w.sighted a-mark (every_weaker (λ m. m ≤ b) (λ m. m ≤ k) (λ m e. omega (arith, e, up)) A w.passed-below)
+    seen_more = take_in says P o h n few some-data A k s w.sighted a-mark (every_weaker (λ m. m ≤ b) (λ m. m ≤ k) (λ m e. omega (arith, e, up)) A w.passed_below)
 
     -- so the sweep stands one mark further
     stand : (code : ℕ) → Ready (edge L) code → Standing next L (taken says s k) code k
     stand last' r = record {
       sighted = seen_more;
       rising = ahead;
-      passed_below = snoc-every A w.passed-below;
+      passed_below = snoc-every A w.passed_below;
       all = λ m i. ⊎_elim (λ j. inl (joined_in m A (k ∷ []) (inl j))) (λ j. ⊎_elim (λ e. inl (joined_in m A (k ∷ []) (inr (inl e)))) (λ z. inr z) j) (w.all m i);
       each = λ m i. ⊎_elim (λ j. ⊎_elim (λ e. w.each m (inr (inl e))) (λ z. w.each m (inl z)) (snoc_in m k A j)) (λ j. w.each m (inr (inr j))) i;
       ready = r;
@@ -184,7 +184,7 @@ module _ (says : ℕ → Record) (P o n h : ℕ) (some-data : 0 < P) (most-data 
 
       -- and nothing behind it
       upto : (m : ℕ) → In m next → place_of m ≤ x
-      upto m i = place_le m k (every_in (λ v. v ≤ k) m next (snoc-every A w.passed-below) i)
+      upto m i = place_le m k (every_in (λ v. v ≤ k) m next (snoc-every A w.passed_below) i)
 
       -- so the reason is that of the place
       own_code : code_of (reason_seen says P (taken says s k) x) ≡ code x

@@ -268,7 +268,7 @@ module _
         (λ u. record { header = h; newest_header_lem = e; kept = u })
 
     live-stands : (o : ℕ) (w : Live S n o) → is_asked (stands_by (newest_header S o n)) ≡ true
-    live-stands o w = rw (w.newest-header, w.kept)
+    live-stands o w = rw (w.newest_header_lem, w.kept)
 
     -- a record of an object in the dump so read is one of its added records
     added-record : (o p : ℕ) → 0 < o → p < n → is_of o (S p) ≡ true → In p (R o)
@@ -309,7 +309,7 @@ module _
     live-found : (o : ℕ) → Live S n o → Found ask.Live says P c n o
     live-found o w =
         let h = w.header in
-        let f = newest_found S (header_of o) n h w.newest-header in
+        let f = newest_found S (header_of o) n h w.newest_header_lem in
         let r = header-pos o h f.passes in
         (r.0, key-found o h r.0 (added-record o h r.0 f.below r.1), rw (live-held o r.0) (live-stands o w))
 

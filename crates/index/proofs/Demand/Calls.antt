@@ -83,5 +83,5 @@ module _ (g : Geometry) (dump cells : List ℕ) where
 pub shelf_start : (c : List ℕ) (seed : ℕ) → length c ≡ 48 → (start_of shelf_geometry shelf c seed).answer ≡ Done
 unfolding start_of start_in
 shelf_start c seed e =
-    let opened : opened_of shelf_geometry (length shelf) ≡ Pages 8 = rw (pages.marked).shelf-length (pages.marked).shelf-opened in
+    let opened : opened_of shelf_geometry (length shelf) ≡ Pages 8 = rw (pages.marked).shelf_length (pages.marked).shelf_opened in
     rw (opened, e)

@@ -7,10 +7,8 @@ use Rattle.report.proofs.write_printed.Goals as goal
 
 pub returns-then-input-gt-MOST : goal.returns-then-input-gt-MOST
 unfolding printed_of
-returns-then-input-gt-MOST c =
-    rw (lt-ltb most_read (length c.args.input.now) (search rules)) c.write_refusal.ensures
+returns-then-input-gt-MOST c = rw (lt-ltb most_read (length c.args.input.now) (search rules)) c.write_refusal.ensures
 
 pub returns : goal.returns
 unfolding printed_of
-returns c =
-    rw (le-ltb most_read (length c.args.input.now) (search rules)) c.write_report.ensures
+returns c = rw (le-ltb most_read (length c.args.input.now) (search rules)) c.write_report.ensures

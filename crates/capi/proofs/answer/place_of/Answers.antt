@@ -7,11 +7,10 @@ use Rattle.page.proofs.Lengths.{page_within}
 use Rattle.capi.proofs.answer.place_of.Goals as goal
 
 pub returns-then-not-holds : goal.returns-then-not-holds
-returns-then-not-holds c = rw (← c.holds.ensures, not-true c.holds.result c.if-not-holds.true)
+returns-then-not-holds c = rw (← c.holds.ensures, c.if-not-holds.true)
 
 pub returns-then-g-valid : goal.returns-then-g-valid
-returns-then-g-valid c =
-    rw (← c.holds.ensures, not-false c.holds.result c.if-not-holds.false, lt-leb _ _ c.if-g-valid.true)
+returns-then-g-valid c = rw (← c.holds.ensures, c.if-not-holds.false, lt-leb _ _ c.if-g-valid.true)
 
 -- the page ends within the dump
 within : (c : goal.After-page_len) → let a = c.args in a.p.0 * c.page_len.result + c.page_len.result ≤ a.len
@@ -23,5 +22,4 @@ pub overflow_mul-result : goal.overflow_mul-result
 overflow_mul-result c = omega (arith, within c)
 
 pub returns : goal.returns
-returns c =
-    rw (← c.holds.ensures, not-false c.holds.result c.if-not-holds.false, le-leb _ _ c.if-g-valid.false, c.page_len.ensures.value)
+returns c = rw (← c.holds.ensures, c.if-not-holds.false, le-leb _ _ c.if-g-valid.false, c.page_len.ensures.value)

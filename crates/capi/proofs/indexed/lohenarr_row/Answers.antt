@@ -10,5 +10,4 @@ pub returns-then-place-lt2 : goal.returns-then-place-lt2
 returns-then-place-lt2 c = record { value = rw (lt-ltb _ _ c.if-place-lt2.true); dump_value = sym (row_none _ _ _ _ c.if-place-lt2.true) }
 
 pub returns : goal.returns
-returns c =
-    let a = c.args in record { value = rw (le-ltb _ _ c.if-place-lt2.false, ← c.geometry_at.ensures) c.place_of.ensures; dump_value = rw (row_page _ _ _ _ c.if-place-lt2.false, c.place_of.ensures, c.geometry_at.ensures) (valid_here _ a.dump.now _ _) }
+returns c = let a = c.args in record { value = rw (le-ltb _ _ c.if-place-lt2.false, ← c.geometry_at.ensures) c.place_of.ensures; dump_value = rw (row_page _ _ _ _ c.if-place-lt2.false, c.place_of.ensures, c.geometry_at.ensures) (valid_here _ a.dump.now _ _) }

@@ -11,9 +11,7 @@ use Rattle.capi.specs.Headers.{text_answer}
 use Rattle.capi.proofs.text.text_answer.Goals as goal
 
 -- the page ends within the dump
-page-place :
-    (c : goal.After-page_len) →
-    let a = c.args in
+page-place : (c : goal.After-page_len) → let a = c.args in
     a.page * c.page_len.result + c.page_len.result ≤ length a.dump.now
 page-place c =
     let a = c.args in
@@ -27,12 +25,11 @@ overflow_mul-result c = omega (arith, page-place c)
 pub overflow_add-result : goal.overflow_add-result
 overflow_add-result c =
     let a = c.args in
-    omega (arith, page-place c.before, c.place.ensures, text_fits a.f)
+    omega (arith, page-place (goal.at.overflow_add-result c).After-page_len, c.place.ensures, text_fits a.f)
 
 pub returns-in-Refused : goal.returns-in-Refused
 unfolding text_answer
-returns-in-Refused c =
-    rw (← c.geometry_at-g.ensures, ← c.header-h.ensures, c.in-Refused.is, c.number.ensures)
+returns-in-Refused c = rw (← c.geometry_at-g.ensures, ← c.header-h.ensures, c.in-Refused.is, c.number.ensures)
 
 pub returns-in-Fields : goal.returns-in-Fields
 unfolding text_answer

@@ -10,20 +10,16 @@ returns-then-gone_under c = rw (← c.gone_under.ensures, c.if-gone_under.true)
 
 pub returns-then-h-ne-FILE : goal.returns-then-h-ne-FILE
 unfolding cut_of
-returns-then-h-ne-FILE c =
-    rw (← c.gone_under.ensures, c.if-gone_under.false, ne_eqb _ _ c.if-h-ne-FILE.true)
+returns-then-h-ne-FILE c = rw (← c.gone_under.ensures, c.if-gone_under.false, ne_eqb _ _ c.if-h-ne-FILE.true)
 
 pub returns-then-h : goal.returns-then-h
 unfolding cut_of
-returns-then-h c =
-    rw (← c.gone_under.ensures, c.if-gone_under.false, eq-eqb _ _ c.if-h-ne-FILE.false, c.if-h.true)
+returns-then-h c = rw (← c.gone_under.ensures, c.if-gone_under.false, eq-eqb _ _ c.if-h-ne-FILE.false, c.if-h.true)
 
 pub returns-then-newest : goal.returns-then-newest
 unfolding cut_of
-returns-then-newest c =
-    rw (← c.gone_under.ensures, c.if-gone_under.false, eq-eqb _ _ c.if-h-ne-FILE.false, c.if-h.false, c.if-newest.true)
+returns-then-newest c = rw (← c.gone_under.ensures, c.if-gone_under.false, eq-eqb _ _ c.if-h-ne-FILE.false, c.if-h.false, c.if-newest.true)
 
 pub returns : goal.returns
 unfolding cut_of
-returns c =
-    rw (← c.gone_under.ensures, c.if-gone_under.false, eq-eqb _ _ c.if-h-ne-FILE.false, c.if-h.false, c.if-newest.false)
+returns c = rw (← c.gone_under.ensures, c.if-gone_under.false, eq-eqb _ _ c.if-h-ne-FILE.false, c.if-h.false, c.if-newest.false)

@@ -23,24 +23,17 @@ loop-i-preserved-in_default c =
     let h : is_header (says q.i) ≡ false = rw (← c.record_at-r.ensures) (else_header c.record_at-r.result c.in_default.keys2) in
     (search rules, search rules, q.invariant.2 ∙ sym (count_skip _ q.i (live_other says a.pages q.i h)))
 
--- whether the page is live, by the call
-called :
-    (c : goal.After-is_live) →
-    let a = c.args in
-    live_page (record_at a.g a.dump.now) a.pages c.loop-i.i ≡ c.is_live.result
-called c =
-    let a = c.args in
-    live_header (record_at a.g a.dump.now) a.pages c.loop-i.i _ (sym c.record_at-r.ensures ∙ c.in-Header.is) ∙ sym c.is_live.ensures
-
 pub loop-i-preserved-then-not-is_live : goal.loop-i-preserved-then-not-is_live
 loop-i-preserved-then-not-is_live c =
+    let called : let a = c.args in live_page (record_at a.g a.dump.now) a.pages c.loop-i.i ≡ c.is_live.result = let a = c.args in live_header (record_at a.g a.dump.now) a.pages c.loop-i.i _ (sym c.record_at-r.ensures ∙ c.in-Header.is) ∙ sym c.is_live.ensures in
     let q = c.loop-i in
-    (search rules, search rules, q.invariant.2 ∙ sym (count_skip _ q.i (called c.before ∙ not-true c.is_live.result c.if-not-is_live.true)))
+    (search rules, search rules, q.invariant.2 ∙ sym (count_skip _ q.i (called ∙ c.if-not-is_live.true)))
 
 pub loop-i-preserved : goal.loop-i-preserved
 loop-i-preserved c =
+    let called : let a = c.args in live_page (record_at a.g a.dump.now) a.pages c.loop-i.i ≡ c.is_live.result = let a = c.args in live_header (record_at a.g a.dump.now) a.pages c.loop-i.i _ (sym c.record_at-r.ensures ∙ c.in-Header.is) ∙ sym c.is_live.ensures in
     let q = c.loop-i in
-    (search rules, search rules, rw q.invariant.2 (sym (count_take _ q.i (called c.before ∙ not-false c.is_live.result c.if-not-is_live.false))))
+    (search rules, search rules, rw q.invariant.2 (sym (count_take _ q.i (called ∙ c.if-not-is_live.false))))
 
 pub returns : goal.returns
 unfolding live_count

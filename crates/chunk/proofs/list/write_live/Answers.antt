@@ -24,34 +24,25 @@ loop-i-preserved-in_default c =
     let t = live_other says a.pages q.i h in
     (search rules, listed_skip q.invariant.1 t)
 
--- whether the page is live, by the call
-called :
-    (c : goal.After-is_live) →
-    let a = c.args in
-    live_page (record_at a.g a.dump.now) a.pages c.loop-i.i ≡ c.is_live.result
-called c =
-    let a = c.args in
-    live_header (record_at a.g a.dump.now) a.pages c.loop-i.i _ (sym c.record_at-r.ensures ∙ c.in-Header.is) ∙ sym c.is_live.ensures
-
 pub loop-i-preserved-then-not-is_live : goal.loop-i-preserved-then-not-is_live
 loop-i-preserved-then-not-is_live c =
+    let called : let a = c.args in live_page (record_at a.g a.dump.now) a.pages c.loop-i.i ≡ c.is_live.result = let a = c.args in live_header (record_at a.g a.dump.now) a.pages c.loop-i.i _ (sym c.record_at-r.ensures ∙ c.in-Header.is) ∙ sym c.is_live.ensures in
     let q = c.loop-i in
-    let t = called c.before ∙ not-true c.is_live.result c.if-not-is_live.true in
+    let t = called ∙ c.if-not-is_live.true in
     (search rules, listed_skip q.invariant.1 t)
 
 pub loop-i-preserved : goal.loop-i-preserved
 unfolding live_count
 loop-i-preserved c =
-    let w = c.before.before in
-    let f = w.before.before in
-    let q = f.loop-i in
-    let a = f.args in
+    let called : let a = c.args in live_page (record_at a.g a.dump.now) a.pages c.loop-i.i ≡ c.is_live.result = let a = c.args in live_header (record_at a.g a.dump.now) a.pages c.loop-i.i _ (sym c.record_at-r.ensures ∙ c.in-Header.is) ∙ sym c.is_live.ensures in
+    let q = c.loop-i in
+    let a = c.args in
     let says = record_at a.g a.dump.now in
     let test = live_page says a.pages in
-    let t : test q.i ≡ true = called f.before ∙ not-false f.is_live.result f.if-not-is_live.false in
-    let o : object_at says q.i ≡ f.in-Header.h.object.0 = ap object_of (sym f.record_at-r.ensures ∙ f.in-Header.is) in
-    let room = listed_room q.invariant.1 a.pages f.loop-i-test.true t f.requires in
-    (search rules, listed_more q.invariant.1 _ t room (rw o w.put_id.ensures))
+    let t : test q.i ≡ true = called ∙ c.if-not-is_live.false in
+    let o : object_at says q.i ≡ c.in-Header.h.object.0 = ap object_of (sym c.record_at-r.ensures ∙ c.in-Header.is) in
+    let room = listed_room q.invariant.1 a.pages c.loop-i-test.true t c.requires in
+    (search rules, listed_more q.invariant.1 _ t room (rw o c.put_id.ensures))
 
 pub returns : goal.returns
 unfolding live_ids

@@ -5,8 +5,7 @@ use Rattle.chunk.proofs.lookup.copy_at.Goals as goal
 
 pub returns-then-hides : goal.returns-then-hides
 unfolding copy_at
-returns-then-hides c =
-    rw (← c.requires, ← c.lowest_cut-cut.ensures, ← c.base_of-base.ensures.value, ← c.hides.ensures, c.if-hides.true, ← c.records_since.ensures)
+returns-then-hides c = rw (← c.requires, ← c.lowest_cut-cut.ensures, ← c.base_of-base.ensures.value, ← c.hides.ensures, c.if-hides.true, ← c.records_since.ensures)
 
 pub returns : goal.returns
 unfolding copy_at

@@ -14,15 +14,12 @@ returns-in_default c =
 
 pub returns-then-gone_under : goal.returns-then-gone_under
 unfolding file_at
-returns-then-gone_under c =
-    rw (c.in-Header.is, ← c.gone_under.ensures, c.if-gone_under.true)
+returns-then-gone_under c = rw (c.in-Header.is, ← c.gone_under.ensures, c.if-gone_under.true)
 
 pub returns-then-header-ne-FILE : goal.returns-then-header-ne-FILE
 unfolding file_at
-returns-then-header-ne-FILE c =
-    rw (c.in-Header.is, ← c.gone_under.ensures, c.if-gone_under.false, ne_eqb _ _ c.if-header-ne-FILE.true)
+returns-then-header-ne-FILE c = rw (c.in-Header.is, ← c.gone_under.ensures, c.if-gone_under.false, ne_eqb _ _ c.if-header-ne-FILE.true)
 
 pub returns : goal.returns
 unfolding file_at
-returns c =
-    rw (c.in-Header.is, ← c.gone_under.ensures, c.if-gone_under.false, eq-eqb _ _ c.if-header-ne-FILE.false)
+returns c = rw (c.in-Header.is, ← c.gone_under.ensures, c.if-gone_under.false, eq-eqb _ _ c.if-header-ne-FILE.false)

@@ -9,13 +9,11 @@ returns-then-is_bad c = rw (← c.is_bad.ensures, c.if-is_bad.true)
 
 pub returns-then-is_bad-2 : goal.returns-then-is_bad-2
 unfolding looked_of
-returns-then-is_bad-2 c =
-    rw (← c.is_bad.ensures, c.if-is_bad.false, ← c.is_bad-2.ensures, c.if-is_bad-2.true)
+returns-then-is_bad-2 c = rw (← c.is_bad.ensures, c.if-is_bad.false, ← c.is_bad-2.ensures, c.if-is_bad-2.true)
 
 pub returns-in-Refused : goal.returns-in-Refused
 unfolding looked_of looked_by
-returns-in-Refused c =
-    rw (← c.is_bad.ensures, c.if-is_bad.false, ← c.is_bad-2.ensures, c.if-is_bad-2.false, ← c.file_of-f.ensures, c.in-Refused.is)
+returns-in-Refused c = rw (← c.is_bad.ensures, c.if-is_bad.false, ← c.is_bad-2.ensures, c.if-is_bad-2.false, ← c.file_of-f.ensures, c.in-Refused.is)
 
 pub returns-in-Header : goal.returns-in-Header
 unfolding looked_of looked_by

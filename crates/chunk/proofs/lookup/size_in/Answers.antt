@@ -9,10 +9,8 @@ returns-then-is_bad c = rw (← c.is_bad.ensures, c.if-is_bad.true)
 
 pub returns-in-Refused : goal.returns-in-Refused
 unfolding sized_of sized_by
-returns-in-Refused c =
-    rw (← c.is_bad.ensures, c.if-is_bad.false, ← c.file_of-f.ensures, c.in-Refused.is)
+returns-in-Refused c = rw (← c.is_bad.ensures, c.if-is_bad.false, ← c.file_of-f.ensures, c.in-Refused.is)
 
 pub returns-in-Header : goal.returns-in-Header
 unfolding sized_of sized_by
-returns-in-Header c =
-    rw (← c.is_bad.ensures, c.if-is_bad.false, ← c.file_of-f.ensures, c.in-Header.is, c.type_size.ensures)
+returns-in-Header c = rw (← c.is_bad.ensures, c.if-is_bad.false, ← c.file_of-f.ensures, c.in-Header.is, c.type_size.ensures)

@@ -9,7 +9,7 @@ returns c =
     let d = c.before.before in
     let k = d.before.before.before in
     rw (
-      ← k.record-at.ensures,
+      ← k.record_at_lem.ensures,
       ← d.before.before.sequence-of.ensures,
       ← d.before.order-of.ensures,
       ← d.data-end.ensures,

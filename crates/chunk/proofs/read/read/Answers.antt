@@ -3,5 +3,4 @@ use borrow.Author.Rules.{rules}
 use Rattle.chunk.proofs.read.read.Goals as goal
 
 pub returns : goal.returns
-returns c =
-    record { value = rw (← c.chunk.ensures) c.read_into.ensures.value; buffer_after = c.read_into.ensures.buffer_after }
+returns c = record { value = rw (← c.chunk.ensures) c.read_into.ensures.value; buffer_after = c.read_into.ensures.buffer_after }

@@ -13,32 +13,24 @@ use Rattle.page.proofs.Pages.{page_front}
 use Rattle.chunk.specs.Answers.{valid_part}
 use Rattle.chunk.proofs.read.valid_part.Goals as goal
 
-lies :
-    (c : goal.Else-not-holds) →
-    let a = c.args in page_in a.g (length a.dump.now) a.p.0 ≡ true
-lies c = rw (← c.holds.ensures) (not-false c.holds.result c.if-not-holds.false)
-
 -- the part ends within the dump
-within :
-    (c : goal.After-page_len) →
-    let a = c.args in
+within : (c : goal.After-page_len) → let a = c.args in
     a.p.0 * c.page_len.result + a.valid ≤ length a.dump.now
 within c =
-    let d = c.before.before in
-    let e = d.before.before in
-    let a = e.args in
-    let w = rw (← c.page_len.ensures.value) at (page_within a.g (length a.dump.now) a.p.0 (lies e)).ends in
-    omega (arith, c.page_len.ensures.value, d.if-g-valid.false)
+    let lies : let a = c.args in page_in a.g (length a.dump.now) a.p.0 ≡ true = rw (← c.holds.ensures) (not-false c.holds.result c.if-not-holds.false) in
+    let a = c.args in
+    let w = rw (← c.page_len.ensures.value) at (page_within a.g (length a.dump.now) a.p.0 lies).ends in
+    omega (arith, c.page_len.ensures.value, c.if-g-valid.false)
 
 pub returns-then-not-holds : goal.returns-then-not-holds
 unfolding valid_part
-returns-then-not-holds c = rw (← c.holds.ensures, not-true c.holds.result c.if-not-holds.true)
+returns-then-not-holds c = rw (← c.holds.ensures, c.if-not-holds.true)
 
 pub returns-then-g-valid : goal.returns-then-g-valid
 unfolding valid_part
 returns-then-g-valid c =
-    let e = c.before.before.before in
-    rw (lies e, lt-leb _ _ c.if-g-valid.true)
+    let lies : let a = c.args in page_in a.g (length a.dump.now) a.p.0 ≡ true = rw (← c.holds.ensures) c.if-not-holds.false in
+    rw (lies, lt-leb _ _ c.if-g-valid.true)
 
 pub overflow_mul-a : goal.overflow_mul-a
 overflow_mul-a c = omega (arith, within c)
@@ -52,13 +44,12 @@ slice_bounds-result-end-2 c = omega (arith, within c)
 pub returns : goal.returns
 unfolding valid_part
 returns c =
-    let d = c.before.before.before in
-    let e = d.before.before in
-    let a = e.args in
+    let lies : let a = c.args in page_in a.g (length a.dump.now) a.p.0 ≡ true = rw (← c.holds.ensures) c.if-not-holds.false in
+    let a = c.args in
     rw (
       add-sub_cancel_left,
-      lies e,
-      le-leb _ _ d.if-g-valid.false,
-      page_front a.g a.dump.now a.p.0 a.valid (omega (arith, d.if-g-valid.false)),
+      lies,
+      le-leb _ _ c.if-g-valid.false,
+      page_front a.g a.dump.now a.p.0 a.valid (omega (arith, c.if-g-valid.false)),
       c.page_len.ensures.value,
     )

@@ -12,8 +12,7 @@ returns-then-header-o c = rw (ne_eqb _ _ c.if-header-o.true)
 
 pub returns-then-order_of-age : goal.returns-then-order_of-age
 unfolding cut_with
-returns-then-order_of-age c =
-    rw (eq-eqb _ _ c.if-header-o.false, ← c.order_of.ensures, le-ltb _ _ c.if-order_of-age.true)
+returns-then-order_of-age c = rw (eq-eqb _ _ c.if-header-o.false, ← c.order_of.ensures, le-ltb _ _ c.if-order_of-age.true)
 
 pub returns : goal.returns
 unfolding cut_with cut_of

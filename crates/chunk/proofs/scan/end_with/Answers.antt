@@ -10,8 +10,7 @@ returns-then-d-o c = rw (ne_eqb _ _ c.if-d-o.true)
 
 pub returns-then-order_of-age : goal.returns-then-order_of-age
 unfolding end_with
-returns-then-order_of-age c =
-    rw (eq-eqb _ _ c.if-d-o.false, ← c.order_of.ensures, le-ltb _ _ c.if-order_of-age.true)
+returns-then-order_of-age c = rw (eq-eqb _ _ c.if-d-o.false, ← c.order_of.ensures, le-ltb _ _ c.if-order_of-age.true)
 
 pub returns : goal.returns
 unfolding end_with

@@ -22,7 +22,7 @@ loop-i-preserved-then-not-names_object c =
     let q = c.loop-i in
     let a = c.args in
     let says = seen_by a.t (record_at a.g a.dump.now) in
-    let u : names_at a.g a.dump.now q.i a.o.0 ≡ false = rw (← c.names_object.ensures) (not-true c.names_object.result c.if-not-names_object.true) in
+    let u : names_at a.g a.dump.now q.i a.o.0 ≡ false = rw (← c.names_object.ensures) c.if-not-names_object.true in
     let t : is_of a.o.0 (says q.i) ≡ false = seen_unnamed a.g a.dump.now q.i a.o.0 u a.t in
     (search rules, q.invariant.1 ∙ sym (cut_other says a.o.0 a.h.0 a.age q.i t))
 

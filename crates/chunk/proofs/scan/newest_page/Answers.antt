@@ -22,7 +22,7 @@ loop-i-preserved-then-not-names_object c =
     let q = c.loop-i in
     let a = c.args in
     let says = seen_by a.t (record_at a.g a.dump.now) in
-    let u : names_at a.g a.dump.now q.i a.o.0 ≡ false = rw (← c.names_object.ensures) (not-true c.names_object.result c.if-not-names_object.true) in
+    let u : names_at a.g a.dump.now q.i a.o.0 ≡ false = rw (← c.names_object.ensures) c.if-not-names_object.true in
     let t : is_of a.o.0 (says q.i) ≡ false = seen_unnamed a.g a.dump.now q.i a.o.0 u a.t in
     (search rules, q.invariant.1 ∙ ap (newest_in says) (sym (where_skip says (λ p. wanted a.o.0 a.w (says p)) q.i (rw t))))
 
@@ -32,7 +32,7 @@ loop-i-preserved-then-not-is_wanted c =
     let a = c.args in
     let says = seen_by a.t (record_at a.g a.dump.now) in
     let t : wanted a.o.0 a.w (says q.i) ≡ false =
-    rw (← c.seen_at-r.ensures, ← c.is_wanted.ensures) (not-true c.is_wanted.result c.if-not-is_wanted.true)
+    rw (← c.seen_at-r.ensures, ← c.is_wanted.ensures) c.if-not-is_wanted.true
     in
     (search rules, q.invariant.1 ∙ ap (newest_in says) (sym (where_skip says (λ p. wanted a.o.0 a.w (says p)) q.i t)))
 
@@ -43,7 +43,7 @@ loop-i-preserved c =
     let says = seen_by a.t (record_at a.g a.dump.now) in
     let test = wanted a.o.0 a.w in
     let t : test (says q.i) ≡ true =
-    rw (← c.seen_at-r.ensures, ← c.is_wanted.ensures) (not-false c.is_wanted.result c.if-not-is_wanted.false)
+    rw (← c.seen_at-r.ensures, ← c.is_wanted.ensures) c.if-not-is_wanted.false
     in
     let g : c.order_of.result ≡ age_of says q.i = rw (← c.seen_at-r.ensures, ← c.sequence_of.ensures) c.order_of.ensures in (
       search rules,

@@ -21,7 +21,7 @@ loop-i-preserved-then-not-names_object c =
     let q = c.loop-i in
     let a = c.args in
     let says = seen_by a.t (record_at a.g a.dump.now) in
-    let u : names_at a.g a.dump.now q.i a.o.0 ≡ false = rw (← c.names_object.ensures) (not-true c.names_object.result c.if-not-names_object.true) in
+    let u : names_at a.g a.dump.now q.i a.o.0 ≡ false = rw (← c.names_object.ensures) c.if-not-names_object.true in
     let t : is_of a.o.0 (says q.i) ≡ false = seen_unnamed a.g a.dump.now q.i a.o.0 u a.t in
     (search rules, search rules, q.invariant.2 ∙ sym (since_skip says a.o.0 a.age q.i t))
 
@@ -31,7 +31,7 @@ loop-i-preserved-then-not-is_wanted c =
     let a = c.args in
     let says = seen_by a.t (record_at a.g a.dump.now) in
     let t : is_of a.o.0 (says q.i) ≡ false =
-    rw (← c.seen_at-r.ensures, ← and_true (is_of a.o.0 c.seen_at-r.result), ← c.is_wanted.ensures) (not-true c.is_wanted.result c.if-not-is_wanted.true)
+    rw (← c.seen_at-r.ensures, ← and_true (is_of a.o.0 c.seen_at-r.result), ← c.is_wanted.ensures) c.if-not-is_wanted.true
     in
     (search rules, search rules, q.invariant.2 ∙ sym (since_skip says a.o.0 a.age q.i t))
 
@@ -49,7 +49,7 @@ loop-i-preserved c =
     let a = c.args in
     let says = seen_by a.t (record_at a.g a.dump.now) in
     let t : is_of a.o.0 (says q.i) ≡ true =
-    rw (← c.seen_at-r.ensures, ← and_true (is_of a.o.0 c.seen_at-r.result), ← c.is_wanted.ensures) (not-false c.is_wanted.result c.if-not-is_wanted.false)
+    rw (← c.seen_at-r.ensures, ← and_true (is_of a.o.0 c.seen_at-r.result), ← c.is_wanted.ensures) c.if-not-is_wanted.false
     in
     let g : a.age ≤ age_of says q.i = rw (← c.seen_at-r.ensures, ← c.sequence_of.ensures, ← c.order_of.ensures) c.if-order_of-age.false in
     (search rules, search rules, rw q.invariant.2 (sym (since_one says a.o.0 a.age q.i t g)))

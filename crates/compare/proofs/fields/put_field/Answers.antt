@@ -24,28 +24,16 @@ parts-differ :
 parts-differ a b p q i place n e f g h =
     rw (g, h, e, f) (shown_differ (part_shows a (place_of i) (length_of i)) (part_shows b (place_of i) (length_of i)))
 
-module _ (k : goal.After-differ) where
-  abbrev a : goal.Start
-  a = k.before.before.before.before.before.before.before.before
-
-  differs : k.differ.result ≡ field_differs a.args.one.now a.args.other.now a.args.i
-  differs =
-      k.differ.ensures
-      ∙ parts-differ a.args.one.now a.args.other.now k.part.result.now k.part-2.result.now a.args.i _ _
-      k.place-p.ensures
-      k.length-n.ensures
-      k.part.ensures
-      k.part-2.ensures
-
 pub returns-then-differ : goal.returns-then-differ
 unfolding field_lines
 returns-then-differ c =
-    let k = c.before.before.before.before.before.before in
-    rw (← differs k, c.if-differ.true, ← k.place-p.ensures) c.put_line.ensures
+    let differs : c.differ.result ≡ field_differs c.args.one.now c.args.other.now c.args.i = c.differ.ensures ∙ parts-differ c.args.one.now c.args.other.now c.part.result.now c.part-2.result.now c.args.i _ _ c.place-p.ensures c.length-n.ensures c.part.ensures c.part-2.ensures in
+    rw (← differs, c.if-differ.true, ← c.place-p.ensures) c.put_line.ensures
 
 pub returns : goal.returns
 unfolding field_lines
-returns c = rw (← differs c.before, c.if-differ.false) (nothing _ _ (omega arith) (omega arith))
+returns c = let differs : c.differ.result ≡ field_differs c.args.one.now c.args.other.now c.args.i = c.differ.ensures ∙ parts-differ c.args.one.now c.args.other.now c.part.result.now c.part-2.result.now c.args.i _ _ c.place-p.ensures c.length-n.ensures c.part.ensures c.part-2.ensures in
+    rw (← differs, c.if-differ.false) (nothing _ _ (omega arith) (omega arith))
 
 pub shape_of-buf-then-differ : goal.shape_of-buf-then-differ
 shape_of-buf-then-differ c = kept c.put_line.ensures

@@ -10,5 +10,4 @@ returns-then-n-eq0 c =
     (omega (arith, c.well-formed.1.1.1.1.1.1.1.1.1.0)) (omega arith)
 
 pub returns : goal.returns
-returns c =
-    object_put _ _ c.put_differences-n.ensures _ _ c.if-n-eq0.false c.put_name-next.ensures c.put_differences.ensures
+returns c = object_put _ _ c.put_differences-n.ensures _ _ c.if-n-eq0.false c.put_name-next.ensures c.put_differences.ensures

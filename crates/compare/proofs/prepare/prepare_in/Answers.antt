@@ -18,69 +18,62 @@ returns-then-not-is_room c =
     let a = c.args in
     let k = c.count_records-records in
     room_refused a.g a.dump.now a.order.now a.copies.now a.work.now a.pages c.requires k.result k.ensures
-    (sym r.ensures ∙ not-true r.result c.if-not-is_room.true)
+    (sym r.ensures ∙ c.if-not-is_room.true)
 
--- once there is room
-module _ (w : goal.After-work_for-room) where
-  abbrev start : goal.Start
-  start = w.before.before.before.before.before.before.before.before
+enough : (w : goal.After-work_for-room) → is_room w.count_records-records.result (length w.args.order.now) (length w.args.copies.now) (length w.args.work.now) ≡ true
+enough w = let r = w.is_room in sym r.ensures ∙ not-false r.result w.if-not-is_room.left
 
-  -- how many records there are, and how many words are worked in
-  abbrev records : ℕ
-  records = w.count_records-records.result
+-- each slice has as many words
+has : (w : goal.After-work_for-room) → (w.count_records-records.result ≤ length w.args.order.now) × (w.count_records-records.result ≤ length w.args.copies.now) × (w.work_for-room.result ≤ length w.args.work.now)
+has w =
+    let enough : is_room w.count_records-records.result (length w.args.order.now) (length w.args.copies.now) (length w.args.work.now) ≡ true = let r = w.is_room in sym r.ensures ∙ not-false r.result w.if-not-is_room.left in
+    let r = room_has _ _ _ _ enough in (r.0, r.1, omega (arith, w.work_for-room.ensures, r.2))
 
-  abbrev room : ℕ
-  room = w.work_for-room.result
+-- so that the fronts which are lent on are so long
+order-front : (w : goal.After-work_for-room) → length (take w.count_records-records.result w.args.order.now) ≡ w.count_records-records.result
+order-front w =
+    let has : (w.count_records-records.result ≤ length w.args.order.now) × (w.count_records-records.result ≤ length w.args.copies.now) × (w.work_for-room.result ≤ length w.args.work.now) = let enough : is_room w.count_records-records.result (length w.args.order.now) (length w.args.copies.now) (length w.args.work.now) ≡ true = let r = w.is_room in sym r.ensures ∙ not-false r.result w.if-not-is_room.left in let r = room_has _ _ _ _ enough in (r.0, r.1, omega (arith, w.work_for-room.ensures, r.2)) in
+    length-take-le _ w.args.order.now has.0
 
-  enough : is_room records (length start.args.order.now) (length start.args.copies.now) (length start.args.work.now) ≡ true
-  enough = let r = w.is_room in sym r.ensures ∙ not-false r.result w.if-not-is_room.left
+copies-front : (w : goal.After-work_for-room) → length (take w.count_records-records.result w.args.copies.now) ≡ w.count_records-records.result
+copies-front w =
+    let has : (w.count_records-records.result ≤ length w.args.order.now) × (w.count_records-records.result ≤ length w.args.copies.now) × (w.work_for-room.result ≤ length w.args.work.now) = let enough : is_room w.count_records-records.result (length w.args.order.now) (length w.args.copies.now) (length w.args.work.now) ≡ true = let r = w.is_room in sym r.ensures ∙ not-false r.result w.if-not-is_room.left in let r = room_has _ _ _ _ enough in (r.0, r.1, omega (arith, w.work_for-room.ensures, r.2)) in
+    length-take-le _ w.args.copies.now has.1
 
-  -- each slice has as many words
-  has : (records ≤ length start.args.order.now) × (records ≤ length start.args.copies.now) × (room ≤ length start.args.work.now)
-  has = let r = room_has _ _ _ _ enough in (r.0, r.1, omega (arith, w.work_for-room.ensures, r.2))
-
-  -- so that the fronts which are lent on are so long
-  order-front : length (take records start.args.order.now) ≡ records
-  order-front = length-take-le _ start.args.order.now has.0
-
-  copies-front : length (take records start.args.copies.now) ≡ records
-  copies-front = length-take-le _ start.args.copies.now has.1
-
-  work-front : length (take room start.args.work.now) ≡ room
-  work-front = length-take-le _ start.args.work.now has.2
+work-front : (w : goal.After-work_for-room) → length (take w.work_for-room.result w.args.work.now) ≡ w.work_for-room.result
+work-front w =
+    let has : (w.count_records-records.result ≤ length w.args.order.now) × (w.count_records-records.result ≤ length w.args.copies.now) × (w.work_for-room.result ≤ length w.args.work.now) = let enough : is_room w.count_records-records.result (length w.args.order.now) (length w.args.copies.now) (length w.args.work.now) ≡ true = let r = w.is_room in sym r.ensures ∙ not-false r.result w.if-not-is_room.left in let r = room_has _ _ _ _ enough in (r.0, r.1, omega (arith, w.work_for-room.ensures, r.2)) in
+    length-take-le _ w.args.work.now has.2
 
 pub fill-requires : goal.fill-requires
 fill-requires c =
-    let w = c.before.before.before in
-    let k = w.count_records-records.ensures in
-    record { dump_value = (start w).requires; order_len = order-front w ∙ k; copies_len = copies-front w ∙ k; work_len = work-front w ∙ w.work_for-room.ensures ∙ ap work_for k }
+    let k = c.count_records-records.ensures in
+    record { dump_value = c.requires; order_len = order-front (goal.at.fill-requires c).After-work_for-room ∙ k; copies_len = copies-front (goal.at.fill-requires c).After-work_for-room ∙ k; work_len = work-front (goal.at.fill-requires c).After-work_for-room ∙ c.work_for-room.ensures ∙ ap work_for k }
 
 pub returns : goal.returns
 returns c =
-    let l = c.before.before.before.before.before.before in
-    let w = l.before.before.before.before in
-    let a = (start w).args in
-    let e = l.fill.ensures in
-    rw w.work_for-room.ensures
-    (room_enough a.g a.dump.now a.order.now a.copies.now a.work.now a.pages (start w).requires (records w)
-    w.count_records-records.ensures (enough w) _ _ _
-    e.0 (l.fill.auto.1.1.1.0 ∙ order-front w) e.1.0 (l.fill.auto.1.1.1.1.0 ∙ copies-front w)
-    (e.1.1 ∙ ap (λ (j : ℕ). replicate {A = ℕ} j 0) (work-front w ∙ w.work_for-room.ensures)))
+    let a = c.args in
+    let e = c.fill.ensures in
+    rw c.work_for-room.ensures
+    (room_enough a.g a.dump.now a.order.now a.copies.now a.work.now a.pages c.requires c.count_records-records.result
+    c.count_records-records.ensures (enough (goal.at.returns c).After-work_for-room) _ _ _
+    e.0 (c.fill.auto.1.1.1.0 ∙ order-front (goal.at.returns c).After-work_for-room) e.1.0 (c.fill.auto.1.1.1.1.0 ∙ copies-front (goal.at.returns c).After-work_for-room)
+    (e.1.1 ∙ ap (λ (j : ℕ). replicate {A = ℕ} j 0) (work-front (goal.at.returns c).After-work_for-room ∙ c.work_for-room.ensures)))
 
 pub slice_bounds-fill-end : goal.slice_bounds-fill-end
 slice_bounds-fill-end c = (has c).0
 
 pub slice_bounds-fill-end-2 : goal.slice_bounds-fill-end-2
-slice_bounds-fill-end-2 c = sym (order-front c.before)
+slice_bounds-fill-end-2 c = sym (order-front (goal.at.slice_bounds-fill-end-2 c).After-work_for-room)
 
 pub slice_bounds-fill-end-3 : goal.slice_bounds-fill-end-3
-slice_bounds-fill-end-3 c = (has c.before).1
+slice_bounds-fill-end-3 c = (has (goal.at.slice_bounds-fill-end-3 c).After-work_for-room).1
 
 pub slice_bounds-fill-end-4 : goal.slice_bounds-fill-end-4
-slice_bounds-fill-end-4 c = sym (copies-front c.before.before)
+slice_bounds-fill-end-4 c = sym (copies-front (goal.at.slice_bounds-fill-end-4 c).After-work_for-room)
 
 pub slice_bounds-fill-end-5 : goal.slice_bounds-fill-end-5
-slice_bounds-fill-end-5 c = (has c.before.before).2
+slice_bounds-fill-end-5 c = (has (goal.at.slice_bounds-fill-end-5 c).After-work_for-room).2
 
 pub slice_bounds-fill-end-6 : goal.slice_bounds-fill-end-6
-slice_bounds-fill-end-6 c = sym (work-front c.before.before.before)
+slice_bounds-fill-end-6 c = sym (work-front (goal.at.slice_bounds-fill-end-6 c).After-work_for-room)

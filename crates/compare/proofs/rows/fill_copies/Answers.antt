@@ -14,47 +14,34 @@ loop-i-init c =
     let a = c.args in
     (refl, fill_start a.g a.dump.now a.pages a.g.layout.«data» c.requires.dump_value a.order.now c.requires.order_value a.copies.now c.requires.copies_len)
 
--- the run of words that a turn is about
-module _ (k : goal.After-run_of) where
-  abbrev start : goal.Start invariant-loop decreases-loop
-  start = k.before.before.before.before.before.before.before.before.before
-
-  abbrev run : ℕ
-  run = k.run_of.result
-
-  turn :
-      let q = k.loop-i in
-      let a = start.args in
-      Turn a.g a.dump.now a.pages a.g.layout.«data» a.order.now q.copies q.i run
-  turn =
-      let q = k.loop-i in
-      let s = start in
-      let a = s.args in
-      turn_at a.g a.dump.now a.pages a.g.layout.«data» s.requires.dump_value a.order.now s.requires.order_value q.copies q.i q.inv.1
-      k.loop-i-test.taken _ run k.key_of-o.ensures k.run_of.ensures
+turn : (k : goal.After-run_of) → let q = k.loop-i in
+    let a = k.args in
+    Turn a.g a.dump.now a.pages a.g.layout.«data» a.order.now q.copies q.i k.run_of.result
+turn k =
+    let q = k.loop-i in
+    let s = k in
+    let a = s.args in
+    turn_at a.g a.dump.now a.pages a.g.layout.«data» s.pre.0 a.order.now s.pre.1.0 q.copies q.i q.inv.1
+    k.loop-i-test.taken _ k.run_of.result k.key_of-o.ensures k.run_of.ensures
 
 pub fill_run-requires : goal.fill_run-requires
 fill_run-requires c =
-    let k = c.before.before.before in
-    let q = k.loop-i in
-    let s = start k in
-    let t = turn k in
-    let l = part_length s.args.order.now q.i (run k) t.inside in
-    let m = part_length q.copies q.i (run k) (omega (arith, t.inside, q.invariant.1.long)) in record { dump_value = s.requires.dump_value; list_len_bound = omega (arith, l, t.few); rows_len = m ∙ sym l; list_in_bounds = omega (arith, l, t.inside, q.invariant.0, s.requires.order_in_bounds) }
+    let q = c.loop-i in
+    let t = turn (goal.at.fill_run-requires c).After-run_of in
+    let l = part_length c.args.order.now q.i c.run_of.result t.inside in
+    let m = part_length q.copies q.i c.run_of.result (omega (arith, t.inside, q.invariant.1.long)) in record { dump_value = c.requires.dump_value; list_len_bound = omega (arith, l, t.few); rows_len = m ∙ sym l; list_in_bounds = omega (arith, l, t.inside, q.invariant.0, c.requires.order_in_bounds) }
 
 pub loop-i-preserved : goal.loop-i-preserved
 loop-i-preserved c =
-    let f = c.before.before.before.before in
-    let k = f.before.before.before.before in
-    let q = k.loop-i in
-    let a = (start k).args in
-    let t = turn k in
-    let r : q.i + run k - q.i ≡ run k = omega arith in
-    let e = rw r at f.fill_run.ensures in (
+    let q = c.loop-i in
+    let a = c.args in
+    let t = turn (goal.at.loop-i-preserved c).After-run_of in
+    let r : q.i + c.run_of.result - q.i ≡ c.run_of.result = omega arith in
+    let e = rw r at c.fill_run.ensures in (
       c.work-1.given ∙ q.invariant.0,
       t.onward _
           (rw r
-          (ap (λ (l : List ℕ). take q.i q.copies ++ (l ++ drop (run k) (drop q.i q.copies)))
+          (ap (λ (l : List ℕ). take q.i q.copies ++ (l ++ drop c.run_of.result (drop q.i q.copies)))
           (e ∙ ap (copies_in (record_at a.g a.dump.now) a.g.layout.«data») t.words))),
     )
 
@@ -71,10 +58,10 @@ pub slice_bounds-fill_run-end : goal.slice_bounds-fill_run-end
 slice_bounds-fill_run-end c = omega (arith, (turn c).inside)
 
 pub slice_bounds-fill_run-end-in-loop-i : goal.slice_bounds-fill_run-end-in-loop-i
-slice_bounds-fill_run-end-in-loop-i c = omega (arith, (turn c.before).inside)
+slice_bounds-fill_run-end-in-loop-i c = omega (arith, (turn (goal.at.slice_bounds-fill_run-end-in-loop-i c).After-run_of).inside)
 
 pub loop-i-smaller : goal.loop-i-smaller
-loop-i-smaller c = omega (arith, (turn c.before.before.before.before.before.before.before.before).some)
+loop-i-smaller c = omega (arith, (turn (goal.at.loop-i-smaller c).After-run_of).some)
 
 pub shape_of-copies : goal.shape_of-copies
 shape_of-copies c = c.loop-i.invariant.1.long ∙ sym c.requires.copies_len

@@ -10,16 +10,11 @@ pub rows_of-m-requires : goal.rows_of-m-requires
 rows_of-m-requires c = let p = c.requires in record { dump_value = p.0; list_len_bound = p.1.0; list_in_bounds = p.1.1.1 }
 
 pub lay-requires : goal.lay-requires
-lay-requires c =
-    let p = c.requires in record { count_in_bounds = omega (arith, c.rows_of-m.ensures.upper_bound, p.1.1.0); count_in_bounds_2 = omega (arith, c.rows_of-m.ensures.upper_bound, c.work-1.given, p.1.1.1) }
+lay-requires c = let p = c.requires in record { count_in_bounds = omega (arith, c.rows_of-m.ensures.upper_bound, p.1.1.0); count_in_bounds_2 = omega (arith, c.rows_of-m.ensures.upper_bound, c.work-1.given, p.1.1.1) }
 
 pub returns : goal.returns
 returns c =
-    let l = c.before.before in
-    let w = l.before.before.before.before in
-    let k = w.before in
-    let s = k.before.before.before.before.before.before in
     let p = s.requires in
-    l.lay.ensures
+    c.lay.ensures
     ∙ rw p.1.1.0
-    (laid_padded _ _ k.rows_of-m.result (length s.args.list.now) (omega (arith, k.rows_of-m.ensures.upper_bound, w.work-1.given, p.1.1.1)) k.rows_of-m.ensures.work_after)
+    (laid_padded _ _ c.rows_of-m.result (length s.args.list.now) (omega (arith, c.rows_of-m.ensures.upper_bound, c.work-1.given, p.1.1.1)) c.rows_of-m.ensures.work_after)

@@ -23,43 +23,14 @@ use Rattle.compare.proofs.Filling.{room_front}
 use Rattle.compare.proofs.Heads.{head_size}
 use Rattle.compare.proofs.rows.rows_of.Goals as goal
 
--- the size that was found
-module _ (k : goal.After-size-s) where
-  abbrev start : goal.Start
-  start = k.before.before.before.before.before
-
-  abbrev says : ℕ → Record
-  says = record_at start.args.g start.args.dump.now
-
-  found : size_in (size_walk says start.args.g.layout.«data» (from_list (map value_of start.args.list.now))) ≡ size_as k.size-s.result
-  found =
-      head_size says start.args.g.layout.«data» (map value_of start.args.list.now)
-      ∙ ap (size_by says) (sym k.head_of.ensures)
-      ∙ sym k.size-s.ensures
-
--- what was answered of the copies
-module _ (c : goal.After-copies_along-a) where
-  abbrev sized : goal.After-size-s
-  sized = c.before.before.before.before.before
-
-  abbrev z : ℕ
-  z = c.in-Bytes.z
-
-  accepted :
-      let a = (start sized).args in
-      c.copies_along-a.result ≡ Rows (length (shown_by a.g a.dump.now a.list.now z))
-  accepted =
-      let a = (start sized).args in
-      let p = (start sized).pre in
-      c.copies_along-a.ensures.value
-      ∙ along_rows a.g a.dump.now a.list.now z a.pages a.work.now p.0 p.1.0 (omega (arith, p.1.1))
-
 pub returns-in-Nothing : goal.returns-in-Nothing
 unfolding rows_in
-returns-in-Nothing c = record { upper_bound = zero-le; work_after = rw (found c.before.before, c.in-Nothing.is) refl }
+returns-in-Nothing c = let found : size_in (size_walk (record_at c.args.g c.args.dump.now) c.args.g.layout.«data» (from_list (map value_of c.args.list.now))) ≡ size_as c.size-s.result = head_size (record_at c.args.g c.args.dump.now) c.args.g.layout.«data» (map value_of c.args.list.now) ∙ ap (size_by (record_at c.args.g c.args.dump.now)) (sym c.head_of.ensures) ∙ sym c.size-s.ensures in
+    record { upper_bound = zero-le; work_after = rw (found, c.in-Nothing.is) refl }
 
 pub returns-in-Refused : goal.returns-in-Refused
-returns-in-Refused c = let e = accepted c.before.before.before.before in let f = c.in-Refused.is in clash (cc)
+returns-in-Refused c = let accepted : let a = c.args in c.copies_along-a.result ≡ Rows (length (shown_by a.g a.dump.now a.list.now c.in-Bytes.z)) = let a = c.args in let p = c.pre in c.copies_along-a.ensures.value ∙ along_rows a.g a.dump.now a.list.now c.in-Bytes.z a.pages a.work.now p.0 p.1.0 (omega (arith, p.1.1)) in
+    let e = accepted in let f = c.in-Refused.is in clash (cc)
 
 rows_same : (m n : ℕ) → Rows m ≡ Rows n → m ≡ n
 rows_same m n e = cc
@@ -67,13 +38,13 @@ rows_same m n e = cc
 pub returns-in-Rows : goal.returns-in-Rows
 unfolding rows_in
 returns-in-Rows c =
-    let k = c.before.before.before.before.before in
-    let t = (start (sized k)).args in
-    let p = (start (sized k)).pre in
-    let L = shown_by t.g t.dump.now t.list.now (z k) in
-    let m : c.in-Rows.m ≡ length L = rows_same _ _ (sym c.in-Rows.is ∙ accepted k) in
-    let few = along_few (says (sized k)) t.g.layout.«data» (z k) (map value_of t.list.now) in record { upper_bound = omega (arith, m, few, length-map t.list.now value_of); work_after = rw (found (sized k), k.in-Bytes.is)
+    let found : size_in (size_walk (record_at c.args.g c.args.dump.now) c.args.g.layout.«data» (from_list (map value_of c.args.list.now))) ≡ size_as c.size-s.result = head_size (record_at c.args.g c.args.dump.now) c.args.g.layout.«data» (map value_of c.args.list.now) ∙ ap (size_by (record_at c.args.g c.args.dump.now)) (sym c.head_of.ensures) ∙ sym c.size-s.ensures in let accepted : let a = c.args in c.copies_along-a.result ≡ Rows (length (shown_by a.g a.dump.now a.list.now c.in-Bytes.z)) = let a = c.args in let p = c.pre in c.copies_along-a.ensures.value ∙ along_rows a.g a.dump.now a.list.now c.in-Bytes.z a.pages a.work.now p.0 p.1.0 (omega (arith, p.1.1)) in
+    let t = c.args in
+    let p = c.pre in
+    let L = shown_by t.g t.dump.now t.list.now c.in-Bytes.z in
+    let m : c.in-Rows.m ≡ length L = rows_same _ _ (sym c.in-Rows.is ∙ accepted) in
+    let few = along_few (record_at c.args.g c.args.dump.now) t.g.layout.«data» c.in-Bytes.z (map value_of t.list.now) in record { upper_bound = omega (arith, m, few, length-map t.list.now value_of); work_after = rw (found, c.in-Bytes.is)
           (ap (take c.in-Rows.m)
-          (k.copies_along-a.ensures.rows_after
-          ∙ along_left_lem t.g t.dump.now t.list.now (z k) t.pages t.work.now p.0 p.1.0 (omega (arith, p.1.1)))
+          (c.copies_along-a.ensures.rows_after
+          ∙ along_left_lem t.g t.dump.now t.list.now c.in-Bytes.z t.pages t.work.now p.0 p.1.0 (omega (arith, p.1.1)))
           ∙ room_front (map packed_copy L) _ _ _ (m ∙ sym (length-map L packed_copy))) }

@@ -19,23 +19,17 @@ loop-k-init c =
     }
 
 -- the stretch of a turn begins below the size
-below :
-    (c : goal.In-loop-k) →
-    let a = c.args in stretch_bytes * c.loop-k.k < a.m
-below c =
-    begins_below c.loop-k.k c.stretches_in-end.result _ c.stretches_in-end.ensures c.loop-k-test.true
+below : (c : goal.In-loop-k) → let a = c.args in stretch_bytes * c.loop-k.k < a.m
+below c = begins_below c.loop-k.k c.stretches_in-end.result _ c.stretches_in-end.ensures c.loop-k-test.true
 
 pub standing_from-i-requires : goal.standing_from-i-requires
-standing_from-i-requires c =
-    record { from_in_bounds = c.loop-k.invariant.one.inside; k_bound = omega (arith, below c, c.ranges.m) }
+standing_from-i-requires c = record { from_in_bounds = c.loop-k.invariant.one.inside; k_bound = omega (arith, below c, c.ranges.m) }
 
 pub standing_from-j-requires : goal.standing_from-j-requires
-standing_from-j-requires c =
-    let t = c.before in
-    record { from_in_bounds = t.loop-k.invariant.other.inside; k_bound = omega (arith, below t, t.ranges.m) }
+standing_from-j-requires c = record { from_in_bounds = c.loop-k.invariant.other.inside; k_bound = omega (arith, below (goal.at.standing_from-j-requires c).In-loop-k, c.ranges.m) }
 
 pub put_stretch-next-requires : goal.put_stretch-next-requires
-put_stretch-next-requires c = omega (arith, below c.before.before.before.before.before)
+put_stretch-next-requires c = omega (arith, below (goal.at.put_stretch-next-requires c).In-loop-k)
 
 pub loop-k-preserved : goal.loop-k-preserved
 loop-k-preserved c =

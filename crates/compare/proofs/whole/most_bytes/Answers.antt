@@ -11,5 +11,4 @@ pub returns-in-Nothing-other : goal.returns-in-Nothing-other
 returns-in-Nothing-other c = rw (c.in-Nothing-other.is, c.in-Bytes.is) record { value = refl; small = tt }
 
 pub returns-in-Bytes-other : goal.returns-in-Bytes-other
-returns-in-Bytes-other c =
-    rw (c.in-Bytes.is, c.in-Bytes-other.is) record { value = rw (c.stretches_in.ensures, c.smaller.ensures); small = (omega (arith, c.known_told-1.given), omega (arith, c.known_told-in-Bytes-1.given)) }
+returns-in-Bytes-other c = rw (c.in-Bytes.is, c.in-Bytes-other.is) record { value = rw (c.stretches_in.ensures, c.smaller.ensures); small = (omega (arith, c.known_told-1.given), omega (arith, c.known_told-in-Bytes-1.given)) }

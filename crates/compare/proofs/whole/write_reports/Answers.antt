@@ -11,5 +11,4 @@ pub returns-then-need-eq0 : goal.returns-then-need-eq0
 returns-then-need-eq0 c = written_none _ c.put_reports-need.ensures c.if-need-eq0.true
 
 pub returns : goal.returns
-returns c =
-    accepted _ c.put_reports-need.ensures (search rules) c.put_reports.ensures
+returns c = accepted _ c.put_reports-need.ensures (search rules) c.put_reports.ensures

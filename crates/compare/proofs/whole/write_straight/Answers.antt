@@ -6,24 +6,12 @@ use borrow.Author.Rules.{rules}
 use Rattle.compare.proofs.Lining.{straight_nothing, straight_both}
 use Rattle.compare.proofs.whole.write_straight.Goals as goal
 
--- once the object's line is measured
-module _ (n : goal.After-put_name-line) where
-  abbrev start : goal.Start
-  start = n.before.before.before.before.before.before.before.before.before
-
-  -- an object's number is a word
-  small : start.args.o.0 < 4294967296
-  small = omega (arith, start.good.0)
+-- an object's number is a word
+small : (n : goal.After-put_differences-arg-1) → n.args.o.0 < 4294967296
+small n = omega (arith, n.good.0)
 
 pub returns-then-next-line : goal.returns-then-next-line
-returns-then-next-line c =
-    let d = c.before.before.before in
-    let n = d.before.before.before.before in
-    straight_nothing _ (small n) _ _ (start n).requires n.put_name-line.ensures d.put_differences-next.ensures c.if-next-line.true
+returns-then-next-line c = straight_nothing _ (small (goal.at.returns-then-next-line c).After-put_differences-arg-1) _ _ c.requires c.put_name-line.ensures c.put_differences-next.ensures c.if-next-line.true
 
 pub returns : goal.returns
-returns c =
-    let i = c.before.before.before.before in
-    let d = i.before.before.before in
-    let n = d.before.before.before.before in
-    straight_both _ (small n) _ _ (start n).requires n.put_name-line.ensures d.put_differences-next.ensures i.if-next-line.false c.put_name.ensures
+returns c = straight_both _ (small (goal.at.returns c).After-put_differences-arg-1) _ _ c.requires c.put_name-line.ensures c.put_differences-next.ensures c.if-next-line.false c.put_name.ensures

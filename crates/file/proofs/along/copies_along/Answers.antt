@@ -23,8 +23,7 @@ returns-then-rows-room c =
     record { value = rw (e, long, short, room); rows_after = rw (e, long, short) }
 
 pub lay_along-requires : goal.lay_along-requires
-lay_along-requires c =
-    record { dump_value = sym c.opened-p.ensures ∙ c.in-Pages.is; list_len_bound = c.if-n-ge-PAGE_VALUES.false; list_in_bounds = omega (arith, c.room_for-room.ensures, c.if-rows-room.false) }
+lay_along-requires c = record { dump_value = sym c.opened-p.ensures ∙ c.in-Pages.is; list_len_bound = c.if-n-ge-PAGE_VALUES.false; list_in_bounds = omega (arith, c.room_for-room.ensures, c.if-rows-room.false) }
 
 pub returns-in-Refused : goal.returns-in-Refused
 unfolding along_on along_left

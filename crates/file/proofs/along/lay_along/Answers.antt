@@ -21,32 +21,18 @@ use Rattle.file.proofs.Putting.{put_zero}
 use Rattle.file.proofs.Shown.{met_some}
 use Rattle.file.proofs.along.lay_along.Goals as goal
 
--- the first walk
-module _ (w : goal.After-walk_along-n) where
-  abbrev start : goal.Start
-  start = w.before.before.before.before.before.before
+all : (w : goal.After-slice_known-2-1) → length (let a = w.args in met (record_at a.g a.dump.now) a.g.layout.«data» w.chunks_in-chunks.result a.size true Nowhere (from_list (map value_of a.list.now))) ≡ w.walk_along-n.result
+all w = sym w.walk_along-n.ensures.value
 
-  abbrev copies : List Copy
-  copies =
-      let a = start.args in
-      met (record_at a.g a.dump.now) a.g.layout.«data» w.chunks_in-chunks.result a.size true Nowhere
-      (from_list (map value_of a.list.now))
+few : (w : goal.After-slice_known-2-1) → w.walk_along-n.result < word_values
+few w = omega (arith, w.walk_along-n.ensures.upper_bound, w.pre.1.0)
 
-  abbrev n : ℕ
-  n = w.walk_along-n.result
+room : (w : goal.After-slice_known-2-1) → room_for w.walk_along-n.result ≤ length w.args.rows.now
+room w = omega (arith, w.walk_along-n.ensures.upper_bound, w.pre.1.1)
 
-  all : length copies ≡ n
-  all = sym w.walk_along-n.ensures.value
-
-  few : n < word_values
-  few = omega (arith, w.walk_along-n.ensures.upper_bound, start.pre.1.0)
-
-  room : room_for n ≤ length start.args.rows.now
-  room = omega (arith, w.walk_along-n.ensures.upper_bound, start.pre.1.1)
-
-  -- it leaves the words
-  same : w.walk_along-n.last.1.1.1.1.1.1.1.0 ≡ start.args.rows.now
-  same = w.walk_along-n.ensures.rows_after ∙ put_zero _ _ _
+-- it leaves the words
+same : (w : goal.After-slice_known-2-1) → w.walk_along-n.last.1.1.1.1.1.1.1.0 ≡ w.args.rows.now
+same w = w.walk_along-n.ensures.rows_after ∙ put_zero _ _ _
 
 pub walk_along-n-requires : goal.walk_along-n-requires
 walk_along-n-requires c =
@@ -55,45 +41,35 @@ walk_along-n-requires c =
 
 pub walk_along-requires : goal.walk_along-requires
 walk_along-requires c =
-    let w = c.before.before.before in
-    let p = (start w).requires in
-    record { dump_value = p.0; list_len_bound = p.1.0; chunks_lt_chunk_values = omega (arith, w.chunks_in-chunks.ensures.upper_bound); n_in_bounds = omega (arith, room w, ap length (same w)) }
+    let p = c.requires in
+    record { dump_value = p.0; list_len_bound = p.1.0; chunks_lt_chunk_values = omega (arith, c.chunks_in-chunks.ensures.upper_bound); n_in_bounds = omega (arith, room (goal.at.walk_along-requires c).After-slice_known-2-1, ap length (same (goal.at.walk_along-requires c).After-slice_known-2-1)) }
 
--- the words once they are sorted
-module _ (k : goal.After-sort) where
-  abbrev counted : goal.After-walk_along-n
-  counted = k.before.before.before.before.before.before.before.before
-
-  is_sorted : k.sort.last.0 ≡ sorted_with (start counted).args.rows.now (n counted) (copies counted)
-  is_sorted =
-      k.sort.ensures
-      ∙ ap (λ (r : List ℕ). arranged (take (n counted) r) ++ drop (n counted) r)
-      (k.walk_along.ensures.rows_after ∙ ap (λ (r : List ℕ). put_from (n counted) r 0 (copies counted)) (same counted))
+is_sorted : (k : goal.After-gather-arg-1) → k.sort.last.0 ≡ sorted_with k.args.rows.now k.walk_along-n.result (let a = k.args in met (record_at a.g a.dump.now) a.g.layout.«data» k.chunks_in-chunks.result a.size true Nowhere (from_list (map value_of a.list.now)))
+is_sorted k =
+    let same : k.walk_along-n.last.1.1.1.1.1.1.1.0 ≡ k.args.rows.now = k.walk_along-n.ensures.rows_after ∙ put_zero _ _ _ in
+    k.sort.ensures
+    ∙ ap (λ (r : List ℕ). arranged (take k.walk_along-n.result r) ++ drop k.walk_along-n.result r)
+    (k.walk_along.ensures.rows_after ∙ ap (λ (r : List ℕ). put_from k.walk_along-n.result r 0 (let a = k.args in met (record_at a.g a.dump.now) a.g.layout.«data» k.chunks_in-chunks.result a.size true Nowhere (from_list (map value_of a.list.now)))) same)
 
 pub gather-requires : goal.gather-requires
 gather-requires c =
-    let k = c.before.before.before in
-    let w = counted k in
-    let a = (start w).args in record { n_in_bounds = omega (arith, ap length (is_sorted k), sorted_length a.rows.now (n w) (copies w) (all w) (room w) (few w), room w); every = rw (is_sorted k) (sorted_below a.rows.now (n w) (copies w) (all w) (room w) (few w)) }
+    let a = c.args in record { n_in_bounds = omega (arith, ap length (is_sorted c), sorted_length a.rows.now c.walk_along-n.result (let a = c.args in met (record_at a.g a.dump.now) a.g.layout.«data» c.chunks_in-chunks.result a.size true Nowhere (from_list (map value_of a.list.now))) (all (goal.at.gather-requires c).After-slice_known-2-1) (room (goal.at.gather-requires c).After-slice_known-2-1) (few (goal.at.gather-requires c).After-slice_known-2-1), room (goal.at.gather-requires c).After-slice_known-2-1); every = rw (is_sorted c) (sorted_below a.rows.now c.walk_along-n.result (let a = c.args in met (record_at a.g a.dump.now) a.g.layout.«data» c.chunks_in-chunks.result a.size true Nowhere (from_list (map value_of a.list.now))) (all (goal.at.gather-requires c).After-slice_known-2-1) (room (goal.at.gather-requires c).After-slice_known-2-1) (few (goal.at.gather-requires c).After-slice_known-2-1)) }
 
 pub returns : goal.returns
 returns c =
-    let g = c.before.before in
-    let k = g.before.before.before.before in
-    let w = counted k in
-    let a = (start w).args in
+    let a = c.args in
     let says = record_at a.g a.dump.now in
     let P = a.g.layout.«data» in
     let L = map value_of a.list.now in
-    let m = w.chunks_in-chunks.result in
+    let m = c.chunks_in-chunks.result in
     let f =
-    sorted_filled a.rows.now (n w) (copies w) (all w) (room w) (few w) (met_some says P m a.size (from_list L) true Nowhere)
-    _ _ _ (is_sorted k) g.gather.ensures.value g.gather.ensures.rows_after in
-    let e = along_gathered says P a.size L m (n w) _ _ _ w.chunks_in-chunks.ensures.value w.walk_along-n.ensures.value f.0 f.1 in
-    record { value = e.0; upper_bound = omega (arith, g.gather.ensures.upper_bound, w.walk_along-n.ensures.upper_bound); rows_after = e.1 }
+    sorted_filled a.rows.now c.walk_along-n.result (let a = c.args in met (record_at a.g a.dump.now) a.g.layout.«data» c.chunks_in-chunks.result a.size true Nowhere (from_list (map value_of a.list.now))) (all (goal.at.returns c).After-slice_known-2-1) (room (goal.at.returns c).After-slice_known-2-1) (few (goal.at.returns c).After-slice_known-2-1) (met_some says P m a.size (from_list L) true Nowhere)
+    _ _ _ (is_sorted (goal.at.returns c).After-gather-arg-1) c.gather.ensures.value c.gather.ensures.rows_after in
+    let e = along_gathered says P a.size L m c.walk_along-n.result _ _ _ c.chunks_in-chunks.ensures.value c.walk_along-n.ensures.value f.0 f.1 in
+    record { value = e.0; upper_bound = omega (arith, c.gather.ensures.upper_bound, c.walk_along-n.ensures.upper_bound); rows_after = e.1 }
 
 pub chunks_in-chunks-requires : goal.chunks_in-chunks-requires
 chunks_in-chunks-requires c = data_some _ _ _ c.requires.dump_value
 
 pub overflow_cast-result : goal.overflow_cast-result
-overflow_cast-result c = let g = c.before.before in omega (arith, g.gather.ensures.upper_bound, few (counted g.before.before.before.before))
+overflow_cast-result c = omega (arith, c.gather.ensures.upper_bound, few (goal.at.overflow_cast-result c).After-slice_known-2-1)

@@ -24,7 +24,7 @@ loop-i-preserved-then-not-is_header c =
     let a = c.args in
     let says = record_at a.g a.dump.now in
     let r = c.record_at-r.result in
-    let h = sym c.is_header.ensures ∙ not-true c.is_header.result c.if-not-is_header.true in
+    let h = sym c.is_header.ensures ∙ c.if-not-is_header.true in
     let e = rw c.value_of.ensures at (sym c.record_at-r.ensures ∙ said_other r h (else_data r c.in_default.keys2)) in (
       omega (arith, c.loop-i-test.true),
       under_other says a.g.layout.«data» a.chunks a.size a.n (length a.list.now) _ _ q.rows q.newest q.cut q.copies _ q.invariant.1
@@ -38,7 +38,7 @@ loop-i-preserved-in_default c =
     let a = c.args in
     let says = record_at a.g a.dump.now in
     let r = c.record_at-r.result in
-    let h = sym c.is_header.ensures ∙ not-false c.is_header.result c.if-not-is_header.false in
+    let h = sym c.is_header.ensures ∙ c.if-not-is_header.false in
     let e = rw (c.record_at-r.ensures, c.value_of.ensures) at h in (
       omega (arith, c.loop-i-test.true),
       rw (c.lower_cut-cut.ensures, c.record_at-r.ensures, c.value_of.ensures)

@@ -10,8 +10,7 @@ copies_in-requires c = sym c.opened-p.ensures ∙ c.in-Pages.is
 
 pub returns-in-Refused : goal.returns-in-Refused
 unfolding copied_from copied_by rows_from rows_by
-returns-in-Refused c =
-    record { value = rw (size_refused _ _ _ _ _ (sym c.opened-p.ensures ∙ c.in-Refused.is)); rows_after = refl }
+returns-in-Refused c = record { value = rw (size_refused _ _ _ _ _ (sym c.opened-p.ensures ∙ c.in-Refused.is)); rows_after = refl }
 
 pub returns-in-Pages : goal.returns-in-Pages
 returns-in-Pages c = c.copies_in.ensures

@@ -10,17 +10,16 @@ use Rattle.file.proofs.IsMet.{met_in_lem}
 use Rattle.file.proofs.copies.meet.Goals as goal
 
 pub returns-then-not-is_met : goal.returns-then-not-is_met
-returns-then-not-is_met c = rw (← c.is_met.ensures, not-true c.is_met.result c.if-not-is_met.true) record { value = omega arith; rows_after = sym (put_none _ _ _) }
+returns-then-not-is_met c = rw (← c.is_met.ensures, c.if-not-is_met.true) record { value = omega arith; rows_after = sym (put_none _ _ _) }
 
 pub put-requires : goal.put-requires
 put-requires c =
     let a = c.args in
-    let i = met_in_lem a.«data» a.chunks a.cut a.d.chunk.0 (sym c.is_met.ensures ∙ not-false c.is_met.result c.if-not-is_met.false) in record { n_in_bounds = c.requires.n_in_bounds; fits = record {
+    let i = met_in_lem a.«data» a.chunks a.cut a.d.chunk.0 (sym c.is_met.ensures ∙ c.if-not-is_met.false) in record { n_in_bounds = c.requires.n_in_bounds; fits = record {
         chunk = omega (arith, i.1, c.requires.chunks_lt_chunk_values);
         page = c.requires.q_lt_page_values;
         valid = omega (arith, c.valid_in.ensures, c.requires.data_lt_valid_values, valid_most a.«data» a.d.chunk.0 (said.Data a.d) a.size a.cut);
       } }
 
 pub returns : goal.returns
-returns c =
-    rw (← c.is_met.ensures, not-false c.is_met.result c.if-not-is_met.false) record { value = refl; rows_after = c.put.ensures ∙ rw c.valid_in.ensures (sym (put_one _ _ _ _)) }
+returns c = rw (← c.is_met.ensures, c.if-not-is_met.false) record { value = refl; rows_after = c.put.ensures ∙ rw c.valid_in.ensures (sym (put_one _ _ _ _)) }

@@ -9,5 +9,4 @@ pub returns-then-key_of-last : goal.returns-then-key_of-last
 returns-then-key_of-last c = rw (← c.key_of.ensures, eq-eqb _ _ c.if-key_of-last.true) record { value = omega arith; rows_after = refl }
 
 pub returns : goal.returns
-returns c =
-    rw (← c.key_of.ensures, ne_eqb _ _ c.if-key_of-last.false, ← c.value_of.ensures) record { value = omega arith; rows_after = refl }
+returns c = rw (← c.key_of.ensures, ne_eqb _ _ c.if-key_of-last.false, ← c.value_of.ensures) record { value = omega arith; rows_after = refl }

@@ -10,5 +10,4 @@ pub returns-then-chunks-d : goal.returns-then-chunks-d
 returns-then-chunks-d c = rw (ne_eqb _ _ c.if-d-eq0.false, lt-ltb _ _ c.if-chunks-d.true)
 
 pub returns : goal.returns
-returns c =
-    rw (ne_eqb _ _ c.if-d-eq0.false, le-ltb _ _ c.if-chunks-d.false, ← c.base_of-base.ensures.value, ← c.hides.ensures)
+returns c = rw (ne_eqb _ _ c.if-d-eq0.false, le-ltb _ _ c.if-chunks-d.false, ← c.base_of-base.ensures.value, ← c.hides.ensures)

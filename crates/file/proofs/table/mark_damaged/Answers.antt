@@ -7,18 +7,13 @@ use Rattle.file.specs.Table.{Closed}
 use Rattle.file.proofs.Rows.{closed_none, closed_more}
 use Rattle.file.proofs.table.mark_damaged.Goals as goal
 
--- the row of this turn has room
-abbrev Within : goal.After-words_of-i invariant-loop decreases-loop → Type 0
-Within w = w.words_of-i.result + 1 < length w.args.table.now
-
-within : (w : goal.After-words_of-i) → Within w
+within : (w : goal.After-words_of-i) → (w.words_of-i.result + 1 < length w.args.table.now)
 within w = omega (arith, w.words_of-i.ensures, w.loop-r-test.true, w.requires)
 
 pub loop-r-preserved : goal.loop-r-preserved
 loop-r-preserved c =
-    let w = c.before.before in
-    let q = w.loop-r in
-    (omega arith, rw w.words_of-i.ensures (closed_more q.r _ _ q.invariant.1 (rw w.words_of-i.ensures at (within w)) _ (rw (← w.words_of-i.ensures) c.closed_word.ensures)))
+    let q = c.loop-r in
+    (omega arith, rw c.words_of-i.ensures (closed_more q.r _ _ q.invariant.1 (rw c.words_of-i.ensures at (within (goal.at.loop-r-preserved c).After-words_of-i)) _ (rw (← c.words_of-i.ensures) c.closed_word.ensures)))
 
 pub returns : goal.returns
 returns c =
@@ -33,13 +28,13 @@ pub offset_bounds-table-i : goal.offset_bounds-table-i
 offset_bounds-table-i c = omega (arith, within c)
 
 pub bounds-table-i : goal.bounds-table-i
-bounds-table-i c = omega (arith, within c.before, c.loop-r.invariant.1.long)
+bounds-table-i c = omega (arith, within (goal.at.bounds-table-i c).After-words_of-i, c.loop-r.invariant.1.long)
 
 pub offset_bounds-table-i-in-loop-r : goal.offset_bounds-table-i-in-loop-r
-offset_bounds-table-i-in-loop-r c = omega (arith, within c.before.before)
+offset_bounds-table-i-in-loop-r c = omega (arith, within (goal.at.offset_bounds-table-i-in-loop-r c).After-words_of-i)
 
 pub bounds-table-i-in-loop-r : goal.bounds-table-i-in-loop-r
-bounds-table-i-in-loop-r c = omega (arith, within c.before.before, c.loop-r.invariant.1.long)
+bounds-table-i-in-loop-r c = omega (arith, within (goal.at.bounds-table-i-in-loop-r c).After-words_of-i, c.loop-r.invariant.1.long)
 
 pub overflow_add-r : goal.overflow_add-r
 overflow_add-r c = omega arith

@@ -13,75 +13,55 @@ use Rattle.file.proofs.table.note.Goals as goal
 
 pub returns-then-not-is_met : goal.returns-then-not-is_met
 unfolding noted
-returns-then-not-is_met c = rw (← c.is_met.ensures, not-true c.is_met.result c.if-not-is_met.true)
+returns-then-not-is_met c = rw (← c.is_met.ensures, c.if-not-is_met.true)
 
--- the page is met as a copy
-module _ (f : goal.Else-not-is_met) where
-  abbrev start : goal.Start
-  start = f.before.before.before
+is_met_lem : (f : goal.After-struct_known-1) → (let a = f.args in is_met a.«data» a.count a.cut a.d.chunk.0 ≡ true)
+is_met_lem f = sym f.is_met.ensures ∙ not-false f.is_met.result f.if-not-is_met.left
 
-  abbrev Met : Type 0
-  Met = let a = start.args in is_met a.«data» a.count a.cut a.d.chunk.0 ≡ true
-
-  is_met_lem : Met
-  is_met_lem = sym f.is_met.ensures ∙ not-false f.is_met.result f.if-not-is_met.left
-
--- the row of the chunk has room
-abbrev Within : goal.After-words_of-i → Type 0
-Within w = w.words_of-i.result + 1 < length (start w.before.before).args.table.now
-
-within : (w : goal.After-words_of-i) → Within w
+within : (w : goal.After-words_of-i) → (w.words_of-i.result + 1 < length w.args.table.now)
 within w =
-    let f = w.before.before in
-    let a = (start f).args in
-    let i = met_in_lem a.«data» a.count a.cut a.d.chunk.0 (is_met_lem f) in
-    omega (arith, w.words_of-i.ensures, i.0, i.1, (start f).requires.0)
+    let is_met_lem : (let a = w.args in is_met a.«data» a.count a.cut a.d.chunk.0 ≡ true) = sym w.is_met.ensures ∙ not-false w.is_met.result w.if-not-is_met.left in
+    let a = w.args in
+    let i = met_in_lem a.«data» a.count a.cut a.d.chunk.0 is_met_lem in
+    omega (arith, w.words_of-i.ensures, i.0, i.1, w.requires.0)
 
 pub overflow_sub-d : goal.overflow_sub-d
 overflow_sub-d c =
-    let f = c.before in
-    let a = (start f).args in
-    omega (arith, (met_in_lem a.«data» a.count a.cut a.d.chunk.0 (is_met_lem f)).0)
+    let a = c.args in
+    omega (arith, (met_in_lem a.«data» a.count a.cut a.d.chunk.0 (is_met_lem c)).0)
 
 pub returns-then-table-i-ne0 : goal.returns-then-table-i-ne0
 unfolding noted
-returns-then-table-i-ne0 c =
-    let w = c.before.before in
-    rw (is_met_lem w.before.before, ← w.words_of-i.ensures, ne_eqb _ _ c.if-table-i-ne0.true)
-
--- the row of the chunk, where it is written to
-abbrev row_of : goal.After-struct_known-2-1 → goal.After-words_of-i
-row_of c = c.before.before.before.before
+returns-then-table-i-ne0 c = rw (is_met_lem (goal.at.returns-then-table-i-ne0 c).After-struct_known-1, ← c.words_of-i.ensures, ne_eqb _ _ c.if-table-i-ne0.true)
 
 pub returns : goal.returns
 unfolding noted
 returns c =
-    let w = row_of c in
-    rw (is_met_lem w.before.before, ← w.words_of-i.ensures, eq-eqb _ _ c.if-table-i-ne0.false, ← c.valid_in-valid.ensures)
+    rw (is_met_lem (goal.at.returns c).After-struct_known-1, ← c.words_of-i.ensures, eq-eqb _ _ c.if-table-i-ne0.false, ← c.valid_in-valid.ensures)
 
 pub offset_bounds-table-i : goal.offset_bounds-table-i
 offset_bounds-table-i c = omega (arith, within c)
 
 pub bounds-table-i : goal.bounds-table-i
-bounds-table-i c = omega (arith, within c.before)
+bounds-table-i c = omega (arith, within (goal.at.bounds-table-i c).After-words_of-i)
 
 pub overflow_add-table : goal.overflow_add-table
-overflow_add-table c = omega (arith, (start (row_of c).before.before).pre.1)
+overflow_add-table c = omega (arith, c.pre.1)
 
 pub offset_bounds-table-i-2 : goal.offset_bounds-table-i-2
-offset_bounds-table-i-2 c = omega (arith, within (row_of c))
+offset_bounds-table-i-2 c = omega (arith, within (goal.at.offset_bounds-table-i-2 c).After-words_of-i)
 
 pub bounds-table-i-2 : goal.bounds-table-i-2
-bounds-table-i-2 c = omega (arith, within (row_of c))
+bounds-table-i-2 c = omega (arith, within (goal.at.bounds-table-i-2 c).After-words_of-i)
 
 pub overflow_add-table-2 : goal.overflow_add-table-2
-overflow_add-table-2 c = omega (arith, within (row_of c))
+overflow_add-table-2 c = omega (arith, within (goal.at.overflow_add-table-2 c).After-words_of-i)
 
 pub offset_bounds-table-i-3 : goal.offset_bounds-table-i-3
-offset_bounds-table-i-3 c = omega (arith, within (row_of c))
+offset_bounds-table-i-3 c = omega (arith, within (goal.at.offset_bounds-table-i-3 c).After-words_of-i)
 
 pub bounds-table-i-3 : goal.bounds-table-i-3
-bounds-table-i-3 c = rw (length-set) (omega (arith, within (row_of c)))
+bounds-table-i-3 c = rw (length-set) (omega (arith, within (goal.at.bounds-table-i-3 c).After-words_of-i))
 
 pub shape_of-table : goal.shape_of-table
 shape_of-table c = simp length-set

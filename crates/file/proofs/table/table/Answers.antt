@@ -10,8 +10,7 @@ table_in-requires c = sym c.opened-p.ensures ∙ c.in-Pages.is
 
 pub returns-in-Refused : goal.returns-in-Refused
 unfolding table_from table_by filled_by
-returns-in-Refused c =
-    record { value = rw (size_refused _ _ _ _ _ (sym c.opened-p.ensures ∙ c.in-Refused.is)); table_after = refl }
+returns-in-Refused c = record { value = rw (size_refused _ _ _ _ _ (sym c.opened-p.ensures ∙ c.in-Refused.is)); table_after = refl }
 
 pub returns-in-Pages : goal.returns-in-Pages
 returns-in-Pages c = c.table_in.ensures

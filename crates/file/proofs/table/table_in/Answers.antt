@@ -10,32 +10,17 @@ use Rattle.file.specs.Table.{table_from, table_by, filled_by}
 use Rattle.file.proofs.Chunks.{data_some, table_short, table_rows, table_filled}
 use Rattle.file.proofs.table.table_in.Goals as goal
 
--- the size that the lookup gave
-module _ (g : goal.In-Size-2) where
-  abbrev start : goal.Start
-  start = g.before.before.before.before.before.before
-
-  abbrev Sized : Type 0
-  Sized =
-      let a = start.args in
-      size_from a.g a.dump.now a.cells.now a.o.0 ≡ sized.Size g.in-Size.bytes g.in-Size.field-1
-
-  given-size : Sized
-  given-size = sym g.size-s.ensures ∙ g.in-Size.is
+given-size : (g : goal.In-Size) → (let a = g.args in size_from a.g a.dump.now a.cells.now a.o.0 ≡ sized.Size g.in-Size.bytes g.in-Size.field-1)
+given-size g = sym g.size-s.ensures ∙ g.in-Size.is
 
 pub returns-then-table-words : goal.returns-then-table-words
 unfolding filled_by
 returns-then-table-words c =
-    let n = c.before.before in
-    let g = n.before.before in record { value = rw (c.words_of-words.ensures, n.chunks_in-count.ensures.value)
-          (sym (table_short _ _ _ _ _ _ _ (start g).requires (given-size g) (start g).args.table.now (rw (c.words_of-words.ensures, n.chunks_in-count.ensures.value) at c.if-table-words.true))); table_after = refl }
+    record { value = rw (c.words_of-words.ensures, c.chunks_in-count.ensures.value)
+          (sym (table_short _ _ _ _ _ _ _ c.requires (given-size (goal.at.returns-then-table-words c).In-Size) c.args.table.now (rw (c.words_of-words.ensures, c.chunks_in-count.ensures.value) at c.if-table-words.true))); table_after = refl }
 
 pub fill-requires : goal.fill-requires
-fill-requires c =
-    let e = c.before.before in
-    let w = e.before in
-    let g = w.before.before.before in
-    let s = start g in record { pages_bound = omega (arith, opened_most _ _ _ s.requires); pages_in_bounds = (is_sized _ _ _ _ _ _ _ s.requires (given-size g)).room; count_in_bounds = omega (arith, w.words_of-words.ensures, e.if-table-words.false) }
+fill-requires c = let c = c in record { pages_bound = omega (arith, opened_most _ _ _ c.requires); pages_in_bounds = (is_sized _ _ _ _ _ _ _ c.requires (given-size (goal.at.fill-requires c).In-Size)).room; count_in_bounds = omega (arith, c.words_of-words.ensures, c.if-table-words.false) }
 
 pub returns-in-Refused : goal.returns-in-Refused
 unfolding table_from table_by filled_by
@@ -43,17 +28,11 @@ returns-in-Refused c = record { value = rw (← c.size-s.ensures, c.in-Refused.i
 
 pub returns-else-table-words : goal.returns-else-table-words
 returns-else-table-words c =
-    let f = c.before.before in
-    let i = f.before.before in
-    let e = i.before in
-    let w = e.before in
-    let n = w.before in
-    let g = n.before.before in
-    let s = start g in record { value = rw n.chunks_in-count.ensures.value
-          (sym (table_rows _ _ _ _ _ _ _ s.requires (given-size g) s.args.table.now (rw (w.words_of-words.ensures, n.chunks_in-count.ensures.value) at e.if-table-words.false))); table_after = rw (f.fill.ensures, i.first_link-first.ensures, n.chunks_in-count.ensures.value) (sym (table_filled _ _ _ _ _ _ _ s.requires (given-size g) s.args.table.now)) }
+    let c = c in record { value = rw c.chunks_in-count.ensures.value
+          (sym (table_rows _ _ _ _ _ _ _ c.requires (given-size (goal.at.returns-else-table-words c).In-Size) c.args.table.now (rw (c.words_of-words.ensures, c.chunks_in-count.ensures.value) at c.if-table-words.false))); table_after = rw (c.fill.ensures, c.first_link-first.ensures, c.chunks_in-count.ensures.value) (sym (table_filled _ _ _ _ _ _ _ c.requires (given-size (goal.at.returns-else-table-words c).In-Size) c.args.table.now)) }
 
 pub chunks_in-count-requires : goal.chunks_in-count-requires
-chunks_in-count-requires c = data_some _ _ _ (start c.before).pre
+chunks_in-count-requires c = data_some _ _ _ c.pre
 
 pub overflow_cast-result : goal.overflow_cast-result
 overflow_cast-result c = omega (arith, c.words_of-words.ensures, c.chunks_in-count.ensures.upper_bound)

@@ -18,5 +18,4 @@ returns-in-Refused c = rw (← c.opened-o.ensures, c.in-Refused.is) refl
 
 pub returns-in-Pages : goal.returns-in-Pages
 unfolding add_of add_in
-returns-in-Pages c =
-    rw (← c.opened-o.ensures, c.in-Pages.is) c.add_page.ensures
+returns-in-Pages c = rw (← c.opened-o.ensures, c.in-Pages.is) c.add_page.ensures

@@ -10,5 +10,4 @@ returns-in-Refused c = rw (← c.opened-o.ensures, c.in-Refused.is) refl
 
 pub returns-in-Pages : goal.returns-in-Pages
 unfolding start_of
-returns-in-Pages c =
-    rw (← c.opened-o.ensures, c.in-Pages.is) c.start_pages.ensures
+returns-in-Pages c = rw (← c.opened-o.ensures, c.in-Pages.is) c.start_pages.ensures

@@ -8,8 +8,7 @@ use borrow.Author.Rules.{rules}
 use Rattle.index.proofs.cells.clear.Goals as goal
 
 pub bounds-words-i : goal.bounds-words-i
-bounds-words-i c =
-    omega (arith, c.loop-i-test.true, c.loop-i.invariant.1, c.lesser-stop.ensures)
+bounds-words-i c = omega (arith, c.loop-i-test.true, c.loop-i.invariant.1, c.lesser-stop.ensures)
 
 pub loop-i-preserved : goal.loop-i-preserved
 loop-i-preserved c =

@@ -6,9 +6,7 @@ pub returns-then-is_any : goal.returns-then-is_any
 returns-then-is_any c = rw (← c.is_any.ensures, c.if-is_any.true)
 
 pub returns-then-is_gone : goal.returns-then-is_gone
-returns-then-is_gone c =
-    rw (← c.is_any.ensures, c.if-is_any.false, ← c.record_at.ensures, ← c.is_gone.ensures, c.if-is_gone.true)
+returns-then-is_gone c = rw (← c.is_any.ensures, c.if-is_any.false, ← c.record_at.ensures, ← c.is_gone.ensures, c.if-is_gone.true)
 
 pub returns : goal.returns
-returns c =
-    rw (← c.is_any.ensures, c.if-is_any.false, ← c.record_at.ensures, ← c.is_gone.ensures, c.if-is_gone.false)
+returns c = rw (← c.is_any.ensures, c.if-is_any.false, ← c.record_at.ensures, ← c.is_gone.ensures, c.if-is_gone.false)

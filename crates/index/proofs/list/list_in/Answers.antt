@@ -19,29 +19,20 @@ enough : (c : goal.Else-cells-cells_for) → let a = c.args in cells_for a.pages
 enough c = omega (arith, c.if-cells-cells_for.false, c.cells_for.ensures)
 
 -- what is known where the tally counted
-counted :
-    (c : goal.In-Count) →
-    let a = c.args in
+counted : (c : goal.In-Count) → let a = c.args in
     Counted (record_at a.g a.dump.now) a.g.layout.«data» a.cells.now a.pages (length a.words.now) c.in-Count.need
 counted c =
-    let t = c.before.before.before in
-    list_counted _ _ _ _ (enough t.before) _ _ (sym t.tally_in-tally.ensures ∙ c.in-Count.is)
+    let enough : let a = c.args in cells_for a.pages ≤ length a.cells.now = omega (arith, c.if-cells-cells_for.false, c.cells_for.ensures) in
+    list_counted _ _ _ _ enough _ _ (sym c.tally_in-tally.ensures ∙ c.in-Count.is)
 
 pub returns-then-words-need : goal.returns-then-words-need
-returns-then-words-need c = record { value = rw ((counted c.before).1, lt-ltb _ _ c.if-words-need.true); words_after = rw words_kept }
+returns-then-words-need c = record { value = rw ((counted (goal.at.returns-then-words-need c).In-Count).1, lt-ltb _ _ c.if-words-need.true); words_after = rw words_kept }
 
 pub write_ids-requires : goal.write_ids-requires
-write_ids-requires c =
-    let e = c.before in
-    record { pages_in_bounds = enough e.before.before.before.before.before; pages_in_bounds_2 = omega (arith, (counted e.before).0, e.if-words-need.false) }
+write_ids-requires c = record { pages_in_bounds = enough (goal.at.write_ids-requires c).Else-cells-cells_for; pages_in_bounds_2 = omega (arith, (counted (goal.at.write_ids-requires c).In-Count).0, c.if-words-need.false) }
 
 pub returns-in-Refused : goal.returns-in-Refused
-returns-in-Refused c =
-    let t = c.before.before.before in
-    record { value = sym (list_refused _ _ _ _ (enough t.before) _ _ (sym t.tally_in-tally.ensures ∙ c.in-Refused.is)); words_after = rw words_kept }
+returns-in-Refused c = record { value = sym (list_refused _ _ _ _ (enough (goal.at.returns-in-Refused c).Else-cells-cells_for) _ _ (sym c.tally_in-tally.ensures ∙ c.in-Refused.is)); words_after = rw words_kept }
 
 pub returns-else-words-need : goal.returns-else-words-need
-returns-else-words-need c =
-    let w = c.before.before in
-    let e = w.before.before in
-    record { value = rw ((counted e.before).1, le-ltb _ _ e.if-words-need.false); words_after = rw words_listed w.write_ids.ensures }
+returns-else-words-need c = record { value = rw ((counted (goal.at.returns-else-words-need c).In-Count).1, le-ltb _ _ c.if-words-need.false); words_after = rw words_listed c.write_ids.ensures }

@@ -9,8 +9,7 @@ use Rattle.index.proofs.list.standing_at.Goals as goal
 
 pub returns-then-slot_of-s : goal.returns-then-slot_of-s
 unfolding standing_at
-returns-then-slot_of-s c =
-    rw (← c.requires.o_value, ne_eqb c.args.o.0 0 (λ z. absurd (omega arith)), ← c.slot_of.ensures.value, ne_eqb _ _ c.if-slot_of-s.true)
+returns-then-slot_of-s c = rw (← c.requires.o_value, ne_eqb c.args.o.0 0 (λ z. absurd (omega arith)), ← c.slot_of.ensures.value, ne_eqb _ _ c.if-slot_of-s.true)
 
 pub returns : goal.returns
 unfolding standing_at chain first

@@ -25,37 +25,22 @@ returns-in-Damaged c =
     let k = stepped _ _ _ _ _ _ Damaged (sym c.in-Damaged.is ∙ c.follow-step.ensures) in
     sym (q.invariant ∙ stands_broken _ _ _ _ k)
 
--- the turn of the loop in which a link led to a record, the function's start, and what is known of the record
-abbrev turn : goal.In-Record-2 invariant-loop decreases-loop → goal.At-loop-q invariant-loop decreases-loop
-turn c = c.before.before.before
-
-abbrev start : goal.In-Record-2 invariant-loop decreases-loop → goal.Start invariant-loop decreases-loop
-start c = (turn c).before.before.before
-
-abbrev Here : goal.In-Record-2 invariant-loop decreases-loop → Type 0
-Here c =
-    let q = (turn c).loop in
-    let a = (start c).args in
-    Meets (record_at a.g a.dump.now) a.pages a.o.0 a.cells.now q.bound q.link c.in-Record.q c.in-Record.age c.in-Record.role
-
-here : (c : goal.In-Record-2) → Here c
-here c = stepped _ _ _ _ _ _ (Record _ _ _) (sym c.in-Record.is ∙ c.follow-step.ensures)
-
 pub returns-in_default : goal.returns-in_default
 returns-in_default c =
-    let g = c.before.before.before.before in
-    let a = (start g).args in
+    let here : (let q = c.loop in let a = c.args in Meets (record_at a.g a.dump.now) a.pages a.o.0 a.cells.now q.bound q.link c.in-Record.q c.in-Record.age c.in-Record.role) = stepped _ _ _ _ _ _ (Record _ _ _) (sym c.in-Record.is ∙ c.follow-step.ensures) in
+    let a = c.args in
     let says = record_at a.g a.dump.now in
-    let e = role_header (says g.in-Record.q.0) (here g).leads.some (sym c.in_default.is ∙ (here g).is) in
-    c.headed_standing.ensures ∙ sym ((turn g).loop.invariant ∙ stands_here _ says _ _ _ _ ((here g).onward _ refl) e)
+    let e = role_header (says c.in-Record.q.0) here.leads.some (sym c.in_default.is ∙ here.is) in
+    c.headed_standing.ensures ∙ sym (c.loop.invariant ∙ stands_here _ says _ _ _ _ (here.onward _ refl) e)
 
 pub loop-q-smaller : goal.loop-q-smaller
-loop-q-smaller c = (here c.before.before.before.before).older
+loop-q-smaller c = let here : (let q = c.loop in let a = c.args in Meets (record_at a.g a.dump.now) a.pages a.o.0 a.cells.now q.bound q.link c.in-Record.q c.in-Record.age c.in-Record.role) = stepped _ _ _ _ _ _ (Record _ _ _) (sym c.in-Record.is ∙ c.follow-step.ensures) in
+    here.older
 
 pub loop-q-preserved : goal.loop-q-preserved
 loop-q-preserved c =
-    let g = c.before.before.before.before in
-    let a = (start g).args in
+    let here : (let q = c.loop in let a = c.args in Meets (record_at a.g a.dump.now) a.pages a.o.0 a.cells.now q.bound q.link c.in-Record.q c.in-Record.age c.in-Record.role) = stepped _ _ _ _ _ _ (Record _ _ _) (sym c.in-Record.is ∙ c.follow-step.ensures) in
+    let a = c.args in
     let says = record_at a.g a.dump.now in
-    let e = role_data (says g.in-Record.q.0) _ (sym c.in-Data.is ∙ (here g).is) in
-    (turn g).loop.invariant ∙ stands_on _ says _ _ _ _ ((here g).onward _ c.link_of-link.ensures) (rw e refl)
+    let e = role_data (says c.in-Record.q.0) _ (sym c.in-Data.is ∙ here.is) in
+    c.loop.invariant ∙ stands_on _ says _ _ _ _ (here.onward _ c.link_of-link.ensures) (rw e refl)

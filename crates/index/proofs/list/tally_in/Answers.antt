@@ -15,19 +15,18 @@ use Rattle.index.proofs.list.tally_in.Goals as goal
 pub loop-s-init : goal.loop-s-init
 loop-s-init c = (search rules, search rules, count_none _, rw count_none)
 
--- in the loop the slot is one of the index
-module _ (t : goal.In-loop-s) where
-  abbrev a : goal.Start invariant-loop decreases-loop
-  a = t.before.before.before.before.before
+inside : (t : goal.In-loop-s) → t.loop-s.s < slots_for t.args.pages
+inside t = omega (arith, t.loop-s-test.taken, t.slots_for-slots.ensures)
 
-  inside : t.loop-s.s < slots_for a.args.pages
-  inside = omega (arith, t.loop-s-test.taken, t.slots_for-slots.ensures)
+in_table : (t : goal.In-loop-s) → InTable t.args.cells.now t.loop-s.s
+in_table t =
+    let inside : t.loop-s.s < slots_for t.args.pages = omega (arith, t.loop-s-test.taken, t.slots_for-slots.ensures) in
+    slot_in t.args.pages t.loop-s.s inside t.args.cells.now (omega (arith, t.fits.pages)) t.pre.1
 
-  in_table : InTable a.args.cells.now t.loop-s.s
-  in_table = slot_in a.args.pages t.loop-s.s inside a.args.cells.now (omega (arith, a.fits.pages)) a.pre.1
-
-  some-pages : 0 < a.args.pages
-  some-pages = slots_pages a.args.pages t.loop-s.s inside
+some-pages : (t : goal.In-loop-s) → 0 < t.args.pages
+some-pages t =
+    let inside : t.loop-s.s < slots_for t.args.pages = omega (arith, t.loop-s-test.taken, t.slots_for-slots.ensures) in
+    slots_pages t.args.pages t.loop-s.s inside
 
 pub loop-s-preserved-then-o-eq0 : goal.loop-s-preserved-then-o-eq0
 loop-s-preserved-then-o-eq0 c =
@@ -36,10 +35,7 @@ loop-s-preserved-then-o-eq0 c =
     (search rules, search rules, count_skip _ q.s (ap is_damaged e) ∙ q.invariant.2, q.invariant.3 ∙ sym (count_skip _ q.s (ap is_asked e)))
 
 pub standing_at-standing-requires : goal.standing_at-standing-requires
-standing_at-standing-requires c =
-    let k = c.before.before in
-    let t = k.before in
-    record { pages_nonzero = some-pages t; pages_in_bounds = (a t).requires.1; in_table = in_table t; o_value = k.key_of-o.ensures; o_nonzero = omega (arith, c.if-o-eq0.false) }
+standing_at-standing-requires c = record { pages_nonzero = some-pages (goal.at.standing_at-standing-requires c).In-loop-s; pages_in_bounds = c.requires.1; in_table = in_table (goal.at.standing_at-standing-requires c).In-loop-s; o_value = c.key_of-o.ensures; o_nonzero = omega (arith, c.if-o-eq0.false) }
 
 pub loop-s-preserved : goal.loop-s-preserved
 loop-s-preserved c =
@@ -48,10 +44,7 @@ loop-s-preserved c =
     (search rules, search rules, count_skip _ q.s (ap is_damaged e) ∙ q.invariant.2, rw q.invariant.3 (sym (count_take _ q.s (ap is_asked e))))
 
 pub returns-in-Damaged : goal.returns-in-Damaged
-returns-in-Damaged c =
-    let d = c.before.before in
-    let t = d.before.before.before.before in
-    sym (tally_damaged _ _ _ _ _ t.loop-s.s (inside t) (sym d.standing_at-standing.ensures ∙ c.in-Damaged.is))
+returns-in-Damaged c = sym (tally_damaged _ _ _ _ _ c.loop-s.s (inside (goal.at.returns-in-Damaged c).In-loop-s) (sym c.standing_at-standing.ensures ∙ c.in-Damaged.is))
 
 pub loop-s-preserved-in-Other : goal.loop-s-preserved-in-Other
 loop-s-preserved-in-Other c =

@@ -15,19 +15,18 @@ use Rattle.index.proofs.list.write_ids.Goals as goal
 pub loop-s-init : goal.loop-s-init
 loop-s-init c = (search rules, listed_none _ _ _)
 
--- in the loop the slot is one of the index
-module _ (t : goal.In-loop-s) where
-  abbrev a : goal.Start invariant-loop decreases-loop
-  a = t.before.before.before.before.before.before
+inside : (t : goal.In-loop-s) → t.loop-s.s < slots_for t.args.pages
+inside t = omega (arith, t.loop-s-test.taken, t.slots_for-slots.ensures)
 
-  inside : t.loop-s.s < slots_for a.args.pages
-  inside = omega (arith, t.loop-s-test.taken, t.slots_for-slots.ensures)
+in_table : (t : goal.In-loop-s) → InTable t.args.cells.now t.loop-s.s
+in_table t =
+    let inside : t.loop-s.s < slots_for t.args.pages = omega (arith, t.loop-s-test.taken, t.slots_for-slots.ensures) in
+    slot_in t.args.pages t.loop-s.s inside t.args.cells.now (omega (arith, t.fits.pages)) t.pre.0
 
-  in_table : InTable a.args.cells.now t.loop-s.s
-  in_table = slot_in a.args.pages t.loop-s.s inside a.args.cells.now (omega (arith, a.fits.pages)) a.pre.0
-
-  some-pages : 0 < a.args.pages
-  some-pages = slots_pages a.args.pages t.loop-s.s inside
+some-pages : (t : goal.In-loop-s) → 0 < t.args.pages
+some-pages t =
+    let inside : t.loop-s.s < slots_for t.args.pages = omega (arith, t.loop-s-test.taken, t.slots_for-slots.ensures) in
+    slots_pages t.args.pages t.loop-s.s inside
 
 pub loop-s-preserved-then-o-eq0 : goal.loop-s-preserved-then-o-eq0
 loop-s-preserved-then-o-eq0 c =
@@ -36,10 +35,7 @@ loop-s-preserved-then-o-eq0 c =
     (search rules, listed_skip q.invariant.1 t)
 
 pub standing_at-standing-requires : goal.standing_at-standing-requires
-standing_at-standing-requires c =
-    let k = c.before.before in
-    let t = k.before in
-    record { pages_nonzero = some-pages t; pages_in_bounds = (a t).requires.0; in_table = in_table t; o_value = k.key_of-o.ensures; o_nonzero = omega (arith, c.if-o-eq0.false) }
+standing_at-standing-requires c = record { pages_nonzero = some-pages (goal.at.standing_at-standing-requires c).In-loop-s; pages_in_bounds = c.requires.0; in_table = in_table (goal.at.standing_at-standing-requires c).In-loop-s; o_value = c.key_of-o.ensures; o_nonzero = omega (arith, c.if-o-eq0.false) }
 
 pub loop-s-preserved-in_default : goal.loop-s-preserved-in_default
 loop-s-preserved-in_default c =
@@ -49,17 +45,12 @@ loop-s-preserved-in_default c =
 
 pub loop-s-preserved : goal.loop-s-preserved
 loop-s-preserved c =
-    let w = c.before.before in
-    let m = w.before.before in
-    let d = m.before.before in
-    let k = d.before.before.before in
-    let q = k.loop-s in
-    let s = a k.before in
-    let says = record_at s.args.g s.args.dump.now in
-    let test = asked_slot Live says s.args.g.layout.«data» s.args.cells.now s.args.pages in
-    let t : test q.s ≡ true = ap is_asked (sym d.standing_at-standing.ensures ∙ m.in-Asked.is) in
-    let room = listed_room q.invariant.1 (slots_for s.args.pages) (inside k.before) t s.requires.pages_in_bounds_2 in
-    (search rules, listed_more q.invariant.1 _ t room (rw (← k.key_of-o.ensures) w.put_id.ensures))
+    let q = c.loop-s in
+    let says = record_at c.args.g c.args.dump.now in
+    let test = asked_slot Live says c.args.g.layout.«data» c.args.cells.now c.args.pages in
+    let t : test q.s ≡ true = ap is_asked (sym c.standing_at-standing.ensures ∙ c.in-Asked.is) in
+    let room = listed_room q.invariant.1 (slots_for c.args.pages) (inside (goal.at.loop-s-preserved c).In-loop-s) t c.requires.pages_in_bounds_2 in
+    (search rules, listed_more q.invariant.1 _ t room (rw (← c.key_of-o.ensures) c.put_id.ensures))
 
 pub returns : goal.returns
 unfolding slot_ids

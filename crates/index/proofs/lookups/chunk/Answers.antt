@@ -6,8 +6,7 @@ use Rattle.index.specs.Walks.{chunk_from}
 use Rattle.index.proofs.lookups.chunk.Goals as goal
 
 pub chunk_in-requires : goal.chunk_in-requires
-chunk_in-requires c =
-    opened_some _ _ _ (sym c.opened_of-p.ensures ∙ c.in-Pages.is)
+chunk_in-requires c = opened_some _ _ _ (sym c.opened_of-p.ensures ∙ c.in-Pages.is)
 
 pub returns-in-Refused : goal.returns-in-Refused
 unfolding chunk_from

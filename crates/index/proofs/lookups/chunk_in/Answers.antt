@@ -14,8 +14,7 @@ returns-then-cells-cells_for c = rw (← c.cells_for.ensures, lt-ltb _ _ c.if-ce
 
 pub returns-then-is_bad : goal.returns-then-is_bad
 unfolding chunk_in
-returns-then-is_bad c =
-    rw (← c.cells_for.ensures, le-ltb _ _ c.if-cells-cells_for.false, ← c.is_bad.ensures, c.if-is_bad.true)
+returns-then-is_bad c = rw (← c.cells_for.ensures, le-ltb _ _ c.if-cells-cells_for.false, ← c.is_bad.ensures, c.if-is_bad.true)
 
 pub returns-then-is_bad-2 : goal.returns-then-is_bad-2
 unfolding chunk_in

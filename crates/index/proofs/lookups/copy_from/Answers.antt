@@ -9,5 +9,4 @@ returns-in-Nothing c = rw c.in-Nothing.is c.seek_below.ensures
 
 pub returns-in-Copy : goal.returns-in-Copy
 unfolding copy_from
-returns-in-Copy c =
-    rw (c.in-Copy.is, c.valid_of-valid.ensures, c.count_of-count.ensures, c.record_at.ensures)
+returns-in-Copy c = rw (c.in-Copy.is, c.valid_of-valid.ensures, c.count_of-count.ensures, c.record_at.ensures)

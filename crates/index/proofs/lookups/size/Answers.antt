@@ -6,8 +6,7 @@ use Rattle.index.specs.Walks.{size_from}
 use Rattle.index.proofs.lookups.size.Goals as goal
 
 pub size_in-requires : goal.size_in-requires
-size_in-requires c =
-    opened_some _ _ _ (sym c.opened_of-p.ensures ∙ c.in-Pages.is)
+size_in-requires c = opened_some _ _ _ (sym c.opened_of-p.ensures ∙ c.in-Pages.is)
 
 pub returns-in-Refused : goal.returns-in-Refused
 unfolding size_from

@@ -14,12 +14,10 @@ returns-then-cells-cells_for c = rw (← c.cells_for.ensures, lt-ltb _ _ c.if-ce
 
 pub returns-then-is_bad : goal.returns-then-is_bad
 unfolding size_in
-returns-then-is_bad c =
-    rw (← c.cells_for.ensures, le-ltb _ _ c.if-cells-cells_for.false, ← c.is_bad.ensures, c.if-is_bad.true)
+returns-then-is_bad c = rw (← c.cells_for.ensures, le-ltb _ _ c.if-cells-cells_for.false, ← c.is_bad.ensures, c.if-is_bad.true)
 
 pub size_walk-requires : goal.size_walk-requires
-size_walk-requires c =
-    omega (arith, c.if-cells-cells_for.false, c.cells_for.ensures)
+size_walk-requires c = omega (arith, c.if-cells-cells_for.false, c.cells_for.ensures)
 
 pub returns : goal.returns
 unfolding size_in chain

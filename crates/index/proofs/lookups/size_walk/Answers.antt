@@ -43,64 +43,41 @@ returns-in-Damaged c =
     let k = stepped _ _ _ _ _ _ Damaged (sym c.in-Damaged.is ∙ c.follow-step.ensures) in
     sym (q.invariant.1 ∙ ap (size_reached _) (reach_broken _ _ _ _ _ _ _ k))
 
--- the turn of the loop in which a link led to a record, the function's start, and what is known of the record
-abbrev turn : goal.In-Record-2 invariant-loop decreases-loop → goal.At-loop-q invariant-loop decreases-loop
-turn c = c.before.before.before
-
-abbrev start : goal.In-Record-2 invariant-loop decreases-loop → goal.Start invariant-loop decreases-loop
-start c = (turn c).before.before.before
-
-abbrev Here : goal.In-Record-2 invariant-loop decreases-loop → Type 0
-Here c =
-    let q = (turn c).loop in
-    let a = (start c).args in
-    Meets (record_at a.g a.dump.now) a.pages a.o.0 a.cells.now q.bound q.link c.in-Record.q c.in-Record.age c.in-Record.role
-
-here : (c : goal.In-Record-2) → Here c
+here : (c : goal.In-Record) → (let q = c.loop in let a = c.args in Meets (record_at a.g a.dump.now) a.pages a.o.0 a.cells.now q.bound q.link c.in-Record.q c.in-Record.age c.in-Record.role)
 here c = stepped _ _ _ _ _ _ (Record _ _ _) (sym c.in-Record.is ∙ c.follow-step.ensures)
 
 pub overflow_add-visits : goal.overflow_add-visits
-overflow_add-visits c =
-    let g = c.before in
-    omega (arith, (turn g).loop.invariant.0, count_on _ _ _ ((here g).onward _ refl))
+overflow_add-visits c = omega (arith, c.loop.invariant.0, count_on _ _ _ ((here c).onward _ refl))
 
 pub returns-in_default : goal.returns-in_default
 unfolding size_reached
 returns-in_default c =
-    let g = c.before.before.before.before in
-    let a = (start g).args in
+    let a = c.args in
     let says = record_at a.g a.dump.now in
-    let e = role_header (says g.in-Record.q.0) (here g).leads.some (sym c.in_default.is ∙ (here g).is) in
+    let e = role_header (says c.in-Record.q.0) (here (goal.at.returns-in_default c).In-Record).leads.some (sym c.in_default.is ∙ (here (goal.at.returns-in_default c).In-Record).is) in
     c.size_file.ensures
-    ∙ sym ((turn g).loop.invariant.1 ∙ ap (size_reached _) (reach_here says _ _ _ _ _ _ _ _ ((here g).onward _ refl) e))
-
--- the record at which data was passed
-abbrev passed : goal.After-link_at-i invariant-loop decreases-loop → goal.In-Record-2 invariant-loop decreases-loop
-passed c = c.before.before.before.before.before
+    ∙ sym (c.loop.invariant.1 ∙ ap (size_reached _) (reach_here says _ _ _ _ _ _ _ _ ((here (goal.at.returns-in_default c).In-Record).onward _ refl) e))
 
 pub offset_bounds-cells-i : goal.offset_bounds-cells-i
-offset_bounds-cells-i c = omega (arith, (here (passed c)).leads.inside, c.link_at-i.ensures)
+offset_bounds-cells-i c = omega (arith, (here (goal.at.offset_bounds-cells-i c).In-Record).leads.inside, c.link_at-i.ensures)
 
 pub bounds-cells-i : goal.bounds-cells-i
 bounds-cells-i c =
-    let g = passed c.before in
-    omega (arith, (here g).leads.inside, c.link_at-i.ensures, (start g).pre)
+    omega (arith, (here (goal.at.bounds-cells-i c).In-Record).leads.inside, c.link_at-i.ensures, c.pre)
 
 pub loop-q-smaller : goal.loop-q-smaller
-loop-q-smaller c = (here (passed c.before.before)).older
+loop-q-smaller c = (here (goal.at.loop-q-smaller c).In-Record).older
 
 -- no page of data has the chunk number 0: nothing is noted as its copy
 pub loop-q-preserved : goal.loop-q-preserved
 loop-q-preserved c =
-    let i = c.before.before in
-    let g = passed i in
-    let q = (turn g).loop in
-    let a = (start g).args in
+    let q = c.loop in
+    let a = c.args in
     let says = record_at a.g a.dump.now in
-    let d = i.in-Data.d in
-    let e = role_data (says g.in-Record.q.0) d (sym i.in-Data.is ∙ (here g).is) in
-    let some : d.chunk.0 ≡ 0 → ⊥ = λ z. absurd (omega (arith, (data_within a.g a.dump.now g.in-Record.q.0 d e).chunk.least)) in
-    let on = (here g).onward _ (ap (word a.cells.now) i.link_at-i.ensures) in (
+    let d = c.in-Data.d in
+    let e = role_data (says c.in-Record.q.0) d (sym c.in-Data.is ∙ (here (goal.at.loop-q-preserved c).In-Record).is) in
+    let some : d.chunk.0 ≡ 0 → ⊥ = λ z. absurd (omega (arith, (data_within a.g a.dump.now c.in-Record.q.0 d e).chunk.least)) in
+    let on = (here (goal.at.loop-q-preserved c).In-Record).onward _ (ap (word a.cells.now) c.link_at-i.ensures) in (
       omega (arith, q.inv.0, count_on _ _ _ on),
       q.inv.1
           ∙ ap (size_reached says)

@@ -15,19 +15,16 @@ first-room : (f : goal.After-first_at-from) → let a = f.args in f.first_at-fro
 first-room f = omega (arith, f.first_at-from.ensures.value, f.requires.in_table.room)
 
 pub bounds-cells-i : goal.bounds-cells-i
-bounds-cells-i c =
-    omega (arith, c.key_at-i.ensures.value, key_room _ _ c.requires.in_table)
+bounds-cells-i c = omega (arith, c.key_at-i.ensures.value, key_room _ _ c.requires.in_table)
 
 pub place_from-requires : goal.place_from-requires
-place_from-requires c = let f = c.before.before.before.before in record { recorded = f.requires.recorded; from_in_bounds = first-room f }
+place_from-requires c = record { recorded = c.requires.recorded; from_in_bounds = first-room (goal.at.place_from-requires c).After-first_at-from }
 
 pub returns-then-cells-i : goal.returns-then-cells-i
 returns-then-cells-i c =
-    let k = c.before.before.before in
-    let f = k.before in
-    let a = f.args in
-    let none = first_in_none a.cells.now a.s a.o.0 (rw k.key_at-i.ensures.value at c.if-cells-i.true) in
-    record { value = rw f.first_at-from.ensures.value (sym (place_end _ _ _ _ (rw none (trace_end _ _ _ _ _ _ 0 (omega arith))))); within = first-room f }
+    let a = c.args in
+    let none = first_in_none a.cells.now a.s a.o.0 (rw c.key_at-i.ensures.value at c.if-cells-i.true) in
+    record { value = rw c.first_at-from.ensures.value (sym (place_end _ _ _ _ (rw none (trace_end _ _ _ _ _ _ 0 (omega arith))))); within = first-room (goal.at.returns-then-cells-i c).After-first_at-from }
 
 pub returns : goal.returns
 returns c =

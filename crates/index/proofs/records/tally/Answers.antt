@@ -31,32 +31,16 @@ returns-in-Damaged c =
     let k = stepped _ _ _ _ _ _ Damaged (sym c.in-Damaged.is ∙ c.follow-step.ensures) in
     sym (q.invariant.1 ∙ tally_broken _ _ k)
 
--- the turn of the loop in which a link led to a record, the function's start, and what is known of the record
-abbrev turn : goal.In-Record-2 invariant-loop decreases-loop → goal.At-loop-q invariant-loop decreases-loop
-turn c = c.before.before.before
-
-abbrev start : goal.In-Record-2 invariant-loop decreases-loop → goal.Start invariant-loop decreases-loop
-start c = (turn c).before.before.before
-
-abbrev Here : goal.In-Record-2 invariant-loop decreases-loop → Type 0
-Here c =
-    let q = (turn c).loop in
-    let a = (start c).args in
-    Meets (record_at a.g a.dump.now) a.pages a.o.0 a.cells.now q.bound q.link c.in-Record.q c.in-Record.age c.in-Record.field-2
-
-here : (c : goal.In-Record-2) → Here c
+here : (c : goal.In-Record) → (let q = c.loop in let a = c.args in Meets (record_at a.g a.dump.now) a.pages a.o.0 a.cells.now q.bound q.link c.in-Record.q c.in-Record.age c.in-Record.field-2)
 here c = stepped _ _ _ _ _ _ (Record _ _ _) (sym c.in-Record.is ∙ c.follow-step.ensures)
 
 pub overflow_add-count : goal.overflow_add-count
-overflow_add-count c =
-    let g = c.before in
-    omega (arith, (turn g).loop.invariant.0, count_on _ _ _ ((here g).onward _ refl))
+overflow_add-count c = omega (arith, c.loop.invariant.0, count_on _ _ _ ((here c).onward _ refl))
 
 pub loop-q-smaller : goal.loop-q-smaller
-loop-q-smaller c = (here c.before.before).older
+loop-q-smaller c = (here (goal.at.loop-q-smaller c).In-Record).older
 
 pub loop-q-preserved : goal.loop-q-preserved
 loop-q-preserved c =
-    let g = c.before.before in
-    let e = (here g).onward _ c.link_of-link.ensures in
-    (omega (arith, (turn g).loop.invariant.0, count_on _ _ _ e), (turn g).loop.invariant.1 ∙ tally_on _ _ _ _ e)
+    let e = (here (goal.at.loop-q-preserved c).In-Record).onward _ c.link_of-link.ensures in
+    (omega (arith, c.loop.invariant.0, count_on _ _ _ e), c.loop.invariant.1 ∙ tally_on _ _ _ _ e)

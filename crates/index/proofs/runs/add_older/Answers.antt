@@ -17,46 +17,29 @@ use Rattle.index.proofs.runs.add_older.Goals as goal
 
 pub run_pages-requires : goal.run_pages-requires
 run_pages-requires c =
-    let a = c.args in
+    let c c.args in
     omega (arith, opened_most a.g (length a.dump.now) _ (sym c.opened-o.ensures ∙ c.in-Pages.is))
 
--- the dump has so many pages
-module _ (k : goal.In-Pages-2) where
-  abbrev a : goal.Start
-  a = k.before.before.before.before.before
-
-  pages-are : opened_of a.args.g (length a.args.dump.now) ≡ opened.Pages k.in-Pages.pages
-  pages-are = sym k.opened-o.ensures ∙ k.in-Pages.is
+pages-are : (k : goal.In-Pages) → opened_of k.args.g (length k.args.dump.now) ≡ opened.Pages k.in-Pages.pages
+pages-are k = sym k.opened-o.ensures ∙ k.in-Pages.is
 
 pub returns-then-cells-cells_for : goal.returns-then-cells-cells_for
-returns-then-cells-cells_for c =
-    let f = c.before in
-    sym (older_short _ _ _ _ _ _ _ (pages-are f.before.before) (rw f.cells_for.ensures at c.if-cells-cells_for.true))
+returns-then-cells-cells_for c = sym (older_short _ _ _ _ _ _ _ (pages-are (goal.at.returns-then-cells-cells_for c).In-Pages) (rw c.cells_for.ensures at c.if-cells-cells_for.true))
 
 pub returns-then-pages-before : goal.returns-then-pages-before
-returns-then-pages-before c =
-    let t = c.before.before in
-    let f = t.before in
-    sym (older_far _ _ _ _ _ _ _ (pages-are f.before.before) (rw f.cells_for.ensures at t.if-cells-cells_for.false) c.if-pages-before.true)
+returns-then-pages-before c = sym (older_far _ _ _ _ _ _ _ (pages-are (goal.at.returns-then-pages-before c).In-Pages) (rw c.cells_for.ensures at c.if-cells-cells_for.false) c.if-pages-before.true)
 
 pub returns-in-Refused : goal.returns-in-Refused
 returns-in-Refused c = sym (older_refused _ _ _ _ _ _ _ (sym c.opened-o.ensures ∙ c.in-Refused.is))
 
 pub returns-else-pages-before : goal.returns-else-pages-before
 returns-else-pages-before c =
-    let r = c.before.before in
-    let m = r.before in
-    let g = m.before.before in
-    let u = g.before in
-    let t = u.before.before in
-    let f = t.before in
-    let k = f.before.before in
-    let s = (a k).args in
+    let s = c.args in
     let says = record_at s.g s.dump.now in
-    let n = k.in-Pages.pages in
-    r.run_pages.ensures
-    ∙ ap (λ (x : ℕ). run_by (taken_by (Older x) says) n (objects says) (age_of says) (m.at_most.result.0 - s.from.0) s.from.0 s.cells.now) g.age_at.ensures
+    let n = c.in-Pages.pages in
+    c.run_pages.ensures
+    ∙ ap (λ (x : ℕ). run_by (taken_by (Older x) says) n (objects says) (age_of says) (c.at_most.result.0 - s.from.0) s.from.0 s.cells.now) c.age_at.ensures
     ∙ ap
     (λ (end : ℕ). run_by (taken_by (Older (age_of says s.before.0)) says) n (objects says) (age_of says) (end - s.from.0) s.from.0 s.cells.now)
-    m.at_most.ensures
-    ∙ sym (older_room _ _ _ _ _ _ _ (pages-are f.before.before) (rw f.cells_for.ensures at t.if-cells-cells_for.false) u.if-pages-before.false)
+    c.at_most.ensures
+    ∙ sym (older_room _ _ _ _ _ _ _ (pages-are (goal.at.returns-else-pages-before c).In-Pages) (rw c.cells_for.ensures at c.if-cells-cells_for.false) c.if-pages-before.false)

@@ -10,8 +10,7 @@ use Rattle.index.proofs.runs.add_run.Goals as goal
 
 pub returns-then-cells-cells_for : goal.returns-then-cells-cells_for
 unfolding taken_of
-returns-then-cells-cells_for c =
-    rw (← c.opened-o.ensures, c.in-Pages.is) (sym (run_short _ _ _ _ _ _ (rw c.cells_for.ensures at c.if-cells-cells_for.true)))
+returns-then-cells-cells_for c = rw (← c.opened-o.ensures, c.in-Pages.is) (sym (run_short _ _ _ _ _ _ (rw c.cells_for.ensures at c.if-cells-cells_for.true)))
 
 pub run_pages-requires : goal.run_pages-requires
 run_pages-requires c =
@@ -24,5 +23,4 @@ returns-in-Refused c = rw (← c.opened-o.ensures, c.in-Refused.is) refl
 
 pub returns-else-cells-cells_for : goal.returns-else-cells-cells_for
 unfolding taken_of
-returns-else-cells-cells_for c =
-    rw (← c.opened-o.ensures, c.in-Pages.is) (c.run_pages.ensures ∙ sym (run_room _ _ _ _ _ _ (rw c.cells_for.ensures at c.if-cells-cells_for.false)))
+returns-else-cells-cells_for c = rw (← c.opened-o.ensures, c.in-Pages.is) (c.run_pages.ensures ∙ sym (run_room _ _ _ _ _ _ (rw c.cells_for.ensures at c.if-cells-cells_for.false)))

@@ -8,8 +8,7 @@ use Rattle.chunk.specs.Records.{object_of, sequence_of, order_of}
 use Rattle.index.proofs.runs.is_older.Goals as goal
 
 pub returns-then-object_of-eq0 : goal.returns-then-object_of-eq0
-returns-then-object_of-eq0 c =
-    rw (eq-eqb _ _ (ap object_of (sym c.record_at-r.ensures) ∙ sym c.object_of.ensures ∙ c.if-object_of-eq0.true)) refl
+returns-then-object_of-eq0 c = rw (eq-eqb _ _ (ap object_of (sym c.record_at-r.ensures) ∙ sym c.object_of.ensures ∙ c.if-object_of-eq0.true)) refl
 
 pub returns : goal.returns
 returns c =

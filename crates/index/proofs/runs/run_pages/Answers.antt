@@ -15,37 +15,23 @@ use Rattle.index.proofs.runs.run_pages.Goals as goal
 pub loop-p-preserved-then-not-is_taken : goal.loop-p-preserved-then-not-is_taken
 loop-p-preserved-then-not-is_taken c =
     let q = c.loop-p in
-    (q.invariant.0, q.invariant.1 ∙ run_skip _ _ _ _ _ _ _ c.loop-p-test.true (sym c.is_taken.ensures ∙ not-true c.is_taken.result c.if-not-is_taken.true))
-
--- a page that was added
-module _ (d : goal.After-add_page-added) where
-  abbrev e : goal.Else-not-is_taken invariant-loop decreases-loop
-  e = d.before.before
-
-  abbrev i : goal.In-loop-p invariant-loop decreases-loop
-  i = e.before.before
-
-  taken_here : let a = i.before.before.before.before.args in taken_by a.takes (record_at a.g a.dump.now) i.before.loop.p ≡ true
-  taken_here = sym e.before.is-taken.ensures ∙ not-false e.before.is-taken.result e.if1.left
+    (q.invariant.0, q.invariant.1 ∙ run_skip _ _ _ _ _ _ _ c.loop-p-test.true (sym c.is_taken.ensures ∙ c.if-not-is_taken.true))
 
 pub returns-in-Refused : goal.returns-in-Refused
 returns-in-Refused c =
-    let g = c.before in
-    let d = g.before.before.before.before in
-    let q = (i d).before.loop in
-    sym (q.inv.1 ∙ run_stop _ _ _ _ _ _ _ (i d).loop-test.true (taken_here d) _ _ (rw g.in-Refused.is at d.add_page-added.ensures))
+    let taken_here : let a = c.before.before.before.before.args in taken_by a.takes (record_at a.g a.dump.now) c.before.loop.p ≡ true = sym c.before.is-taken.ensures ∙ not-false c.before.is-taken.result c.if1.left in
+    let q = c.before.loop in
+    sym (q.inv.1 ∙ run_stop _ _ _ _ _ _ _ c.loop-test.true taken_here _ _ (rw c.in-Refused.is at c.add_page-added.ensures))
 
 pub shape_of-cells-in-Refused : goal.shape_of-cells-in-Refused
-shape_of-cells-in-Refused c =
-    let d = c.before.before.before.before.before in
-    d.add_page-added.auto.1.1.1.0 ∙ (i d).before.loop.invariant.0
+shape_of-cells-in-Refused c = c.add_page-added.auto.1.1.1.0 ∙ c.before.loop.invariant.0
 
 pub loop-p-preserved : goal.loop-p-preserved
 loop-p-preserved c =
-    let d = c.before.before.before.before in
-    let q = (i d).before.loop in (
-      d.add_page-added.auto.1.1.1.0 ∙ q.inv.0,
-      q.inv.1 ∙ run_more _ _ _ _ _ _ _ (i d).loop-test.true (taken_here d) _ (rw c.in-Done.is at d.add_page-added.ensures),
+    let taken_here : let a = c.before.before.before.before.args in taken_by a.takes (record_at a.g a.dump.now) c.before.loop.p ≡ true = sym c.before.is-taken.ensures ∙ not-false c.before.is-taken.result c.if1.left in
+    let q = c.before.loop in (
+      c.add_page-added.auto.1.1.1.0 ∙ q.inv.0,
+      q.inv.1 ∙ run_more _ _ _ _ _ _ _ c.loop-test.true taken_here _ (rw c.in-Done.is at c.add_page-added.ensures),
     )
 
 pub returns : goal.returns

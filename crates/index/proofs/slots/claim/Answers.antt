@@ -23,5 +23,4 @@ bounds-cells-f c = simp length-set (omega (arith, c.first_at-f.ensures.value, c.
 
 pub returns : goal.returns
 unfolding claimed
-returns c =
-    rw (← c.key_at-i.ensures.value, ← c.first_at-f.ensures.value, ne_eqb _ _ c.if-cells-i.false) refl
+returns c = rw (← c.key_at-i.ensures.value, ← c.first_at-f.ensures.value, ne_eqb _ _ c.if-cells-i.false) refl

@@ -19,5 +19,4 @@ returns-then-cells-i c = rw (← c.key_at-i.ensures.value, ne_eqb _ _ c.if-cells
 
 pub returns : goal.returns
 unfolding first_in
-returns c =
-    rw (← c.key_at-i.ensures.value, ← c.first_at-f.ensures.value, eq-eqb _ _ c.if-cells-i.false) refl
+returns c = rw (← c.key_at-i.ensures.value, ← c.first_at-f.ensures.value, eq-eqb _ _ c.if-cells-i.false) refl

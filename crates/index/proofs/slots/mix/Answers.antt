@@ -12,15 +12,11 @@ use Rattle.index.proofs.slots.mix.Goals as goal
 pub overflow_mul-t : goal.overflow_mul-t
 overflow_mul-t c = omega (arith, product_le {a = c.args.o.0} {b = c.args.seed} {m = 4294967295} {n = 4294967295} (omega arith) (omega arith))
 
--- the middle of the product
-abbrev middle : goal.After-struct_known-1 → ℕ
-middle c = c.args.o.0 * c.args.seed / below_product % word_values
-
-middle-most : (c : goal.After-struct_known-1) → middle c ≤ 4294967295
+middle-most : (c : goal.After-struct_known-1) → (c.args.o.0 * c.args.seed / below_product % word_values) ≤ 4294967295
 middle-most c = omega (arith, mod-lt (c.args.o.0 * c.args.seed / below_product) {m = word_values} (omega arith))
 
 pub overflow_mul-result : goal.overflow_mul-result
-overflow_mul-result c = let t = middle c in omega (arith, product_le {a = t} {b = t} {m = 4294967295} {n = 4294967295} (middle-most c) (middle-most c))
+overflow_mul-result c = let t = (c.args.o.0 * c.args.seed / below_product % word_values) in omega (arith, product_le {a = t} {b = t} {m = 4294967295} {n = 4294967295} (middle-most c) (middle-most c))
 
 pub returns : goal.returns
 unfolding mixed

@@ -36,46 +36,29 @@ returns-in-Damaged c =
     let k = stepped _ _ _ _ _ _ Damaged (sym c.in-Damaged.is ∙ c.follow-step.ensures) in
     sym (q.invariant.1 ∙ reach_broken _ _ _ _ _ _ _ k)
 
--- the turn of the loop in which a link led to a record, the function's start, and what is known of the record
-abbrev turn : goal.In-Record-2 invariant-loop decreases-loop → goal.At-loop-q invariant-loop decreases-loop
-turn c = c.before.before.before
-
-abbrev start : goal.In-Record-2 invariant-loop decreases-loop → goal.Start invariant-loop decreases-loop
-start c = (turn c).before.before.before
-
-abbrev Here : goal.In-Record-2 invariant-loop decreases-loop → Type 0
-Here c =
-    let q = (turn c).loop in
-    let a = (start c).args in
-    Meets (record_at a.g a.dump.now) a.pages a.o.0 a.cells.now q.bound q.link c.in-Record.q c.in-Record.age c.in-Record.role
-
-here : (c : goal.In-Record-2) → Here c
+here : (c : goal.In-Record) → (let q = c.loop in let a = c.args in Meets (record_at a.g a.dump.now) a.pages a.o.0 a.cells.now q.bound q.link c.in-Record.q c.in-Record.age c.in-Record.role)
 here c = stepped _ _ _ _ _ _ (Record _ _ _) (sym c.in-Record.is ∙ c.follow-step.ensures)
 
 pub overflow_add-visits : goal.overflow_add-visits
-overflow_add-visits c =
-    let g = c.before in
-    omega (arith, (turn g).loop.invariant.0, count_on _ _ _ ((here g).onward _ refl))
+overflow_add-visits c = omega (arith, c.loop.invariant.0, count_on _ _ _ ((here c).onward _ refl))
 
 pub returns-in_default : goal.returns-in_default
 returns-in_default c =
-    let g = c.before.before.before in
-    let a = (start g).args in
+    let a = c.args in
     let says = record_at a.g a.dump.now in
-    let e = role_header (says g.in-Record.q.0) (here g).leads.some (sym c.in_default.is ∙ (here g).is) in
-    sym ((turn g).loop.invariant.1 ∙ reach_here says _ _ _ _ _ _ _ _ ((here g).onward _ refl) e)
+    let e = role_header (says c.in-Record.q.0) (here (goal.at.returns-in_default c).In-Record).leads.some (sym c.in_default.is ∙ (here (goal.at.returns-in_default c).In-Record).is) in
+    sym (c.loop.invariant.1 ∙ reach_here says _ _ _ _ _ _ _ _ ((here (goal.at.returns-in_default c).In-Record).onward _ refl) e)
 
 pub loop-q-smaller : goal.loop-q-smaller
-loop-q-smaller c = (here c.before.before.before.before.before.before.before).older
+loop-q-smaller c = (here (goal.at.loop-q-smaller c).In-Record).older
 
 pub loop-q-preserved : goal.loop-q-preserved
 loop-q-preserved c =
-    let g = c.before.before.before.before.before.before.before in
-    let q = (turn g).loop in
-    let a = (start g).args in
+    let q = c.loop in
+    let a = c.args in
     let says = record_at a.g a.dump.now in
-    let e = role_data (says g.in-Record.q.0) _ (sym c.in-Data.is ∙ (here g).is) in
-    let on = (here g).onward _ c.link_of-link.ensures in (
+    let e = role_data (says c.in-Record.q.0) _ (sym c.in-Data.is ∙ (here (goal.at.loop-q-preserved c).In-Record).is) in
+    let on = (here (goal.at.loop-q-preserved c).In-Record).onward _ c.link_of-link.ensures in (
       omega (arith, q.inv.0, count_on _ _ _ on),
       q.inv.1
           ∙ reach_on says _ _ _ _ _ _ _ _ on (rw e refl)

@@ -25,75 +25,57 @@ returns-in-Damaged c =
     let k = stepped _ _ _ _ _ _ Damaged (sym c.in-Damaged.is ∙ c.follow-step.ensures) in
     sym (c.loop-q.invariant.1 ∙ seek_broken _ _ _ _ _ _ _ k)
 
--- the turn of the loop in which a link led to a record, the function's start, and what is known of the record
-abbrev turn : goal.In-Record-2 invariant-loop decreases-loop → goal.At-loop-q invariant-loop decreases-loop
-turn c = c.before.before.before
-
-abbrev start : goal.In-Record-2 invariant-loop decreases-loop → goal.Start invariant-loop decreases-loop
-start c = (turn c).before.before.before.before
-
-abbrev Here : goal.In-Record-2 invariant-loop decreases-loop → Type 0
-Here c =
-    let q = (turn c).loop in
-    let a = (start c).args in
-    Meets (record_at a.g a.dump.now) a.pages a.o.0 a.cells.now q.bound q.link c.in-Record.q c.in-Record.older c.in-Record.role
-
-here : (c : goal.In-Record-2) → Here c
+here : (c : goal.In-Record) → (let q = c.loop in let a = c.args in Meets (record_at a.g a.dump.now) a.pages a.o.0 a.cells.now q.bound q.link c.in-Record.q c.in-Record.older c.in-Record.role)
 here c = stepped _ _ _ _ _ _ (Record _ _ _) (sym c.in-Record.is ∙ c.follow-step.ensures)
 
 pub overflow_add-visits : goal.overflow_add-visits
-overflow_add-visits c =
-    let g = c.before in
-    omega (arith, (turn g).loop.invariant.0, count_on _ _ _ ((here g).onward _ refl))
+overflow_add-visits c = omega (arith, c.loop.invariant.0, count_on _ _ _ ((here c).onward _ refl))
 
 pub loop-q-smaller-in_default : goal.loop-q-smaller-in_default
-loop-q-smaller-in_default c = (here c.before.before.before.before.before).older
+loop-q-smaller-in_default c = (here (goal.at.loop-q-smaller-in_default c).In-Record).older
 
 -- a header is no copy, and cuts
 pub loop-q-preserved-in_default : goal.loop-q-preserved-in_default
 loop-q-preserved-in_default c =
-    let g = c.before.before.before.before.before in
-    let q = (turn g).loop in
-    let a = (start g).args in
+    let q = c.loop in
+    let a = c.args in
     let says = record_at a.g a.dump.now in
-    let e = role_header (says g.in-Record.q.0) (here g).leads.some (sym c.in_default.is ∙ (here g).is) in
-    let on = (here g).onward _ c.link_of-link.ensures in (
+    let e = role_header (says c.in-Record.q.0) (here (goal.at.loop-q-preserved-in_default c).In-Record).leads.some (sym c.in_default.is ∙ (here (goal.at.loop-q-preserved-in_default c).In-Record).is) in
+    let on = (here (goal.at.loop-q-preserved-in_default c).In-Record).onward _ c.link_of-link.ensures in (
       omega (arith, q.inv.0, count_on _ _ _ on),
-      q.inv.1 ∙ seek_on says _ _ _ _ _ _ _ _ on (rw (no_copy_lem a.c.0 (says g.in-Record.q.0) e) refl) ∙ rw c.cut_past-cut.ensures,
+      q.inv.1 ∙ seek_on says _ _ _ _ _ _ _ _ on (rw (no_copy_lem a.c.0 (says c.in-Record.q.0) e) refl) ∙ rw c.cut_past-cut.ensures,
     )
 
 pub returns-then-is_shown : goal.returns-then-is_shown
 returns-then-is_shown c =
-    let g = c.before.before.before.before.before.before.before.before in
-    let q = (turn g).loop in
-    let b = (turn g).before.base-of in
-    let a = (start g).args in
+    let q = c.loop in
+    let b = c.before.base-of in
+    let a = c.args in
     let says = record_at a.g a.dump.now in
-    let e = role_data (says g.in-Record.q.0) _ (sym c.in-Data.is ∙ (here g).is) in
-    let shown : is_shown says a.g.layout.«data» a.c.0 q.cut g.in-Record.q.0 ≡ true =
+    let e = role_data (says c.in-Record.q.0) _ (sym c.in-Data.is ∙ (here (goal.at.returns-then-is_shown c).In-Record).is) in
+    let shown : is_shown says a.g.layout.«data» a.c.0 q.cut c.in-Record.q.0 ≡ true =
     rw (e, ← b.ensures.0) (sym c.is_shown.ensures ∙ c.if-is_shown.true) in
-    let valid : valid_of a.g.layout.«data» a.c.0 (says g.in-Record.q.0) a.shown q.cut ≡ c.valid_of.result =
+    let valid : valid_of a.g.layout.«data» a.c.0 (says c.in-Record.q.0) a.shown q.cut ≡ c.valid_of.result =
     rw (e, ← b.ensures.0) (sym c.valid_of.ensures) in
     sym
     (q.inv.1
-    ∙ seek_here says _ _ _ _ _ _ _ _ ((here g).onward _ refl) shown
+    ∙ seek_here says _ _ _ _ _ _ _ _ ((here (goal.at.returns-then-is_shown c).In-Record).onward _ refl) shown
     ∙ rw valid)
 
 pub loop-q-smaller : goal.loop-q-smaller
-loop-q-smaller c = (here c.before.before.before.before.before.before.before).older
+loop-q-smaller c = (here (goal.at.loop-q-smaller c).In-Record).older
 
 -- a copy that is hidden, or another page of data
 pub loop-q-preserved : goal.loop-q-preserved
 loop-q-preserved c =
-    let g = c.before.before.before.before.before.before.before in
-    let q = (turn g).loop in
-    let b = (turn g).before.base-of in
-    let a = (start g).args in
+    let q = c.loop in
+    let b = c.before.base-of in
+    let a = c.args in
     let says = record_at a.g a.dump.now in
-    let e = role_data (says g.in-Record.q.0) _ (sym c.in-Data.is ∙ (here g).is) in
-    let hidden : is_shown says a.g.layout.«data» a.c.0 q.cut g.in-Record.q.0 ≡ false =
+    let e = role_data (says c.in-Record.q.0) _ (sym c.in-Data.is ∙ (here (goal.at.loop-q-preserved c).In-Record).is) in
+    let hidden : is_shown says a.g.layout.«data» a.c.0 q.cut c.in-Record.q.0 ≡ false =
     rw (e, ← b.ensures.0) (sym c.is_shown.ensures ∙ c.if-is_shown.false) in
-    let on = (here g).onward _ c.link_of-link.ensures in (
+    let on = (here (goal.at.loop-q-preserved c).In-Record).onward _ c.link_of-link.ensures in (
       omega (arith, q.inv.0, count_on _ _ _ on),
       q.inv.1 ∙ seek_on says _ _ _ _ _ _ _ _ on hidden ∙ rw e,
     )

@@ -10,29 +10,25 @@ use Rattle.page.specs.Find.{is_good, bears_sequence}
 use Rattle.page.proofs.Blocks.{bears_other, bears_same}
 use Rattle.page.proofs.find.bears.Goals as goal
 
-lies :
-    (c : goal.Else-not-holds) →
-    page_in c.args.g (length c.args.dump.now) c.args.n.0 ≡ true
+lies : (c : goal.Else-not-holds) → page_in c.args.g (length c.args.dump.now) c.args.n.0 ≡ true
 lies c = rw (← c.holds.ensures) (not-false c.holds.result c.if-not-holds.false)
 
 pub returns-then-not-holds : goal.returns-then-not-holds
 unfolding claim_at bears_sequence
-returns-then-not-holds c = rw (← c.holds.ensures, not-true c.holds.result c.if-not-holds.true)
+returns-then-not-holds c = rw (← c.holds.ensures, c.if-not-holds.true)
 
 pub returns-then-t-sequence : goal.returns-then-t-sequence
 unfolding claim_at claim_on
 returns-then-t-sequence c =
-    let t = c.before.before in
-    let a = t.args in
-    rw (lies t.before, ← t.tags_at-t.ensures) (sym (bears_other t.tags_at-t.result a.g.layout.«data» a.sequence c.if-t-sequence.true))
+    let a = c.args in
+    rw (lies (goal.at.returns-then-t-sequence c).Else-not-holds, ← c.tags_at-t.ensures) (sym (bears_other c.tags_at-t.result a.g.layout.«data» a.sequence c.if-t-sequence.true))
 
 pub returns : goal.returns
 unfolding claim_at claim_on
 returns c =
-    let t = c.before.before.before.before in
-    let a = t.args in
-    rw (lies t.before, ← t.tags_at-t.ensures)
-    (c.is_good.ensures ∙ ap is_good c.claim.ensures ∙ sym (bears_same t.tags_at-t.result a.g.layout.«data» a.sequence c.if-t-sequence.false))
+    let a = c.args in
+    rw (lies (goal.at.returns c).Else-not-holds, ← c.tags_at-t.ensures)
+    (c.is_good.ensures ∙ ap is_good c.claim.ensures ∙ sym (bears_same c.tags_at-t.result a.g.layout.«data» a.sequence c.if-t-sequence.false))
 
 pub tags_at-t-requires : goal.tags_at-t-requires
 tags_at-t-requires c = lies c

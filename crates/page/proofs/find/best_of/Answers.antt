@@ -20,12 +20,13 @@ candidates-init c =
 
 -- the candidate is one of the table
 listed : (c : goal.After-in_turn-n) → c.in_turn-n.result < layouts
-listed c =
-    rw c.in_turn-n.ensures (in_turn_listed c.guess-first.result c.candidates.turn c.guess-first.ensures c.candidates-test.true)
+listed c = rw c.in_turn-n.ensures (in_turn_listed c.guess-first.result c.candidates.turn c.guess-first.ensures c.candidates-test.true)
 
 -- and has room
 room : (c : goal.After-row) → roomy c.row.result ≡ true
-room c = rw c.row.ensures (row_roomy c.in_turn-n.result (listed c.before))
+room c =
+    let listed : c.in_turn-n.result < layouts = rw c.in_turn-n.ensures (in_turn_listed c.guess-first.result c.candidates.turn c.guess-first.ensures c.candidates-test.true) in
+    rw c.row.ensures (row_roomy c.in_turn-n.result listed)
 
 pub pages_under-pages-requires : goal.pages_under-pages-requires
 pages_under-pages-requires c = (room c, c.requires)
@@ -36,12 +37,10 @@ some c = rw (c.need_of-need.ensures, c.in_turn-n.ensures) (need_some c.candidate
 
 pub blocks-2-init : goal.blocks-2-init
 blocks-2-init c =
-    let p = c.before in
-    let r = p.before in
-    let size = roomy_facts r.row.result (room r) in (
+    let size = roomy_facts c.row.result (room (goal.at.blocks-2-init c).After-row) in (
       search rules,
-      under_none r.args.dump.now r.args.k r.in_turn-n.result (record { layout = r.row.result; block = r.args.k }) p.pages_under-pages.result
-          (rw r.row.ensures) p.pages_under-pages.ensures (block_some r.args.k r.requires.k_value) (omega arith) r.requires.dump_value,
+      under_none c.args.dump.now c.args.k c.in_turn-n.result (record { layout = c.row.result; block = c.args.k }) c.pages_under-pages.result
+          (rw c.row.ensures) c.pages_under-pages.ensures (block_some c.args.k c.requires.k_value) (omega arith) c.requires.dump_value,
     )
 
 pub overflow_sub-pages : goal.overflow_sub-pages
@@ -58,19 +57,17 @@ turn_few : (c : goal.At-blocks-2) → c.blocks-2.turn + 1 < 2 ^ 32
 turn_few c = omega (arith, c.blocks-2.invariant.0, c.candidates-test.true)
 
 pub overflow_step-turn : goal.overflow_step-turn
-overflow_step-turn c = omega (arith, turn_few c.before.before)
+overflow_step-turn c = omega (arith, turn_few (goal.at.overflow_step-turn c).At-blocks-2)
 
 pub candidates-smaller-then-is_lost : goal.candidates-smaller-then-is_lost
-candidates-smaller-then-is_lost c = turn-less c.before.before
+candidates-smaller-then-is_lost c = turn-less (goal.at.candidates-smaller-then-is_lost c).At-blocks-2
 
 pub candidates-preserved-then-is_lost : goal.candidates-preserved-then-is_lost
 candidates-preserved-then-is_lost c =
-    let b = c.before.before in
-    let m = b.before in
-    let low = under_lost b.blocks-2.invariant.1 m.need_of-need.result (some m) (sym c.is_lost.ensures ∙ c.if-is_lost.true) in (
-      omega (arith, b.blocks-2.invariant.0, m.candidates-test.true),
-      m.candidates.invariant.1,
-      rw b.blocks-2.invariant.0 (leads_still m.candidates.invariant.2 (rw (m.need_of-need.ensures, m.in_turn-n.ensures) at low)),
+    let low = under_lost c.blocks-2.invariant.1 c.need_of-need.result (some (goal.at.candidates-preserved-then-is_lost c).After-need_of-need) (sym c.is_lost.ensures ∙ c.if-is_lost.true) in (
+      omega (arith, c.blocks-2.invariant.0, c.candidates-test.true),
+      c.candidates.invariant.1,
+      rw c.blocks-2.invariant.0 (leads_still c.candidates.invariant.2 (rw (c.need_of-need.ensures, c.in_turn-n.ensures) at low)),
     )
 
 -- blocks are left
@@ -83,63 +80,53 @@ gain_in-gain-requires c =
     record { block_value = t.starts; block_bound = omega (arith, t.few, through_ends t (more c)) }
 
 -- the candidate, one block on
-on :
-    (c : goal.After-gain_in-gain) →
-    let a = c.args in
+on : (c : goal.After-gain_in-gain) → let a = c.args in
     Underway a.dump.now a.k c.in_turn-n.result (record { layout = c.row.result; block = a.k }) c.pages_under-pages.result (c.blocks-2.next + a.k) (c.blocks-2.score + c.gain_in-gain.result.score) (c.blocks-2.marked + c.gain_in-gain.result.marked)
-on c = under_on c.blocks-2.invariant.1 c.gain_in-gain.result (more c.before) c.gain_in-gain.ensures
+on c =
+    let more : c.blocks-2.next < c.pages_under-pages.result = let t = c.blocks-2.invariant.1.through in omega (arith, t.within, c.if-next-pages.false) in
+    under_on c.blocks-2.invariant.1 c.gain_in-gain.result more c.gain_in-gain.ensures
 
 pub overflow_add-next : goal.overflow_add-next
 overflow_add-next c = omega (arith, (under_fits (on c)).3)
 
 pub overflow_add-score : goal.overflow_add-score
-overflow_add-score c = omega (arith, (under_fits (on c.before)).1)
+overflow_add-score c = omega (arith, (under_fits (on (goal.at.overflow_add-score c).After-gain_in-gain)).1)
 
 pub overflow_add-marked : goal.overflow_add-marked
-overflow_add-marked c = omega (arith, (under_fits (on c.before.before)).2)
+overflow_add-marked c = omega (arith, (under_fits (on (goal.at.overflow_add-marked c).After-gain_in-gain)).2)
 
 pub blocks-2-smaller : goal.blocks-2-smaller
-blocks-2-smaller c = let g = c.before.before in omega (arith, g.blocks-2.invariant.1.through.some, more g.before)
+blocks-2-smaller c = omega (arith, c.blocks-2.invariant.1.through.some, more (goal.at.blocks-2-smaller c).Else-next-pages)
 
 pub blocks-2-preserved : goal.blocks-2-preserved
-blocks-2-preserved c = (c.blocks-2.invariant.0, on c.before.before)
+blocks-2-preserved c = (c.blocks-2.invariant.0, on (goal.at.blocks-2-preserved c).After-gain_in-gain)
 
 pub overflow_step-turn-in-candidates : goal.overflow_step-turn-in-candidates
-overflow_step-turn-in-candidates c = omega (arith, turn_few c.before.before.before)
+overflow_step-turn-in-candidates c = omega (arith, turn_few (goal.at.overflow_step-turn-in-candidates c).At-blocks-2)
 
 pub candidates-smaller : goal.candidates-smaller
-candidates-smaller c = turn-less c.before.before.before
+candidates-smaller c = turn-less (goal.at.candidates-smaller c).At-blocks-2
 
 pub candidates-preserved : goal.candidates-preserved
 candidates-preserved c =
-    let b = c.before.before.before in
-    let m = b.before in
-    let t = m.before.before.before in
-    let high = under_won b.blocks-2.invariant.1 m.need_of-need.result c.if-next-pages.true (sym c.is_lost.ensures ∙ c.if-is_lost.false) in (
-      omega (arith, b.blocks-2.invariant.0, t.candidates-test.true),
-      (under_fits b.blocks-2.invariant.1).1,
-      rw (b.blocks-2.invariant.0, ← high.1, t.in_turn-n.ensures)
-          (leads_now t.candidates.invariant.2 (rw t.in_turn-n.ensures at (listed t)) (rw (m.need_of-need.ensures, ← high.1, t.in_turn-n.ensures) at high.0)),
+    let high = under_won c.blocks-2.invariant.1 c.need_of-need.result c.if-next-pages.true (sym c.is_lost.ensures ∙ c.if-is_lost.false) in (
+      omega (arith, c.blocks-2.invariant.0, c.candidates-test.true),
+      (under_fits c.blocks-2.invariant.1).1,
+      rw (c.blocks-2.invariant.0, ← high.1, c.in_turn-n.ensures)
+          (leads_now c.candidates.invariant.2 (rw c.in_turn-n.ensures at (listed (goal.at.candidates-preserved c).After-in_turn-n)) (rw (c.need_of-need.ensures, ← high.1, c.in_turn-n.ensures) at high.0)),
     )
 
--- the candidate that leads behind the table has won
-behind :
-    (c : goal.After-candidates) →
-    let q = c.candidates in
-    let a = c.args in
-    Won (candidate_score a.dump.now a.k) q.best q.found
-behind c =
-    let e : c.candidates.turn ≡ layouts = omega (arith, c.candidates-test.false) in
-    leads_won (in_turn_twice c.guess-first.result) (λ n h. in_turn_listed c.guess-first.result n c.guess-first.ensures h) (rw e at c.candidates.invariant.2)
-
 pub returns-then-best-eq0 : goal.returns-then-best-eq0
-returns-then-best-eq0 c = sym (won_refused (behind c.before) c.if-best-eq0.true)
+returns-then-best-eq0 c = let behind : let q = c.candidates in let a = c.args in Won (candidate_score a.dump.now a.k) q.best q.found = let e : c.candidates.turn ≡ layouts = omega (arith, c.candidates-test.false) in leads_won (in_turn_twice c.guess-first.result) (λ n h. in_turn_listed c.guess-first.result n c.guess-first.ensures h) (rw e at c.candidates.invariant.2) in
+    sym (won_refused behind c.if-best-eq0.true)
 
 pub row-requires-2 : goal.row-requires-2
-row-requires-2 c = (behind c.before).within
+row-requires-2 c = let behind : let q = c.candidates in let a = c.args in Won (candidate_score a.dump.now a.k) q.best q.found = let e : c.candidates.turn ≡ layouts = omega (arith, c.candidates-test.false) in leads_won (in_turn_twice c.guess-first.result) (λ n h. in_turn_listed c.guess-first.result n c.guess-first.ensures h) (rw e at c.candidates.invariant.2) in
+    behind.within
 
 pub returns : goal.returns
-returns c = rw c.row-2.ensures (sym (won_named (behind c.before.before) (omega (arith, c.if-best-eq0.false))))
+returns c = let behind : let q = c.candidates in let a = c.args in Won (candidate_score a.dump.now a.k) q.best q.found = let e : c.candidates.turn ≡ layouts = omega (arith, c.candidates-test.false) in leads_won (in_turn_twice c.guess-first.result) (λ n h. in_turn_listed c.guess-first.result n c.guess-first.ensures h) (rw e at c.candidates.invariant.2) in
+    rw c.row-2.ensures (sym (won_named behind (omega (arith, c.if-best-eq0.false))))
 
 pub row-requires : goal.row-requires
 row-requires c = listed c

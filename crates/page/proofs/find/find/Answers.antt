@@ -10,14 +10,11 @@ returns-then-not-block_fits c = rw (← c.block_fits.ensures, c.if-not-block_fit
 
 pub returns-then-not-length_fits : goal.returns-then-not-length_fits
 unfolding find_of
-returns-then-not-length_fits c =
-    rw (← c.block_fits.ensures, c.if-not-block_fits.false, ← c.length_fits.ensures, c.if-not-length_fits.true)
+returns-then-not-length_fits c = rw (← c.block_fits.ensures, c.if-not-block_fits.false, ← c.length_fits.ensures, c.if-not-length_fits.true)
 
 pub best_of-requires : goal.best_of-requires
-best_of-requires c =
-    record { k_value = rw (← c.block_fits.ensures) (not-false c.block_fits.result c.if-not-block_fits.false); dump_value = rw (← c.length_fits.ensures) (not-false c.length_fits.result c.if-not-length_fits.false) }
+best_of-requires c = record { k_value = rw (← c.block_fits.ensures) c.if-not-block_fits.false; dump_value = rw (← c.length_fits.ensures) c.if-not-length_fits.false }
 
 pub returns : goal.returns
 unfolding find_of
-returns c =
-    rw (← c.block_fits.ensures, c.if-not-block_fits.false, ← c.length_fits.ensures, c.if-not-length_fits.false) c.best_of.ensures
+returns c = rw (← c.block_fits.ensures, c.if-not-block_fits.false, ← c.length_fits.ensures, c.if-not-length_fits.false) c.best_of.ensures

@@ -16,42 +16,34 @@ strides : (pages k i : ℕ) → i ≤ 8 → pages / 8 / k * k * i ≤ pages
 strides pages k i h = omega (arith, mul-le-mul_left (pages / 8 / k * k) h, div-mul-le_self (pages / 8) k, div-mul-le_self pages 8)
 
 pub pages_under-pages-requires : goal.pages_under-pages-requires
-pages_under-pages-requires c =
-    (rw c.row.ensures (row_roomy c.args.n c.requires.n_lt_layouts), c.requires.k_value)
-
--- the candidate
-abbrev asked : goal.After-pages_under-pages invariant-loop decreases-loop → Geometry
-asked c = record { layout = c.row.result; block = c.args.k }
+pages_under-pages-requires c = (rw c.row.ensures (row_roomy c.args.n c.requires.n_lt_layouts), c.requires.k_value)
 
 -- its pages are few
-few : (c : goal.After-pages_under-pages) → c.pages_under-pages.result < 2 ^ 31
-few c =
-    rw c.pages_under-pages.ensures (pages_few (asked c) (length c.args.dump.now) c.requires.dump_value)
+few : (c : goal.Else-pages-eq0) → c.pages_under-pages.result < 2 ^ 31
+few c = rw c.pages_under-pages.ensures (pages_few (record { layout = c.row.result; block = c.args.k }) (length c.args.dump.now) c.requires.dump_value)
 
 pub nonzero_div-stride-2 : goal.nonzero_div-stride-2
 nonzero_div-stride-2 c = block_some c.args.k c.requires.k_value
 
 pub overflow_mul-stride : goal.overflow_mul-stride
-overflow_mul-stride c = omega (arith, strides c.pages_under-pages.result c.args.k 1 (omega arith), few c.before)
+overflow_mul-stride c = omega (arith, strides c.pages_under-pages.result c.args.k 1 (omega arith), few c)
 
 pub overflow_mul-stride-in-loop-i : goal.overflow_mul-stride-in-loop-i
-overflow_mul-stride-in-loop-i c = let p = c.before.before.before in omega (arith, strides p.pages_under-pages.result p.args.k c.loop-i.i (omega arith), few p)
+overflow_mul-stride-in-loop-i c = omega (arith, strides c.pages_under-pages.result c.args.k c.loop-i.i (omega arith), few (goal.at.overflow_mul-stride-in-loop-i c).Else-pages-eq0)
 
 pub gain_in-score-requires : goal.gain_in-score-requires
 gain_in-score-requires c =
-    let p = c.before.before.before in
     let i = c.loop-i.i in
-    let x = p.pages_under-pages.result / 8 / p.args.k in record { block_value = rw (mul_right_comm x p.args.k i) (mul-mod_left (x * i) p.args.k); block_bound = omega (arith, strides p.pages_under-pages.result p.args.k i (omega arith), few p, block_most p.args.k p.requires.k_value) }
+    let x = c.pages_under-pages.result / 8 / c.args.k in record { block_value = rw (mul_right_comm x c.args.k i) (mul-mod_left (x * i) c.args.k); block_bound = omega (arith, strides c.pages_under-pages.result c.args.k i (omega arith), few (goal.at.gain_in-score-requires c).Else-pages-eq0, block_most c.args.k c.requires.k_value) }
 
 -- a block scores at most its pages
-gains : (c : goal.After-gain_in-score) → c.gain_in-score.result.score ≤ 256
+gains : (c : goal.After-struct_known-1) → c.gain_in-score.result.score ≤ 256
 gains c =
-    let p = c.before.before.before.before in
-    let block = p.pages_under-pages.result / 8 / p.args.k * p.args.k * c.loop-i.i in
-    omega (arith, c.gain_in-score.ensures.scored, count_by (is_scored (claim_at (asked p) p.args.dump.now) p.args.k) block p.args.k, block_most p.args.k p.requires.k_value)
+    let block = c.pages_under-pages.result / 8 / c.args.k * c.args.k * c.loop-i.i in
+    omega (arith, c.gain_in-score.ensures.scored, count_by (is_scored (claim_at (record { layout = c.row.result; block = c.args.k }) c.args.dump.now) c.args.k) block c.args.k, block_most c.args.k c.requires.k_value)
 
 pub overflow_add-score : goal.overflow_add-score
-overflow_add-score c = omega (arith, gains c.before, c.loop-i.invariant.1, c.loop-i-test.true)
+overflow_add-score c = omega (arith, gains c, c.loop-i.invariant.1, c.loop-i-test.true)
 
 pub loop-i-preserved : goal.loop-i-preserved
-loop-i-preserved c = (search rules, omega (arith, gains c.before, c.loop-i.invariant.1))
+loop-i-preserved c = (search rules, omega (arith, gains c, c.loop-i.invariant.1))

@@ -13,7 +13,7 @@ divides-requires c = record { layout_value = c.requires.layout_value; block_valu
 
 pub returns-then-not-divides : goal.returns-then-not-divides
 unfolding pages_under
-returns-then-not-divides c = rw (← c.divides.ensures, not-true c.divides.result c.if-not-divides.true)
+returns-then-not-divides c = rw (← c.divides.ensures, c.if-not-divides.true)
 
 pub nonzero_div-result : goal.nonzero_div-result
 nonzero_div-result c = omega (arith, roomy_facts c.args.g.layout c.requires.layout_value, c.page_len.ensures.value)
@@ -23,4 +23,4 @@ overflow_cast-result c = omega (arith, length_most c.args.len c.requires.len_val
 
 pub returns : goal.returns
 unfolding pages_under
-returns c = rw (← c.divides.ensures, not-false c.divides.result c.if-not-divides.false, c.page_len.ensures.value)
+returns c = rw (← c.divides.ensures, c.if-not-divides.false, c.page_len.ensures.value)

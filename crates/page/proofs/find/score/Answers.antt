@@ -14,8 +14,7 @@ use Rattle.page.proofs.find.score.Goals as goal
 
 pub returns-in-Refused : goal.returns-in-Refused
 unfolding score_under score_in
-returns-in-Refused c =
-    rw (← c.opened-o.ensures, c.in-Refused.is) (sym (not_least c.args.need 0 (inr refl)))
+returns-in-Refused c = rw (← c.opened-o.ensures, c.in-Refused.is) (sym (not_least c.args.need 0 (inr refl)))
 
 pub score_in-requires : goal.score_in-requires
 score_in-requires c =
@@ -29,5 +28,4 @@ score_in-requires c =
 
 pub returns-in-Pages : goal.returns-in-Pages
 unfolding score_under score_in
-returns-in-Pages c =
-    rw (← c.opened-o.ensures, c.in-Pages.is) c.score_in.ensures
+returns-in-Pages c = rw (← c.opened-o.ensures, c.in-Pages.is) c.score_in.ensures

@@ -39,25 +39,24 @@ gain_in-gain-requires c =
     record { block_value = t.starts; block_bound = omega (arith, t.few, through_ends t (more c)) }
 
 -- one block on
-on :
-    (c : goal.After-gain_in-gain) →
-    let a = c.args in
+on : (c : goal.After-struct_known-1) → let a = c.args in
     Through (claim_at a.g a.dump.now) a.g.block a.pages (c.loop-g.next + a.g.block) (c.loop-g.score + c.gain_in-gain.result.score) (c.loop-g.marked + c.gain_in-gain.result.marked)
 on c =
-    through_on c.loop-g.invariant c.gain_in-gain.result.score c.gain_in-gain.result.marked (more c.before)
+    let more : c.loop-g.next < c.args.pages = omega (arith, c.loop-g.invariant.within, c.if-next-pages.false) in
+    through_on c.loop-g.invariant c.gain_in-gain.result.score c.gain_in-gain.result.marked more
     c.gain_in-gain.ensures.scored c.gain_in-gain.ensures.counted
 
 pub overflow_add-next : goal.overflow_add-next
-overflow_add-next c = omega (arith, (through_fits (on c.before)).3)
+overflow_add-next c = omega (arith, (through_fits (on c)).3)
 
 pub overflow_add-score : goal.overflow_add-score
-overflow_add-score c = omega (arith, (through_fits (on c.before.before)).1)
+overflow_add-score c = omega (arith, (through_fits (on (goal.at.overflow_add-score c).After-struct_known-1)).1)
 
 pub overflow_add-marked : goal.overflow_add-marked
-overflow_add-marked c = omega (arith, (through_fits (on c.before.before.before)).2)
+overflow_add-marked c = omega (arith, (through_fits (on (goal.at.overflow_add-marked c).After-struct_known-1)).2)
 
 pub loop-g-smaller : goal.loop-g-smaller
-loop-g-smaller c = let e = c.before.before.before.before in omega (arith, e.loop-g.invariant.some, more e)
+loop-g-smaller c = omega (arith, c.loop-g.invariant.some, more (goal.at.loop-g-smaller c).Else-next-pages)
 
 pub loop-g-preserved : goal.loop-g-preserved
-loop-g-preserved c = on c.before.before.before
+loop-g-preserved c = on (goal.at.loop-g-preserved c).After-struct_known-1

@@ -5,8 +5,7 @@ use Rattle.page.proofs.header.ask_header.Goals as goal
 
 pub returns-then-is_header : goal.returns-then-is_header
 unfolding asked_of asked_by
-returns-then-is_header c =
-    rw (← c.page_kind-t.ensures, c.in-Kind.is, ← c.is_header.ensures, c.if-is_header.true)
+returns-then-is_header c = rw (← c.page_kind-t.ensures, c.in-Kind.is, ← c.is_header.ensures, c.if-is_header.true)
 
 pub returns-in-Refused : goal.returns-in-Refused
 unfolding asked_of asked_by
@@ -14,5 +13,4 @@ returns-in-Refused c = rw (← c.page_kind-t.ensures, c.in-Refused.is)
 
 pub returns-else-is_header : goal.returns-else-is_header
 unfolding asked_of asked_by
-returns-else-is_header c =
-    rw (← c.page_kind-t.ensures, c.in-Kind.is, ← c.is_header.ensures, c.if-is_header.false)
+returns-else-is_header c = rw (← c.page_kind-t.ensures, c.in-Kind.is, ← c.is_header.ensures, c.if-is_header.false)

@@ -12,9 +12,7 @@ use Rattle.page.proofs.Pages.{page_length}
 use Rattle.page.proofs.Sound.{asked_in}
 use Rattle.page.proofs.header.header.Goals as goal
 
-lies :
-    (c : goal.In-Header) →
-    let a = c.args in page_in a.g (length a.dump.now) a.n.0 ≡ true
+lies : (c : goal.In-Header) → let a = c.args in page_in a.g (length a.dump.now) a.n.0 ≡ true
 lies c =
     let a = c.args in
     asked_in a.g a.dump.now a.n.0 (rw (← c.ask_header-a.ensures) c.in-Header.is)
@@ -25,7 +23,7 @@ page_at-requires c = lies c
 pub of_page-requires : goal.of_page-requires
 of_page-requires c =
     let a = c.args in
-    let h = lies c.before in
+    let h = lies (goal.at.of_page-requires c).In-Header in
     let w = page_within a.g (length a.dump.now) a.n.0 h in
     omega (arith, roomy_facts a.g.layout w.room, ap length c.page_at.ensures, page_length a.g a.dump.now a.n.0 h)
 
@@ -35,5 +33,4 @@ returns-in-Refused c = rw (← c.ask_header-a.ensures, c.in-Refused.is)
 
 pub returns-in-Header : goal.returns-in-Header
 unfolding headed_of headed_by
-returns-in-Header c =
-    rw (← c.ask_header-a.ensures, c.in-Header.is, ← c.page_at.ensures, c.of_page.ensures)
+returns-in-Header c = rw (← c.ask_header-a.ensures, c.in-Header.is, ← c.page_at.ensures, c.of_page.ensures)

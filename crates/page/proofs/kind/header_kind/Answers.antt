@@ -9,8 +9,7 @@ returns-then-bad_type c = rw (← c.word_at-page_type.ensures, ← c.bad_type.en
 
 pub returns-then-type_differs : goal.returns-then-type_differs
 unfolding header_of
-returns-then-type_differs c =
-    rw (← c.word_at-page_type.ensures, ← c.bad_type.ensures, c.if-bad_type.false, ← c.type_differs.ensures, c.if-type_differs.true)
+returns-then-type_differs c = rw (← c.word_at-page_type.ensures, ← c.bad_type.ensures, c.if-bad_type.false, ← c.type_differs.ensures, c.if-type_differs.true)
 
 pub returns : goal.returns
 unfolding header_of

@@ -8,18 +8,16 @@ use Rattle.page.specs.Lengths.{page_in}
 use Rattle.page.specs.Tags.{claim_on, claim_at}
 use Rattle.page.proofs.tags.claim_at.Goals as goal
 
-lies :
-    (c : goal.Else-not-holds) →
-    page_in c.args.g (length c.args.dump.now) c.args.n.0 ≡ true
+lies : (c : goal.Else-not-holds) → page_in c.args.g (length c.args.dump.now) c.args.n.0 ≡ true
 lies c = rw (← c.holds.ensures) (not-false c.holds.result c.if-not-holds.false)
 
 pub returns-then-not-holds : goal.returns-then-not-holds
 unfolding claim_at
-returns-then-not-holds c = rw (← c.holds.ensures, not-true c.holds.result c.if-not-holds.true)
+returns-then-not-holds c = rw (← c.holds.ensures, c.if-not-holds.true)
 
 pub returns : goal.returns
 unfolding claim_at claim_on
-returns c = let t = c.before in rw (lies t.before, ← t.tags_at.ensures) c.claim.ensures
+returns c = rw (lies (goal.at.returns c).Else-not-holds, ← c.tags_at.ensures) c.claim.ensures
 
 pub tags_at-requires : goal.tags_at-requires
 tags_at-requires c = lies c

@@ -8,18 +8,16 @@ use Rattle.page.specs.Lengths.{page_in}
 use Rattle.page.specs.Tags.{names_at}
 use Rattle.page.proofs.tags.names_object.Goals as goal
 
-lies :
-    (c : goal.Else-not-holds) →
-    page_in c.args.g (length c.args.dump.now) c.args.n.0 ≡ true
+lies : (c : goal.Else-not-holds) → page_in c.args.g (length c.args.dump.now) c.args.n.0 ≡ true
 lies c = rw (← c.holds.ensures) (not-false c.holds.result c.if-not-holds.false)
 
 pub returns-then-not-holds : goal.returns-then-not-holds
 unfolding names_at
-returns-then-not-holds c = rw (← c.holds.ensures, not-true c.holds.result c.if-not-holds.true)
+returns-then-not-holds c = rw (← c.holds.ensures, c.if-not-holds.true)
 
 pub returns : goal.returns
 unfolding names_at
-returns c = let t = c.before.before in rw (lies t.before, ← t.tags_at.ensures)
+returns c = rw (lies (goal.at.returns c).Else-not-holds, ← c.tags_at.ensures)
 
 pub tags_at-requires : goal.tags_at-requires
 tags_at-requires c = lies c

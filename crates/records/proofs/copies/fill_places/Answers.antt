@@ -11,8 +11,7 @@ use Rattle.records.proofs.Placing.{placed_length, placed_at, placed_sorted}
 use Rattle.records.proofs.copies.fill_places.Goals as goal
 
 pub bounds-words-i : goal.bounds-words-i
-bounds-words-i c =
-    omega (arith, c.loop-i.invariant.1, c.requires.words_len)
+bounds-words-i c = omega (arith, c.loop-i.invariant.1, c.requires.words_len)
 
 pub loop-i-preserved : goal.loop-i-preserved
 loop-i-preserved c =

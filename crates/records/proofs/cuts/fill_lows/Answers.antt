@@ -6,8 +6,7 @@ use Rattle.records.proofs.Lowering.{Lowered, lowered_none, lowered_one, lowered_
 use Rattle.records.proofs.cuts.fill_lows.Goals as goal
 
 pub loop-i-init : goal.loop-i-init
-loop-i-init c =
-    lowered_none (seen_by c.args.t (record_at c.args.g c.args.dump.now)) c.args.ages.now c.args.words.now c.requires
+loop-i-init c = lowered_none (seen_by c.args.t (record_at c.args.g c.args.dump.now)) c.args.ages.now c.args.words.now c.requires
 
 pub loop-i-preserved : goal.loop-i-preserved
 loop-i-preserved c =

@@ -8,5 +8,4 @@ pub returns-in_default : goal.returns-in_default
 returns-in_default c = rw (else_header c.args.r c.in_default.keys2)
 
 pub returns : goal.returns
-returns c =
-    c.lower.ensures ∙ rw (c.cut_of.ensures, c.in-Header.is)
+returns c = c.lower.ensures ∙ rw (c.cut_of.ensures, c.in-Header.is)

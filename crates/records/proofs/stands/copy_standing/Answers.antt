@@ -19,81 +19,66 @@ use Rattle.records.proofs.InSight.{NewestAt, first_there, first_word, words_sort
 use Rattle.records.proofs.Accepted.{seen_within}
 use Rattle.records.proofs.stands.copy_standing.Goals as goal
 
--- what the pages say, and the ages of the object's records
-abbrev says : goal.Start → ℕ → Record
-says s = seen_by s.args.t (record_at s.args.g s.args.dump.now)
-
-abbrev ages : goal.Start → List ℕ
-ages s = written (says s) s.args.o.0 s.args.pages
-
-abbrev start : goal.After-base_of-base → goal.Start
-start b = b.before.before.before.before.before
-
-lows : (s : goal.Start) → s.args.lows.now ≡ drop s.args.i (lows_of (says s) (ages s))
-lows s = s.requires.lows_value
-
 -- the copy, whose chunk has a number and ends before the last word
-copy : (b : goal.After-base_of-base) → let a = (start b).args in NewestAt (says (start b)) a.g.layout.«data» a.o.0 a.pages a.i a.d
+copy : (b : goal.After-shared_slice_known-then-base-lows-1) → let a = b.args in NewestAt (seen_by b.args.t (record_at b.args.g b.args.dump.now)) a.g.layout.«data» a.o.0 a.pages a.i a.d
 copy b =
-    let s = start b in
-    let a = s.args in
-    let said = s.requires.i_value in
+    let b = b in
+    let a = b.args in
+    let said = b.requires.i_value in
     record {
-      few = omega (arith, opened_pages a.g (length a.dump.now) a.pages s.requires.dump_value);
-      inside = s.requires.i_in_bounds;
+      few = omega (arith, opened_pages a.g (length a.dump.now) a.pages b.requires.dump_value);
+      inside = b.requires.i_in_bounds;
       said = said;
-      newest = s.requires.pages_value;
+      newest = b.requires.pages_value;
       number = chunk_good a.d.chunk.0 (seen_within a.g a.dump.now a.t _ a.d said).chunk;
       short =
           omega (
             arith,
             b.base_of-base.ensures.value,
             b.base_of-base.ensures.result_bound,
-            listed_data a.g.layout (opened_facts a.g (length a.dump.now) a.pages s.requires.dump_value).listed,
+            listed_data a.g.layout (opened_facts a.g (length a.dump.now) a.pages b.requires.dump_value).listed,
           );
     }
 
-word-there : (s : goal.Start) → 0 < length s.args.lows.now
-word-there s = first_there (says s) (ages s) s.args.i s.requires.i_in_bounds s.args.lows.now (lows s)
+word-there : (s : goal.After-chunk-1) → 0 < length s.args.lows.now
+word-there s =
+    let lows : s.args.lows.now ≡ drop s.args.i (lows_of (seen_by s.args.t (record_at s.args.g s.args.dump.now)) (written (seen_by s.args.t (record_at s.args.g s.args.dump.now)) s.args.o.0 s.args.pages)) = s.requires.lows_value in
+    first_there (seen_by s.args.t (record_at s.args.g s.args.dump.now)) (written (seen_by s.args.t (record_at s.args.g s.args.dump.now)) s.args.o.0 s.args.pages) s.args.i s.requires.i_in_bounds s.args.lows.now lows
 
-word-is : (s : goal.Start) → get_or s.args.lows.now 0 0 ≡ cut_word (low_of (says s) (drop s.args.i (ages s)))
-word-is s = first_word (says s) (ages s) s.args.i s.requires.i_in_bounds s.args.lows.now (lows s)
+word-is : (s : goal.After-chunk-1) → get_or s.args.lows.now 0 0 ≡ cut_word (low_of (seen_by s.args.t (record_at s.args.g s.args.dump.now)) (drop s.args.i (written (seen_by s.args.t (record_at s.args.g s.args.dump.now)) s.args.o.0 s.args.pages)))
+word-is s =
+    let lows : s.args.lows.now ≡ drop s.args.i (lows_of (seen_by s.args.t (record_at s.args.g s.args.dump.now)) (written (seen_by s.args.t (record_at s.args.g s.args.dump.now)) s.args.o.0 s.args.pages)) = s.requires.lows_value in
+    first_word (seen_by s.args.t (record_at s.args.g s.args.dump.now)) (written (seen_by s.args.t (record_at s.args.g s.args.dump.now)) s.args.o.0 s.args.pages) s.args.i s.requires.i_in_bounds s.args.lows.now lows
 
 pub returns-then-base-lows : goal.returns-then-base-lows
 returns-then-base-lows c =
-    let b = c.before.before.before.before in
     c.held.ensures
-    ∙ stands_held (copy b) (start b).requires.1.1.1.1.0 (word-is (start b)) (omega (arith, b.base_of-base.ensures.value, c.if-base-lows.true))
+    ∙ stands_held (copy (goal.at.returns-then-base-lows c).After-shared_slice_known-then-base-lows-1) c.requires.1.1.1.1.0 (word-is (goal.at.returns-then-base-lows c).After-chunk-1) (omega (arith, c.base_of-base.ensures.value, c.if-base-lows.true))
 
 -- where the copy is hidden
-hidden :
-    (f : goal.After-first_from-k) →
-    let s = start f.before.before.before in
-    let a = s.args in
-    Hidden (says s) a.g.layout.«data» a.o.0 a.pages a.i a.d f.first_from-k.result
+hidden : (f : goal.After-first_from-k) → let f = f in
+    let a = f.args in
+    Hidden (seen_by f.args.t (record_at f.args.g f.args.dump.now)) a.g.layout.«data» a.o.0 a.pages a.i a.d f.first_from-k.result
 hidden f =
-    let b = f.before.before.before in
-    let s = start b in
-    let sorted = words_sorted (says s) (ages s) s.args.i s.requires.i_in_bounds s.args.lows.now (lows s) in
-    stands_cut (copy b) f.first_from-k.result (rw (← b.base_of-base.ensures.value, ← lows s) (f.first_from-k.ensures.parted sorted))
-    (omega (arith, b.base_of-base.ensures.value, f.if-base-lows.false, word-is s))
+    let lows : f.args.lows.now ≡ drop f.args.i (lows_of (seen_by f.args.t (record_at f.args.g f.args.dump.now)) (written (seen_by f.args.t (record_at f.args.g f.args.dump.now)) f.args.o.0 f.args.pages)) = f.requires.lows_value in let copy : let a = f.args in NewestAt (seen_by f.args.t (record_at f.args.g f.args.dump.now)) a.g.layout.«data» a.o.0 a.pages a.i a.d = let f = f in let a = f.args in let said = f.requires.i_value in record { few = omega (arith, opened_pages a.g (length a.dump.now) a.pages f.requires.dump_value); inside = f.requires.i_in_bounds; said = said; newest = f.requires.pages_value; number = chunk_good a.d.chunk.0 (seen_within a.g a.dump.now a.t _ a.d said).chunk; short = omega ( arith, f.base_of-base.ensures.value, f.base_of-base.ensures.result_bound, listed_data a.g.layout (opened_facts a.g (length a.dump.now) a.pages f.requires.dump_value).listed, ); } in let word-is : get_or f.args.lows.now 0 0 ≡ cut_word (low_of (seen_by f.args.t (record_at f.args.g f.args.dump.now)) (drop f.args.i (written (seen_by f.args.t (record_at f.args.g f.args.dump.now)) f.args.o.0 f.args.pages))) = let lows : f.args.lows.now ≡ drop f.args.i (lows_of (seen_by f.args.t (record_at f.args.g f.args.dump.now)) (written (seen_by f.args.t (record_at f.args.g f.args.dump.now)) f.args.o.0 f.args.pages)) = f.requires.lows_value in first_word (seen_by f.args.t (record_at f.args.g f.args.dump.now)) (written (seen_by f.args.t (record_at f.args.g f.args.dump.now)) f.args.o.0 f.args.pages) f.args.i f.requires.i_in_bounds f.args.lows.now lows in
+    let f = f in
+    let sorted = words_sorted (seen_by f.args.t (record_at f.args.g f.args.dump.now)) (written (seen_by f.args.t (record_at f.args.g f.args.dump.now)) f.args.o.0 f.args.pages) f.args.i f.requires.i_in_bounds f.args.lows.now lows in
+    stands_cut copy f.first_from-k.result (rw (← f.base_of-base.ensures.value, ← lows) (f.first_from-k.ensures.parted sorted))
+    (omega (arith, f.base_of-base.ensures.value, f.if-base-lows.false, word-is))
 
 pub returns : goal.returns
 returns c =
-    let f = c.before.before in
-    let s = start f.before.before.before in
-    rw (c.value_of.ensures, s.requires.ages_value, get_or-drop s.args.i (ages s) (f.first_from-k.result - 1) 0) (hidden f).is_cut
+    rw (c.value_of.ensures, c.requires.ages_value, get_or-drop c.args.i (written (seen_by c.args.t (record_at c.args.g c.args.dump.now)) c.args.o.0 c.args.pages) (c.first_from-k.result - 1) 0) (hidden (goal.at.returns c).After-first_from-k).is_cut
 
 pub bounds-lows-0 : goal.bounds-lows-0
-bounds-lows-0 c = word-there (start c.before)
+bounds-lows-0 c = word-there (goal.at.bounds-lows-0 c).After-chunk-1
 
 pub bounds-lows-0-then-base-lows : goal.bounds-lows-0-then-base-lows
-bounds-lows-0-then-base-lows c = word-there (start c.before.before.before)
+bounds-lows-0-then-base-lows c = word-there (goal.at.bounds-lows-0-then-base-lows c).After-chunk-1
 
 pub overflow_sub-k : goal.overflow_sub-k
 overflow_sub-k c = omega (arith, (hidden c).some_words)
 
 pub bounds-ages-k : goal.bounds-ages-k
-bounds-ages-k c = let f = c.before in
-    let s = start f.before.before.before in
-    rw (s.requires.ages_value, length-drop s.args.i (ages s)) (omega (arith, (hidden f).some_words, (hidden f).inside))
+bounds-ages-k c = let c = c in
+    rw (c.requires.ages_value, length-drop c.args.i (written (seen_by c.args.t (record_at c.args.g c.args.dump.now)) c.args.o.0 c.args.pages)) (omega (arith, (hidden (goal.at.bounds-ages-k c).After-first_from-k).some_words, (hidden (goal.at.bounds-ages-k c).After-first_from-k).inside))

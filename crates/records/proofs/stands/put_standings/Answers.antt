@@ -37,62 +37,46 @@ few s =
     (written_few (says s) a.o.0 a.pages (opened_pages a.g (length a.dump.now) a.pages s.requires.0))
 
 pub loop-i-init : goal.loop-i-init
-loop-i-init c =
-    let s = c.before.before.before.before in
-    record { inside = search rules; rows_long = refl; details_long = long s ∙ ap length (sym (own s)); rows_laid = refl; details_laid = refl }
+loop-i-init c = record { inside (goal.at.loop-i-init c).In-loop-i search rules; rows_long = refl; details_long = long c ∙ ap length (sym (own c)); rows_laid = refl; details_laid = refl }
 
--- in the loop the place is that of a record, and of a row and a second word
-module _ (t : goal.In-loop-i) where
-  abbrev start : Start
-  start = t.before.before.before.before.before.before
+inside : (t : goal.In-loop-i) → t.loop-i.i < length t.args.rows.now
+inside t = omega (arith, t.loop-i-test.taken, t.loop-i.inv.rows_long)
 
-  inside : t.loop-i.i < length start.args.rows.now
-  inside = omega (arith, t.loop-i-test.taken, t.loop-i.inv.rows_long)
-
-  of-record : t.loop-i.i < length (ages start)
-  of-record = omega (arith, inside, ap length (own start))
-
--- the turn that the second words are stored in
-abbrev turn : goal.After-detail invariant-loop decreases-loop → goal.In-loop-i invariant-loop decreases-loop
-turn c = c.before.before.before.before.before.before.before.before.before.before
+of-record : (t : goal.In-loop-i) → t.loop-i.i < length (ages t)
+of-record t =
+    let inside : t.loop-i.i < length t.args.rows.now = omega (arith, t.loop-i-test.taken, t.loop-i.inv.rows_long) in
+    omega (arith, inside, ap length (own t))
 
 pub standing_at-s-requires : goal.standing_at-s-requires
 standing_at-s-requires c =
-    let t = c.before.before.before.before in
-    let q = t.loop-i in
-    let s = start t in record { dump_value = s.pre.0; i_in_bounds = of-record t; ages_value = rest_rows q.invariant (own s) (long s); lows_value = rest_details q.invariant (own s) (long s) ∙ ap (drop q.i) s.pre.1.1.1.1; places_value = s.pre.1.1.0; after_value = s.pre.1.0 (omega (arith, inside t)) }
+    let q = c.loop-i in
+    let s = c in record { dump_value = s.pre.0; i_in_bounds = of-record (goal.at.standing_at-s-requires c).In-loop-i; ages_value = rest_rows q.invariant (own s) (long s); lows_value = rest_details q.invariant (own s) (long s) ∙ ap (drop q.i) s.pre.1.1.1.1; places_value = s.pre.1.1.0; after_value = s.pre.1.0 (omega (arith, inside (goal.at.standing_at-s-requires c).In-loop-i)) }
 
 pub loop-i-preserved : goal.loop-i-preserved
 loop-i-preserved c =
-    let p = c.before in
-    let k = p.before in
-    let v = k.before in
-    let z = v.before.before in
-    let t = z.before.before.before.before.before in
-    let s = start t in
-    rw (p.pack.ensures, v.value_of.ensures, k.kind.ensures, c.detail.ensures)
-    (put_more t.loop-i.invariant (own s) (long s) z.standing_at-s.result (of-record t) z.standing_at-s.ensures)
+    let s = c in
+    rw (c.pack.ensures, c.value_of.ensures, c.kind.ensures, c.detail.ensures)
+    (put_more c.loop-i.invariant (own s) (long s) c.standing_at-s.result (of-record (goal.at.loop-i-preserved c).In-loop-i) c.standing_at-s.ensures)
 
 pub returns : goal.returns
 returns c =
     let q = c.loop-i in
-    let s = c.before.before.before.before.before.before in
-    put_all q.invariant (own s) (long s) (omega (arith, c.loop-i-test.false, q.invariant.rows_long, ap length (own s)))
+    put_all q.invariant (own c) (long c) (omega (arith, c.loop-i-test.false, q.invariant.rows_long, ap length (own c)))
 
 pub offset_bounds-details-i-in-loop-i : goal.offset_bounds-details-i-in-loop-i
-offset_bounds-details-i-in-loop-i c = let t = turn c in omega (arith, inside t, few (start t))
+offset_bounds-details-i-in-loop-i c = let c = c in omega (arith, inside (goal.at.offset_bounds-details-i-in-loop-i c).In-loop-i, few c)
 
 pub bounds-details-i : goal.bounds-details-i
-bounds-details-i c = let t = turn c in omega (arith, inside t, t.loop-i.inv.details-long)
+bounds-details-i c = let c = c in omega (arith, inside (goal.at.bounds-details-i c).In-loop-i, c.loop-i.inv.details_long)
 
 pub overflow_add-i : goal.overflow_add-i
-overflow_add-i c = let t = turn c in omega (arith, inside t, few (start t))
+overflow_add-i c = let c = c in omega (arith, inside (goal.at.overflow_add-i c).In-loop-i, few c)
 
 pub loop-i-smaller : goal.loop-i-smaller
-loop-i-smaller c = omega (arith, inside (turn c))
+loop-i-smaller c = omega (arith, inside (goal.at.loop-i-smaller c).In-loop-i)
 
 pub shape_of-rows : goal.shape_of-rows
 shape_of-rows c = c.loop-i.invariant.rows_long
 
 pub shape_of-details : goal.shape_of-details
-shape_of-details c = let s = c.before.before.before.before.before.before in c.loop-i.invariant.details-long ∙ ap length (own s) ∙ sym (long s)
+shape_of-details c = c.loop-i.invariant.details_long ∙ ap length (own c) ∙ sym (long c)

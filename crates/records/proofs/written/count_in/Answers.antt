@@ -12,20 +12,16 @@ returns-then-is_missing c = rw (← c.is_missing.ensures, c.if-is_missing.true)
 
 pub returns-then-is_bad : goal.returns-then-is_bad
 unfolding recorded_in
-returns-then-is_bad c =
-    rw (← c.is_missing.ensures, c.if-is_missing.false, ← c.is_bad.ensures, c.if-is_bad.true)
+returns-then-is_bad c = rw (← c.is_missing.ensures, c.if-is_missing.false, ← c.is_bad.ensures, c.if-is_bad.true)
 
 pub returns-then-count-eq0 : goal.returns-then-count-eq0
 unfolding recorded_in
-returns-then-count-eq0 c =
-    rw (← c.is_missing.ensures, c.if-is_missing.false, ← c.is_bad.ensures, c.if-is_bad.false, ← c.records_since-count.ensures) (search cases)
+returns-then-count-eq0 c = rw (← c.is_missing.ensures, c.if-is_missing.false, ← c.is_bad.ensures, c.if-is_bad.false, ← c.records_since-count.ensures) (search cases)
 
 pub returns-then-room-count : goal.returns-then-room-count
 unfolding recorded_in
-returns-then-room-count c =
-    rw (← c.is_missing.ensures, c.if-is_missing.false, ← c.is_bad.ensures, c.if-is_bad.false, ← c.records_since-count.ensures) (search cases)
+returns-then-room-count c = rw (← c.is_missing.ensures, c.if-is_missing.false, ← c.is_bad.ensures, c.if-is_bad.false, ← c.records_since-count.ensures) (search cases)
 
 pub returns : goal.returns
 unfolding recorded_in
-returns c =
-    rw (← c.is_missing.ensures, c.if-is_missing.false, ← c.is_bad.ensures, c.if-is_bad.false, ← c.records_since-count.ensures) (search cases)
+returns c = rw (← c.is_missing.ensures, c.if-is_missing.false, ← c.is_bad.ensures, c.if-is_bad.false, ← c.records_since-count.ensures) (search cases)

@@ -16,63 +16,47 @@ use Rattle.records.specs.Written.{is_record, written}
 use Rattle.records.proofs.Writing.{records_count}
 use Rattle.records.proofs.written.fill_ages.Goals as goal
 
-abbrev says : goal.Start invariant-loop decreases-loop → ℕ → Record
-says s = seen_by s.args.t (record_at s.args.g s.args.dump.now)
-
 -- a page whose tags do not name the object is passed over, and so is another that is no record of it
 pub loop-i-preserved-then-not-names_object : goal.loop-i-preserved-then-not-names_object
 loop-i-preserved-then-not-names_object c =
     let q = c.loop-i in
     let a = c.args in
-    let u : names_at a.g a.dump.now q.i a.o.0 ≡ false = rw (← c.names_object.ensures) (not-true c.names_object.result c.if-not-names_object.true) in
+    let u : names_at a.g a.dump.now q.i a.o.0 ≡ false = rw (← c.names_object.ensures) c.if-not-names_object.true in
     (search rules, listed_skip q.invariant.1 (seen_unnamed a.g a.dump.now q.i a.o.0 u a.t))
 
 pub loop-i-preserved-then-not-is_of : goal.loop-i-preserved-then-not-is_of
 loop-i-preserved-then-not-is_of c =
-    let k = c.before.before in
-    let q = k.loop-i in
-    let s = k.before.before.before.before.before.before.before in
-    let t : is_record (says s) s.args.o.0 q.i ≡ false =
-    rw (← k.seen_at-r.ensures, ← c.is_of.ensures) (not-true c.is_of.result c.if-not-is_of.true)
+    let q = c.loop-i in
+    let t : is_record (seen_by c.args.t (record_at c.args.g c.args.dump.now)) c.args.o.0 q.i ≡ false =
+    rw (← c.seen_at-r.ensures, ← c.is_of.ensures) c.if-not-is_of.true
     in
     (search rules, listed_skip q.invariant.1 t)
 
 -- a record has room
-room :
-    (c : goal.After-order_of) →
-    let l = c.before.before.before.before.before.before.before.before in
-    let q = l.loop-i in
-    let s = l.before.before.before in
-    (is_record (says s) s.args.o.0 q.i ≡ true) × (q.at < length s.args.words.now)
+room : (c : goal.After-order_of) → let q = c.loop-i in
+    (is_record (seen_by c.args.t (record_at c.args.g c.args.dump.now)) c.args.o.0 q.i ≡ true) × (q.at < length c.args.words.now)
 room c =
-    let e = c.before.before in
-    let k = e.before.before in
-    let q = k.loop-i in
-    let s = k.before.before.before.before.before.before.before in
-    let a = s.args in
-    let t : is_record (says s) a.o.0 q.i ≡ true =
-    rw (← k.seen_at-r.ensures, ← e.is_of.ensures) (not-false e.is_of.result e.if-not-is_of.false)
+    let q = c.loop-i in
+    let a = c.args in
+    let t : is_record (seen_by c.args.t (record_at c.args.g c.args.dump.now)) a.o.0 q.i ≡ true =
+    rw (← c.seen_at-r.ensures, ← c.is_of.ensures) (not-false c.is_of.result c.if-not-is_of.false)
     in
-    (t, listed_room q.invariant.1 a.pages k.loop-i-test.true t (omega (arith, records_count (says s) a.o.0 a.pages, s.requires)))
+    (t, listed_room q.invariant.1 a.pages c.loop-i-test.true t (omega (arith, records_count (seen_by c.args.t (record_at c.args.g c.args.dump.now)) a.o.0 a.pages, c.requires)))
 
 pub loop-i-preserved : goal.loop-i-preserved
 loop-i-preserved c =
-    let k = c.before.before.before.before in
-    let q = k.loop-i in
-    let s = k.before.before.before.before.before.before.before in
+    let q = c.loop-i in
     let r = room c in
-    let x : age_of (says s) q.i ≡ c.order_of.result = rw (c.order_of.ensures, c.sequence_of.ensures, k.seen_at-r.ensures) in
+    let x : age_of (seen_by c.args.t (record_at c.args.g c.args.dump.now)) q.i ≡ c.order_of.result = rw (c.order_of.ensures, c.sequence_of.ensures, c.seen_at-r.ensures) in
     (search rules, listed_more q.invariant.1 _ r.0 r.1 (rw x))
 
 pub returns : goal.returns
 unfolding written
 returns c =
-    let l = c.before.before.before.before in
-    let q = l.loop-i in
-    let s = l.before.before.before.before in
-    let a = s.args in
+    let q = c.loop-i in
+    let a = c.args in
     let e : q.i ≡ a.pages = omega arith in
-    c.sort.ensures ∙ listed_all (rw e at q.invariant.1) (s.requires ∙ sym (records_count (says s) a.o.0 a.pages))
+    c.sort.ensures ∙ listed_all (rw e at q.invariant.1) (c.requires ∙ sym (records_count (seen_by c.args.t (record_at c.args.g c.args.dump.now)) a.o.0 a.pages))
 
 pub loop-i-init : goal.loop-i-init
 loop-i-init c = (search rules, listed_none _ _ _)

@@ -6,5 +6,4 @@ use Rattle.summary.proofs.report.put_layout.Goals as goal
 
 pub returns : goal.returns
 unfolding layout_line
-returns c =
-    also (also c.put_field-spare.ensures c.put_field-tag.ensures) c.put_line.ensures
+returns c = also (also c.put_field-spare.ensures c.put_field-tag.ensures) c.put_line.ensures

@@ -7,5 +7,4 @@ pub returns-then-buf-need : goal.returns-then-buf-need
 returns-then-buf-need c = refused _ c.put_report-need.ensures (search rules)
 
 pub returns : goal.returns
-returns c =
-    accepted _ c.put_report-need.ensures (search rules) c.put_report.ensures
+returns c = accepted _ c.put_report-need.ensures (search rules) c.put_report.ensures

@@ -12,8 +12,7 @@ pub loop-i-init : goal.loop-i-init
 loop-i-init c = (search rules, nothing _ _ (omega arith) (omega arith))
 
 pub loop-i-preserved : goal.loop-i-preserved
-loop-i-preserved c =
-    (search rules, rw (add-one, take-suc {A = ℕ} _ _ 0 c.loop-i-test.true) (also c.loop-i.invariant.1 c.put_byte-next.ensures))
+loop-i-preserved c = (search rules, rw (add-one, take-suc {A = ℕ} _ _ 0 c.loop-i-test.true) (also c.loop-i.invariant.1 c.put_byte-next.ensures))
 
 pub shape_of-buf : goal.shape_of-buf
 shape_of-buf c = kept c.loop-i.invariant.1

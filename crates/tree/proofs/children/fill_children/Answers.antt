@@ -28,94 +28,64 @@ loop-i-preserved-then-key_of-eq-ROOT c =
     let t = root_no_child says a.heads.now q.i (sym c.key_of.ensures ∙ c.if-key_of-eq-ROOT.true) in
     (search rules, rw (passed_skip (is_child says a.heads.now) (child_row says a.heads.now) q.i t) q.invariant.1)
 
--- once the header that a row names is read
-module _ (k : goal.After-seen_at-r) where
-  abbrev turn : goal.At-loop-i invariant-loop decreases-loop
-  turn = k.before.before.before.before.before.before
-
-  abbrev start : goal.Start invariant-loop decreases-loop
-  start = turn.before.before.before.before
-
-  -- it is the newest of its object
-  said : said_at (says_by start.args.g start.args.dump.now start.args.t) start.args.heads.now turn.loop.i ≡ k.seen_at-r.result
-  said = sym (k.seen_at-r.ensures ∙ ap (says_by start.args.g start.args.dump.now start.args.t) k.value_of.ensures)
-
 pub loop-i-preserved-in_default : goal.loop-i-preserved-in_default
 loop-i-preserved-in_default c =
-    let k = c.before in
-    let q = (turn k).loop in
-    let a = (start k).args in
+    let said : said_at (says_by c.args.g c.args.dump.now c.args.t) c.args.heads.now c.loop.i ≡ c.seen_at-r.result = sym (c.seen_at-r.ensures ∙ ap (says_by c.args.g c.args.dump.now c.args.t) c.value_of.ensures) in
+    let q = c.loop in
+    let a = c.args in
     let says = says_by a.g a.dump.now a.t in
-    let t = page_no_child says a.heads.now q.i (rw (said k) (else_header k.seen_at-r.result c.in_default.keys2)) in
+    let t = page_no_child says a.heads.now q.i (rw said (else_header c.seen_at-r.result c.in_default.keys2)) in
     (search rules, rw (passed_skip (is_child says a.heads.now) (child_row says a.heads.now) q.i t) q.inv.1)
 
 pub loop-i-preserved-then-gone_under : goal.loop-i-preserved-then-gone_under
 loop-i-preserved-then-gone_under c =
-    let m = c.before.before.before in
-    let k = m.before.before in
-    let q = (turn k).loop in
-    let a = (start k).args in
+    let said : said_at (says_by c.args.g c.args.dump.now c.args.t) c.args.heads.now c.loop.i ≡ c.seen_at-r.result = sym (c.seen_at-r.ensures ∙ ap (says_by c.args.g c.args.dump.now c.args.t) c.value_of.ensures) in
+    let q = c.loop in
+    let a = c.args in
     let says = says_by a.g a.dump.now a.t in
     let e : is_gone (said_at says a.heads.now q.i) ≡ true =
-    ap is_gone (said k ∙ m.in-Header.is) ∙ sym c.gone_under.ensures ∙ c.if-gone_under.true in
+    ap is_gone (said ∙ c.in-Header.is) ∙ sym c.gone_under.ensures ∙ c.if-gone_under.true in
     let t = deleted_no_child says a.heads.now q.i e in
     (search rules, rw (passed_skip (is_child says a.heads.now) (child_row says a.heads.now) q.i t) q.inv.1)
 
 pub loop-i-preserved : goal.loop-i-preserved
 loop-i-preserved c =
-    let p = c.before.before in
-    let f = p.before.before.before in
-    let m = f.before.before.before in
-    let k = m.before.before in
-    let q = (turn k).loop in
-    let a = (start k).args in
+    let said : said_at (says_by c.args.g c.args.dump.now c.args.t) c.args.heads.now c.loop.i ≡ c.seen_at-r.result = sym (c.seen_at-r.ensures ∙ ap (says_by c.args.g c.args.dump.now c.args.t) c.value_of.ensures) in
+    let q = c.loop in
+    let a = c.args in
     let says = says_by a.g a.dump.now a.t in
-    let e = said k ∙ m.in-Header.is in
-    let g : is_gone (said_at says a.heads.now q.i) ≡ false = ap is_gone e ∙ sym f.gone_under.ensures ∙ f.if-gone_under.false in
-    let t = is_child_lem says a.heads.now q.i (λ z. k.if-key_of-eq-ROOT.false (k.key_of.ensures ∙ z)) (ap is_header e) g in
-    let r : p.pack.result ≡ child_row says a.heads.now q.i =
-    p.pack.ensures ∙ sym (child_row_lem says a.heads.now q.i _ e) in
+    let e = said ∙ c.in-Header.is in
+    let g : is_gone (said_at says a.heads.now q.i) ≡ false = ap is_gone e ∙ sym c.gone_under.ensures ∙ c.if-gone_under.false in
+    let t = is_child_lem says a.heads.now q.i (λ z. c.if-key_of-eq-ROOT.false (c.key_of.ensures ∙ z)) (ap is_header e) g in
+    let r : c.pack.result ≡ child_row says a.heads.now q.i =
+    c.pack.ensures ∙ sym (child_row_lem says a.heads.now q.i _ e) in
     let more = passed_take (is_child says a.heads.now) (child_row says a.heads.now) q.i t in
-    (search rules, rw (more, ← r) (also q.inv.1 p.put_row-at.ensures))
+    (search rules, rw (more, ← r) (also q.inv.1 c.put_row-at.ensures))
 
--- once all heads are passed
-module _ (l : goal.After-loop-i) where
-  abbrev begun : goal.Start invariant-loop decreases-loop
-  begun = l.before.before.before.before.before
+-- were put
+put_all : (l : goal.After-sort-arg-1) → Put (let says = says_by l.args.g l.args.dump.now l.args.t in passed (is_child says l.args.heads.now) (child_row says l.args.heads.now) (length l.args.heads.now)) l.args.rows.now 0 l.loop-i.rows l.loop-i.at
+put_all l =
+    let q = l.loop-i in
+    let e : q.i ≡ length l.args.heads.now = omega (arith, l.loop-i-test.left, q.inv.0) in
+    rw e at q.inv.1
 
-  -- the rows of all children
-  abbrev rows : List ℕ
-  rows =
-      let says = says_by begun.args.g begun.args.dump.now begun.args.t in
-      passed (is_child says begun.args.heads.now) (child_row says begun.args.heads.now) (length begun.args.heads.now)
-
-  -- were put
-  put_all : Put rows begun.args.rows.now 0 l.loop-i.rows l.loop-i.at
-  put_all =
-      let q = l.loop-i in
-      let e : q.i ≡ length begun.args.heads.now = omega (arith, l.loop-i-test.left, q.inv.0) in
-      rw e at q.inv.1
-
-  -- and are no more than the heads
-  fits : length rows ≤ length begun.args.rows.now
-  fits =
-      let says = says_by begun.args.g begun.args.dump.now begun.args.t in
-      let heads = begun.args.heads.now in
-      let test = is_child says heads in
-      omega (arith, begun.pre.1, passed_length test (child_row says heads) (length heads), count_le test (length heads))
+-- and are no more than the heads
+fits : (l : goal.After-slice_known-1) → length (let says = says_by l.args.g l.args.dump.now l.args.t in passed (is_child says l.args.heads.now) (child_row says l.args.heads.now) (length l.args.heads.now)) ≤ length l.args.rows.now
+fits l =
+    let says = says_by l.args.g l.args.dump.now l.args.t in
+    let heads = l.args.heads.now in
+    let test = is_child says heads in
+    omega (arith, l.pre.1, passed_length test (child_row says heads) (length heads), count_le test (length heads))
 
 pub returns : goal.returns
 unfolding child_rows ids_of
-returns c =
-    let s = c.before.before in
-    let l = s.before.before in
-    record { upper_bound = omega (arith, put_length (put_all l) (fits l), fits l); rows_after = put_sorted (put_all l) _ (fits l) s.sort.ensures }
+returns c = record { upper_bound = omega (arith, put_length (put_all (goal.at.returns c).After-sort-arg-1) (fits (goal.at.returns c).After-slice_known-1), fits (goal.at.returns c).After-slice_known-1); rows_after = put_sorted (put_all (goal.at.returns c).After-sort-arg-1) _ (fits (goal.at.returns c).After-slice_known-1) c.sort.ensures }
 
 pub loop-i-init : goal.loop-i-init
 loop-i-init c = (search rules, rw passed_none (nothing _ _ (omega arith) (omega arith)))
 
 pub overflow_cast-place : goal.overflow_cast-place
-overflow_cast-place c = record { fits = omega (arith, c.loop-i-test.true, c.requires.heads_len_bound) }
+overflow_cast-place c = record { fits (goal.at.overflow_cast-place c).After-slice_known-1 omega (arith, c.loop-i-test.true, c.requires.heads_len_bound) }
 
 pub shape_of-rows : goal.shape_of-rows
 shape_of-rows c = c.sort.auto.0 ∙ kept c.loop-i.invariant.1

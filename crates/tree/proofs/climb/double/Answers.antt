@@ -34,7 +34,7 @@ pub offset_bounds-ways-jump : goal.offset_bounds-ways-jump
 offset_bounds-ways-jump c = record { fits = omega (arith, next c) }
 
 pub bounds-ways-jump : goal.bounds-ways-jump
-bounds-ways-jump c = next c.before
+bounds-ways-jump c = next (goal.at.bounds-ways-jump c).Else-jump-ne-GOES_ON
 
 pub shape_of-ways : goal.shape_of-ways
 shape_of-ways c = c.loop-i.invariant.long

@@ -14,8 +14,7 @@ pub code_of-code-requires : goal.code_of-code-requires
 code_of-code-requires c = record { sorted = c.requires.sorted; heads_len_bound = c.requires.heads_len_bound }
 
 pub bounds-ways-i : goal.bounds-ways-i
-bounds-ways-i c =
-    omega (arith, c.loop-i.invariant.long, c.loop-i-test.true)
+bounds-ways-i c = omega (arith, c.loop-i.invariant.long, c.loop-i-test.true)
 
 pub loop-i-preserved : goal.loop-i-preserved
 loop-i-preserved c =

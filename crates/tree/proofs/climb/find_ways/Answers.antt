@@ -8,22 +8,15 @@ use Rattle.tree.proofs.HeadRows.{heads_sorted}
 use Rattle.tree.proofs.climb.find_ways.Goals as goal
 
 pub fill_ways-requires : goal.fill_ways-requires
-fill_ways-requires c =
-    (heads_sorted _ _ _ c.requires.heads, c.requires.heads_len_bound)
+fill_ways-requires c = (heads_sorted _ _ _ c.requires.heads, c.requires.heads_len_bound)
 
 -- the words as they are filled
-filled :
-    (c : goal.After-fill_ways) →
-    let a = c.args in
+filled : (c : goal.After-climb-arg-1) → let a = c.args in
     Ways (says_by a.g a.dump.now a.t) a.pages a.heads.now (λ i. 0) c.fill_ways.new.1.1.1.1.0
-filled c =
-    c.fill_ways.ensures c.args.pages record { small = omega (arith, c.ranges.pages); right = c.requires.heads }
+filled c = c.fill_ways.ensures c.args.pages record { small = omega (arith, c.ranges.pages); right = c.requires.heads }
 
 pub climb-requires : goal.climb-requires
-climb-requires c =
-    ways_some _ _ _ 0 _ (filled c.before.before.before)
+climb-requires c = ways_some _ _ _ 0 _ (filled c)
 
 pub returns : goal.returns
-returns c =
-    let k = c.before.before in
-    k.climb.ensures _ _ _ (filled k.before.before.before.before)
+returns c = c.climb.ensures _ _ _ (filled (goal.at.returns c).After-climb-arg-1)

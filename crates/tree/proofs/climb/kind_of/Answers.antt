@@ -9,9 +9,7 @@ pub returns-then-is_gone : goal.returns-then-is_gone
 returns-then-is_gone c = sym (kind_gone c.args.r (sym c.is_gone.ensures ∙ c.if-is_gone.true))
 
 pub returns-then-is_standing : goal.returns-then-is_standing
-returns-then-is_standing c =
-    sym (kind_standing (stand_by c.args.r) (sym c.is_standing.ensures ∙ c.if-is_standing.true))
+returns-then-is_standing c = sym (kind_standing (stand_by c.args.r) (sym c.is_standing.ensures ∙ c.if-is_standing.true))
 
 pub returns : goal.returns
-returns c =
-    sym (kind_else c.args.r (sym c.is_gone.ensures ∙ c.if-is_gone.false) (sym c.is_standing.ensures ∙ c.if-is_standing.false))
+returns c = sym (kind_else c.args.r (sym c.is_gone.ensures ∙ c.if-is_gone.false) (sym c.is_standing.ensures ∙ c.if-is_standing.false))

@@ -14,8 +14,7 @@ returns-then-kind-eq-MISSING c = rw (← c.value_of-code.ensures, ne_eqb _ _ c.i
 
 pub returns-then-kind-eq-GOES_ON : goal.returns-then-kind-eq-GOES_ON
 unfolding reason_in
-returns-then-kind-eq-GOES_ON c =
-    rw (← c.value_of-code.ensures, ne_eqb _ _ c.if-code-eq-TO_ROOT.false, ne_eqb _ _ c.if-kind-eq-MISSING.false, eq-eqb _ _ c.if-kind-eq-GOES_ON.true)
+returns-then-kind-eq-GOES_ON c = rw (← c.value_of-code.ensures, ne_eqb _ _ c.if-code-eq-TO_ROOT.false, ne_eqb _ _ c.if-kind-eq-MISSING.false, eq-eqb _ _ c.if-kind-eq-GOES_ON.true)
 
 pub returns-then-code-i : goal.returns-then-code-i
 unfolding reason_in

@@ -95,9 +95,9 @@ module _ (t : ℕ) where
       let e = s.pre.1 in
       let sorted = rows_sorted says names _ (omega (arith, s.fits)) _ e.0 _ e.1 in
       let between : Segment a.children.now (children_of says names a.pages a.directory) (object_at a.heads.now) _ _ =
-      row_segment says names a.pages (omega (arith, s.fits)) a.heads.now e.0 a.children.now a.directory f.first-from.result
+      row_segment says names a.pages (omega (arith, s.fits)) a.heads.now e.0 a.children.now a.directory f.first_from_lem.result
       c.first-from2.result p.pack.result l.pack2.result e.1 p.pack.ensures l.pack2.ensures
-      (f.first-from.ensures.1 sorted) (c.first-from2.ensures.1 sorted) in
+      (f.first_from_lem.ensures.1 sorted) (c.first-from2.ensures.1 sorted) in
       done_none says names a.pages a.heads.now a.children.now a.depth a.key a.directory a.at a.rows.now _ _ between
       (omega (arith, s.good.1.1.1.1.1.1.1.1.1.0)) (omega (arith, s.fits))
 

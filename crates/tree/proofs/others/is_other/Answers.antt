@@ -8,8 +8,7 @@ pub returns-then-key_of-eq-ROOT : goal.returns-then-key_of-eq-ROOT
 returns-then-key_of-eq-ROOT c = tells_root _ _ _ _ (sym c.key_of.ensures ∙ c.if-key_of-eq-ROOT.true)
 
 pub returns-then-is_gone : goal.returns-then-is_gone
-returns-then-is_gone c =
-    tells_gone _ _ _ _ (rw (← c.value_of.ensures, ← c.seen_at.ensures, ← c.is_gone.ensures) c.if-is_gone.true)
+returns-then-is_gone c = tells_gone _ _ _ _ (rw (← c.value_of.ensures, ← c.seen_at.ensures, ← c.is_gone.ensures) c.if-is_gone.true)
 
 pub returns : goal.returns
 returns c =

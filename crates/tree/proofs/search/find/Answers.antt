@@ -7,20 +7,12 @@ use Rattle.sort.specs.Search.{Parted}
 use Rattle.tree.proofs.Searching.{nowhere}
 use Rattle.tree.proofs.search.find.Goals as goal
 
--- where the search ended
-parted :
-    (c : goal.After-first_from-i) →
-    let a = c.args in
-    Parted (packed a.key 0) a.rows.now c.first_from-i.result
-parted c = rw (← c.pack.ensures) (c.first_from-i.ensures.parted c.requires)
-
 pub returns-then-rows-i : goal.returns-then-rows-i
 returns-then-rows-i c =
-    let f = c.before in
-    nowhere _ _ _ f.requires (parted f) (λ k. absurd (omega (arith, c.if-rows-i.true)))
+    let parted : let a = c.args in Parted (packed a.key 0) a.rows.now c.first_from-i.result = rw (← c.pack.ensures) (c.first_from-i.ensures.parted c.requires) in
+    nowhere _ _ _ c.requires parted (λ k. absurd (omega (arith, c.if-rows-i.true)))
 
 pub returns-then-key_of-key : goal.returns-then-key_of-key
 returns-then-key_of-key c =
-    let k = c.before in
-    let f = k.before.before.before in
-    nowhere _ _ _ f.requires (parted f) (λ h e. c.if-key_of-key.true (k.key_of.ensures ∙ e))
+    let parted : let a = c.args in Parted (packed a.key 0) a.rows.now c.first_from-i.result = rw (← c.pack.ensures) (c.first_from-i.ensures.parted c.requires) in
+    nowhere _ _ _ c.requires parted (λ h e. c.if-key_of-key.true (c.key_of.ensures ∙ e))

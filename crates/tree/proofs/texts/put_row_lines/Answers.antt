@@ -10,5 +10,4 @@ returns-then-i-listed c = rw (lt-ltb _ _ c.if-i-listed.true) c.put_path_lines.en
 
 pub returns : goal.returns
 unfolding row_lines
-returns c =
-    rw (le-ltb _ _ c.if-i-listed.false, ← c.row_at.ensures) c.put_reason_lines.ensures
+returns c = rw (le-ltb _ _ c.if-i-listed.false, ← c.row_at.ensures) c.put_reason_lines.ensures

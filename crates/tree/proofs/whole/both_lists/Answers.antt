@@ -14,51 +14,31 @@ use Rattle.tree.specs.Objects.{says_by}
 use Rattle.tree.proofs.NewestHeads.{heads_are}
 use Rattle.tree.proofs.whole.both_lists.Goals as goal
 
--- once the newest headers are found
-module _ (f : goal.After-fill_heads-count) where
-  abbrev start : goal.Start
-  start = f.before.before.before.before.before.before
+-- they are in front, and no more than the headers
+in-front : (f : goal.After-slice_known-4-1) → length (take f.fill_heads-count.result f.fill_heads-count.last.1.1.1.1.0) ≡ f.fill_heads-count.result
+in-front f = length-take-le f.fill_heads-count.result f.fill_heads-count.last.1.1.1.1.0 (omega (arith, f.fill_heads-count.ensures.upper_bound, f.fill_heads-count.kept.1.1.1.1.0))
 
-  -- how many they are, and the words that they are in front of
-  abbrev count : ℕ
-  count = f.fill_heads-count.result
-
-  abbrev made : List ℕ
-  made = f.fill_heads-count.last.1.1.1.1.0
-
-  -- they are in front, and no more than the headers
-  in-front : length (take count made) ≡ count
-  in-front = length-take-le count made (omega (arith, f.fill_heads-count.ensures.upper_bound, f.fill_heads-count.kept.1.1.1.1.0))
-
-  -- there are as many words to work in
-  work-in-front : length (take count start.args.work.now) ≡ count
-  work-in-front =
-      length-take-le count start.args.work.now (omega (arith, f.fill_heads-count.ensures.upper_bound, start.pre.1.1.0, start.pre.1.1.1))
+-- there are as many words to work in
+work-in-front : (f : goal.After-slice_known-4-1) → length (take f.fill_heads-count.result f.args.work.now) ≡ f.fill_heads-count.result
+work-in-front f = length-take-le f.fill_heads-count.result f.args.work.now (omega (arith, f.fill_heads-count.ensures.upper_bound, f.pre.1.1.0, f.pre.1.1.1))
 
 pub lists-answer-requires : goal.lists-answer-requires
 lists-answer-requires c =
-    let f = c.before.before.before.before.before in
-    let s = start f in
-    let a = s.args in
-    let says = says_by a.g a.dump.now a.t in record { heads = rw f.fill_heads-count.ensures.rows_after (heads_are says a.pages (omega (arith, s.fits))); heads_len_bound = omega (arith, in-front f, f.fill_heads-count.ensures.upper_bound, s.requires.pages_lt_page_values, s.requires.heads_len, count_le (is_head says) a.pages); work_len = work-in-front f ∙ sym (in-front f); pages_in_bounds = s.requires.pages_in_bounds }
+    let a = c.args in
+    let says = says_by a.g a.dump.now a.t in record { heads = rw c.fill_heads-count.ensures.rows_after (heads_are says a.pages (omega (arith, c.fits))); heads_len_bound = omega (arith, in-front (goal.at.lists-answer-requires c).After-slice_known-4-1, c.fill_heads-count.ensures.upper_bound, c.requires.pages_lt_page_values, c.requires.heads_len, count_le (is_head says) a.pages); work_len = work-in-front (goal.at.lists-answer-requires c).After-slice_known-4-1 ∙ sym (in-front (goal.at.lists-answer-requires c).After-slice_known-4-1); pages_in_bounds = c.requires.pages_in_bounds }
 
 pub returns : goal.returns
 returns c =
-    let w = c.before.before in
-    let h = w.before.before.before.before in
-    let l = h.before.before.before.before.before.before in
-    let f = l.before.before.before.before.before.before in
-    let s = start f in
-    let n = length s.args.heads.now in
-    let worked = l.lists-answer.new.1.1.1.1.1.0 ++ drop (count f) s.args.work.now in
-    let kept : length worked ≡ length s.args.work.now = h.work-1.given.1 in
-    let long : length s.args.work.now ≡ n = s.requires.work_len ∙ sym s.requires.heads_len in record { value = l.lists-answer.ensures.value; rows_after = l.lists-answer.ensures.rows_after; heads_after = h.clear.ensures ∙ cleared_all (made f) n f.fill_heads-count.auto.1.1.1.1.0; work_after = w.clear-2.ensures ∙ cleared_all worked n (kept ∙ long) ∙ ap (λ (k : ℕ). replicate {A = ℕ} k 0) (sym long) }
+    let n = length c.args.heads.now in
+    let worked = c.lists-answer.new.1.1.1.1.1.0 ++ drop c.fill_heads-count.result c.args.work.now in
+    let kept : length worked ≡ length c.args.work.now = c.work-1.given.1 in
+    let long : length c.args.work.now ≡ n = c.requires.work_len ∙ sym c.requires.heads_len in record { value = c.lists-answer.ensures.value; rows_after = c.lists-answer.ensures.rows_after; heads_after = c.clear.ensures ∙ cleared_all c.fill_heads-count.last.1.1.1.1.0 n c.fill_heads-count.auto.1.1.1.1.0; work_after = c.clear-2.ensures ∙ cleared_all worked n (kept ∙ long) ∙ ap (λ (k : ℕ). replicate {A = ℕ} k 0) (sym long) }
 
 pub fill_heads-count-requires : goal.fill_heads-count-requires
 fill_heads-count-requires c = c.requires.heads_len
 
 pub slice_bounds-lists-end-2 : goal.slice_bounds-lists-end-2
-slice_bounds-lists-end-2 c = sym (in-front c.before.before.before)
+slice_bounds-lists-end-2 c = sym (in-front c)
 
 pub slice_bounds-lists-end-4 : goal.slice_bounds-lists-end-4
-slice_bounds-lists-end-4 c = sym (work-in-front c.before.before.before.before)
+slice_bounds-lists-end-4 c = sym (work-in-front (goal.at.slice_bounds-lists-end-4 c).After-slice_known-4-1)

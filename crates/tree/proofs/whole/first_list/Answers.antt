@@ -12,8 +12,7 @@ slice_bounds-list_directory-end-2 c =
     sym (length-take-le f.result f.new.1.1.1.1.0 (omega (arith, f.ensures.0, f.auto.1.1.1.1.0)))
 
 pub list_directory-requires : goal.list_directory-requires
-list_directory-requires c =
-    record { heads = c.requires.heads; children_value = c.fill_children-count.ensures.rows_after }
+list_directory-requires c = record { heads = c.requires.heads; children_value = c.fill_children-count.ensures.rows_after }
 
 pub returns : goal.returns
 unfolding listed_rows

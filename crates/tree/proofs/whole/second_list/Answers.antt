@@ -12,7 +12,6 @@ list_others-requires c =
 
 pub returns : goal.returns
 returns c =
-    let s = c.before.before.before.before.before.before.before.before.before.before.before.before.before in
     let a = s.args in
     c.list_others.ensures (names_of a.g a.dump.now) a.pages (record { small = omega (arith, s.ranges); right = s.requires.0 })
     c.find_ways.ensures

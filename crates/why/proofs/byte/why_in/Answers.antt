@@ -18,116 +18,61 @@ use Rattle.why.proofs.Filling.{opened_sized, rows_inside, rows_front, rows_clear
 use Rattle.why.proofs.Finding.{found_below}
 use Rattle.why.proofs.byte.why_in.Goals as goal
 
-abbrev start : goal.After-takes-t → goal.Start
-start t = t.before.before.before
-
 pub measure-k-requires : goal.measure-k-requires
 measure-k-requires c =
-    let s = start c.before.before.before.before in
-    let z = opened_sized s.args.g (length s.args.dump.now) s.args.pages s.requires in
+    let z = opened_sized c.args.g (length c.args.dump.now) c.args.pages c.requires in
     record { pages_lt_page_values = z.pages; data_bound = z.most }
 
 -- too few words
 pub returns-then-rows-need : goal.returns-then-rows-need
 unfolding why_on why_left
-returns-then-rows-need c =
-    let n = c.before.before in
-    let f = n.before.before in
-    let k = f.before.before in
-    rw ((start k.before).requires, ← k.takes-t.ensures, ← k.file_in-f.ensures, f.in-Header.is, ← n.measure-k.ensures.marks_value, lt-ltb _ _ c.if-rows-need.true) record { value = refl; rows_after = refl }
+returns-then-rows-need c = rw (c.requires, ← c.takes-t.ensures, ← c.file_in-f.ensures, c.in-Header.is, ← c.measure-k.ensures.marks_value, lt-ltb _ _ c.if-rows-need.true) record { value = refl; rows_after = refl }
 
 -- a position behind the end
 pub returns-then-size-x : goal.returns-then-size-x
 unfolding why_on why_left
 returns-then-size-x c =
-    let l = c.before.before.before in
-    let x = l.before.before in
-    let b = x.before in
-    let n = b.before.before in
-    let f = n.before.before in
-    let k = f.before.before in
-    let s = start k.before in
-    let a = s.args in
+    let a = c.args in
     let p =
-    past_tells (seen_by k.takes-t.result (record_at a.g a.dump.now)) a.g.layout.«data» a.o.0 a.pages f.in-Header.h.0 a.x
-    (rw n.measure-k.ensures.size_value at x.if-size-x.true) in
-    rw (s.requires, ← k.takes-t.ensures, ← k.file_in-f.ensures, f.in-Header.is, ← n.measure-k.ensures.marks_value, le-ltb _ _ b.if-rows-need.false) record { value = rw (← p.0, ← p.1, ← c.setter.ensures); rows_after = l.clear.ensures ∙ clear_inside 0 n.measure-k.result.marks a.rows.now (omega arith) b.if-rows-need.false }
+    past_tells (seen_by c.takes-t.result (record_at a.g a.dump.now)) a.g.layout.«data» a.o.0 a.pages c.in-Header.h.0 a.x
+    (rw c.measure-k.ensures.size_value at c.if-size-x.true) in
+    rw (c.requires, ← c.takes-t.ensures, ← c.file_in-f.ensures, c.in-Header.is, ← c.measure-k.ensures.marks_value, le-ltb _ _ c.if-rows-need.false) record { value = rw (← p.0, ← p.1, ← c.setter.ensures); rows_after = c.clear.ensures ∙ clear_inside 0 c.measure-k.result.marks a.rows.now (omega arith) c.if-rows-need.false }
 
 pub fill-count-requires : goal.fill-count-requires
-fill-count-requires c =
-    let b = c.before.before in
-    let n = b.before.before in
-    record { dump_value = (start n.before.before.before.before.before).requires; size_value = n.measure-k.ensures.size_value; need_value = n.measure-k.ensures.marks_value; need_in_bounds = b.if-rows-need.false }
-
--- what the pages say, and the spans of a file that was found
-abbrev says : goal.After-takes-t → ℕ → Record
-says t = let a = (start t).args in seen_by t.takes-t.result (record_at a.g a.dump.now)
-
-abbrev spans : goal.After-takes-t → (header : ℕ) → List ℕ
-spans t h = let a = (start t).args in spans_of (says t) a.g.layout.«data» a.o.0 a.pages h
+fill-count-requires c = record { dump_value = c.requires; size_value = c.measure-k.ensures.size_value; need_value = c.measure-k.ensures.marks_value; need_in_bounds = c.if-rows-need.false }
 
 pub find-found-requires : goal.find-found-requires
 find-found-requires c =
-    let r = c.before.before in
-    let d = r.before in
-    let b = d.before.before.before in
-    let n = b.before.before in
-    let f = n.before.before in
-    let t = f.before.before.before in
-    rw d.fill-count.ensures.value
-    (rows_inside (spans t f.f-in-Header-1.given.0.0.0) (start t).args.rows.now n.measure-k.result.marks b.if-rows-need.false _ d.fill-count.ensures.rows_after r.rows-in-Header-1.given)
+    rw c.fill-count.ensures.value
+    (rows_inside (let a = c.args in spans_of (let a = c.args in seen_by c.takes-t.result (record_at a.g a.dump.now)) a.g.layout.«data» a.o.0 a.pages c.f-in-Header-1.given.0.0.0) c.args.rows.now c.measure-k.result.marks c.if-rows-need.false _ c.fill-count.ensures.rows_after c.rows-in-Header-1.given)
 
 -- what is found is found in them
-found :
-    (c : goal.After-find-found) →
-    let f = c.before.before.before.before.before.before.before.before.before.before.before in
-    let t = f.before.before.before in
-    let h = f.f-in-Header-1.given.0.0.0 in
-    let a = (start t).args in
-    c.find-found.result ≡ found_in a.x (size_of (says t) a.g.layout.«data» a.o.0 h a.pages) 0 (spans t h)
+found : (c : goal.After-clear-arg-in-Header-1) → let h = c.f-in-Header-1.given.0.0.0 in
+    let a = c.args in
+    c.find-found.result ≡ found_in a.x (size_of (let a = c.args in seen_by c.takes-t.result (record_at a.g a.dump.now)) a.g.layout.«data» a.o.0 h a.pages) 0 (let a = c.args in spans_of (let a = c.args in seen_by c.takes-t.result (record_at a.g a.dump.now)) a.g.layout.«data» a.o.0 a.pages h)
 found c =
-    let r = c.before.before.before in
-    let d = r.before in
-    let b = d.before.before.before in
-    let n = b.before.before in
-    let f = n.before.before in
-    let t = f.before.before.before in
     let front =
-    rows_front (spans t f.f-in-Header-1.given.0.0.0) (start t).args.rows.now n.measure-k.result.marks b.if-rows-need.false _ d.fill-count.ensures.rows_after r.rows-in-Header-1.given
+    rows_front (let a = c.args in spans_of (let a = c.args in seen_by c.takes-t.result (record_at a.g a.dump.now)) a.g.layout.«data» a.o.0 a.pages c.f-in-Header-1.given.0.0.0) c.args.rows.now c.measure-k.result.marks c.if-rows-need.false _ c.fill-count.ensures.rows_after c.rows-in-Header-1.given
     in
-    c.find-found.ensures ∙ rw (d.fill-count.ensures.value, front, n.measure-k.ensures.size_value)
+    c.find-found.ensures ∙ rw (c.fill-count.ensures.value, front, c.measure-k.ensures.size_value)
 
 pub of-requires : goal.of-requires
-of-requires c =
-    rw c.find-found.ensures (found_below _ _ 0 _ (omega arith))
+of-requires c = rw c.find-found.ensures (found_below _ _ 0 _ (omega arith))
 
 -- no file
 pub returns-in-Refused : goal.returns-in-Refused
 unfolding why_on why_left
-returns-in-Refused c =
-    let k = c.before.before.before in
-    rw ((start k.before).requires, ← k.takes-t.ensures, ← k.file_in-f.ensures, c.in-Refused.is) record { value = refl; rows_after = refl }
+returns-in-Refused c = rw (c.requires, ← c.takes-t.ensures, ← c.file_in-f.ensures, c.in-Refused.is) record { value = refl; rows_after = refl }
 
 pub returns-else-size-x : goal.returns-else-size-x
 unfolding why_on why_left
 returns-else-size-x c =
-    let l = c.before.before.before.before in
-    let i = l.before.before in
-    let r = i.before.before.before in
-    let d = r.before in
-    let x = d.before.before in
-    let b = x.before in
-    let n = b.before.before in
-    let f = n.before.before in
-    let k = f.before.before in
-    let t = k.before in
-    let s = start t in
-    let a = s.args in
-    let h = f.f-in-Header-1.given.0.0.0 in
+    let a = c.args in
+    let h = c.f-in-Header-1.given.0.0.0 in
     let p =
-    found_tells (says t) a.g.layout.«data» a.o.0 a.pages h a.x (opened_sized a.g (length a.dump.now) a.pages s.requires)
-    (rw n.measure-k.ensures.size_value at x.if-size-x.false) i.find-found.result (found i)
+    found_tells (let a = c.args in seen_by c.takes-t.result (record_at a.g a.dump.now)) a.g.layout.«data» a.o.0 a.pages h a.x (opened_sized a.g (length a.dump.now) a.pages c.requires)
+    (rw c.measure-k.ensures.size_value at c.if-size-x.false) c.find-found.result (found (goal.at.returns-else-size-x c).After-clear-arg-in-Header-1)
     in
-    let clear = rows_cleared (spans t h) a.rows.now n.measure-k.result.marks b.if-rows-need.false _ d.fill-count.ensures.rows_after r.rows-in-Header-1.given _ l.clear-in-Header.ensures in
-    rw (s.requires, ← t.takes-t.ensures, ← k.file_in-f.ensures, f.f-in-Header-1.given.1, ← n.measure-k.ensures.marks_value, le-ltb _ _ b.if-rows-need.false)
+    let clear = rows_cleared (let a = c.args in spans_of (let a = c.args in seen_by c.takes-t.result (record_at a.g a.dump.now)) a.g.layout.«data» a.o.0 a.pages h) a.rows.now c.measure-k.result.marks c.if-rows-need.false _ c.fill-count.ensures.rows_after c.rows-in-Header-1.given _ c.clear-in-Header.ensures in
+    rw (c.requires, ← c.takes-t.ensures, ← c.file_in-f.ensures, c.f-in-Header-1.given.1, ← c.measure-k.ensures.marks_value, le-ltb _ _ c.if-rows-need.false)
     record { value = rw (← p.0, ← p.1, c.of.ensures, c.byte_at.ensures); rows_after = clear }

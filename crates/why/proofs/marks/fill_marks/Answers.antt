@@ -29,42 +29,30 @@ pub loop-i-preserved-then-not-names_object : goal.loop-i-preserved-then-not-name
 loop-i-preserved-then-not-names_object c =
     let q = c.loop-i in
     let a = c.args in
-    let u : names_at a.g a.dump.now q.i a.o.0 ≡ false = rw (← c.names_object.ensures) (not-true c.names_object.result c.if-not-names_object.true) in
+    let u : names_at a.g a.dump.now q.i a.o.0 ≡ false = rw (← c.names_object.ensures) c.if-not-names_object.true in
     fill_skip q.invariant c.loop-i-test.true (seen_unnamed a.g a.dump.now q.i a.o.0 u a.t)
 
 -- all marks have room in the words, and those of the page are the definition's
-room :
-    (c : goal.After-mark) →
-    let a = c.args in
+room : (c : goal.After-mark) → let a = c.args in
     length (marks_to (seen_by a.t (record_at a.g a.dump.now)) a.g.layout.«data» a.o.0 a.h.0 a.pages) ≤ length (set a.rows.now 0 c.mark.result)
 room c = rw (length-set c.args.rows.now 0 c.mark.result) c.requires.pages_in_bounds
 
-made :
-    (c : goal.After-marks_of-made) →
-    let q = c.loop-i in
+made : (c : goal.After-put-arg-1) → let q = c.loop-i in
     let a = c.args in
     marks_in c.marks_of-made.result ≡ marks_of a.g.layout.«data» a.o.0 a.h.0 q.i (seen_by a.t (record_at a.g a.dump.now) q.i)
 made c = rw (← c.seen_at.ensures) c.marks_of-made.ensures
 
 pub put-at-requires : goal.put-at-requires
-put-at-requires c =
-    let m = c.before in
-    let t = m.before.before.before.before in
-    fill_room t.loop-i.invariant (room t.before.before) t.loop-i-test.true (made m)
+put-at-requires c = fill_room c.loop-i.invariant (room (goal.at.put-at-requires c).After-mark) c.loop-i-test.true (made c)
 
 pub loop-i-preserved : goal.loop-i-preserved
-loop-i-preserved c =
-    let p = c.before.before in
-    let m = p.before.before in
-    let t = m.before.before.before.before in
-    rw (p.put-at.ensures.rows_after, p.put-at.ensures.value) (fill_more t.loop-i.invariant (room t.before.before) t.loop-i-test.true (made m))
+loop-i-preserved c = rw (c.put-at.ensures.rows_after, c.put-at.ensures.value) (fill_more c.loop-i.invariant (room (goal.at.loop-i-preserved c).After-mark) c.loop-i-test.true (made (goal.at.loop-i-preserved c).After-put-arg-1))
 
 pub shape_of-rows : goal.shape_of-rows
 shape_of-rows c = c.loop-i.invariant.long ∙ length-set c.args.rows.now 0 c.mark.result
 
 pub returns : goal.returns
-returns c =
-    fill_end c.mark.result c.args.rows.now c.loop-i.invariant c.loop-i-test.false
+returns c = fill_end c.mark.result c.args.rows.now c.loop-i.invariant c.loop-i-test.false
 
 pub marks_of-made-requires : goal.marks_of-made-requires
 marks_of-made-requires c = record { p_lt_page_values = omega (arith, c.loop-i-test.true, c.requires.pages_lt_page_values); data_le_most_data = c.requires.data_bound }

@@ -21,68 +21,48 @@ use Rattle.why.proofs.marks.measure.Goals as goal
 pub loop-i-init : goal.loop-i-init
 loop-i-init c =
     let a = c.args in
-    let says = seen_by a.t (record_at a.g a.dump.now) in
-    (search rules, (sym (count_none says a.g.layout.«data» a.o.0 a.h.0), rw end_none))
+    let (seen_by c.args.t (record_at c.args.g c.args.dump.now)) seen_by a.t (record_at a.g a.dump.now) in
+    (search rules, (sym (count_none (seen_by c.args.t (record_at c.args.g c.args.dump.now)) a.o.0 a.h.0), rw end_none))
 
 pub loop-i-preserved-then-not-names_object : goal.loop-i-preserved-then-not-names_object
 loop-i-preserved-then-not-names_object c =
     let q = c.loop-i in
     let a = c.args in
-    let says = seen_by a.t (record_at a.g a.dump.now) in
-    let u : names_at a.g a.dump.now q.i a.o.0 ≡ false = rw (← c.names_object.ensures) (not-true c.names_object.result c.if-not-names_object.true) in
-    let t : is_of a.o.0 (says q.i) ≡ false = seen_unnamed a.g a.dump.now q.i a.o.0 u a.t in (
+    let (seen_by c.args.t (record_at c.args.g c.args.dump.now)) seen_by a.t (record_at a.g a.dump.now) in
+    let u : names_at a.g a.dump.now q.i a.o.0 ≡ false = rw (← c.names_object.ensures) c.if-not-names_object.true in
+    let t : is_of a.o.0 (seen_by c.args.t (record_at c.args.g c.args.dump.now)) ≡ false = seen_unnamed a.g a.dump.now q.i a.o.0 u a.t in (
       search rules,
       (
-        q.invariant.1.0 ∙ ap length (sym (marks_same says a.g.layout.«data» a.o.0 a.h.0 q.i t)),
-        q.invariant.1.1 ∙ sym (end_other says a.g.layout.«data» a.o.0 c.order_of-age.result q.i t),
+        q.invariant.1.0 ∙ ap length (sym (marks_same (seen_by c.args.t (record_at c.args.g c.args.dump.now)) a.o.0 a.h.0 q.i t)),
+        q.invariant.1.1 ∙ sym (end_other (seen_by c.args.t (record_at c.args.g c.args.dump.now)) a.o.0 c.order_of-age.result q.i t),
       ),
     )
 
 pub marks_of-made-requires : goal.marks_of-made-requires
-marks_of-made-requires c =
-    record { p_lt_page_values = omega (arith, c.loop-i-test.true, c.requires.pages_lt_page_values); data_le_most_data = c.requires.data_bound }
-
--- the marks of the first pages
-module _ (r : goal.After-order_of-age) where
-  abbrev start : goal.Start invariant-loop decreases-loop
-  start = r.before.before.before.before
-
-  abbrev says : ℕ → Record
-  says = seen_by start.args.t (record_at start.args.g start.args.dump.now)
-
-  abbrev marksBelow : ℕ → List ℕ
-  marksBelow i = let a = start.args in marks_to says a.g.layout.«data» a.o.0 a.h.0 i
+marks_of-made-requires c = record { p_lt_page_values = omega (arith, c.loop-i-test.true, c.requires.pages_lt_page_values); data_le_most_data = c.requires.data_bound }
 
 -- with those of the page they are one page more's
-counted :
-    (c : goal.After-count-marks) →
-    let q = c.before.before.before.before.before.before.before in
-    q.loop-i.marks + c.count-marks.result ≡ length (marksBelow q.before (q.loop-i.i + 1))
+counted : (c : goal.After-count-marks) → c.loop-i.marks + c.count-marks.result ≡ length (let a = c.args in marks_to (seen_by c.args.t (record_at c.args.g c.args.dump.now)) a.g.layout.«data» a.o.0 a.h.0 (c.loop-i.i + 1))
 counted c =
-    let m = c.before in
-    let s = m.before.before in
-    let q = s.before.before.before.before in
-    let a = (start q.before).args in
-    rw (q.loop-i.invariant.1.0, c.count-marks.ensures, m.marks_of-made.ensures, s.seen_at-r.ensures)
-    (sym (count_more (says q.before) a.g.layout.«data» a.o.0 a.h.0 q.loop-i.i))
+    let a = c.args in
+    rw (c.loop-i.invariant.1.0, c.count-marks.ensures, c.marks_of-made.ensures, c.seen_at-r.ensures)
+    (sym (count_more (seen_by c.args.t (record_at c.args.g c.args.dump.now)) a.g.layout.«data» a.o.0 a.h.0 c.loop-i.i))
 
 pub overflow_add-marks : goal.overflow_add-marks
 overflow_add-marks c =
-    let t = c.before.before.before.before.before.before in
-    let r = t.before.before in
-    let a = (start r).args in
-    let few = marks_few (says r) a.g.layout.«data» a.o.0 a.h.0 (t.loop-i.i + 1) in
-    record { fits = omega (arith, counted c, few, t.loop-i-test.true, (start r).requires.0) }
+    let a = c.args in
+    let few = marks_few (seen_by c.args.t (record_at c.args.g c.args.dump.now)) a.g.layout.«data» a.o.0 a.h.0 (c.loop-i.i + 1) in
+    record { fits = omega (arith, counted c, few, c.loop-i-test.true, c.requires.0) }
 
 pub loop-i-preserved : goal.loop-i-preserved
 loop-i-preserved c =
     let q = c.loop-i in
     let a = c.args in
-    let says = seen_by a.t (record_at a.g a.dump.now) in (
+    let (seen_by c.args.t (record_at c.args.g c.args.dump.now)) seen_by a.t (record_at a.g a.dump.now) in (
       search rules,
       (
         counted c,
-        c.end_by-end.ensures ∙ rw (q.invariant.1.1, c.seen_at-r.ensures) (sym (end_step says a.g.layout.«data» a.o.0 c.order_of-age.result q.i)),
+        c.end_by-end.ensures ∙ rw (q.invariant.1.1, c.seen_at-r.ensures) (sym (end_step (seen_by c.args.t (record_at c.args.g c.args.dump.now)) a.o.0 c.order_of-age.result q.i)),
       ),
     )
 

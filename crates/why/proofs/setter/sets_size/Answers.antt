@@ -12,37 +12,28 @@ use Rattle.why.proofs.setter.sets_size.Goals as goal
 pub returns-then-file_size-size : goal.returns-then-file_size-size
 returns-then-file_size-size c = rw (eq-eqb _ _ c.if-p-h.true, ← c.file_size.ensures, eq-eqb _ _ c.if-file_size-size.true)
 
--- the page does not set it as the newest header
-other : (c : goal.Joined-p-h) → let a = c.args in eqb a.p.0 a.h.0 && eqb (file_size a.r) a.size ≡ false
-other c =
-    ⊎_elim
-    (λ w. rw (eq-eqb _ _ w.0.taken, ← w.1.ensures, ne_eqb _ _ w.2.left))
-    (λ w. rw (ne_eqb _ _ w.left))
-    c.if-p-h.branch
-
 pub returns-then-d-o : goal.returns-then-d-o
 returns-then-d-o c =
-    let m = c.before.before.before.before in
-    rw (other m.before.before, m.in-Data.is, ne_eqb _ _ c.if-d-o.true)
+    let other : let a = c.args in eqb a.p.0 a.h.0 && eqb (file_size a.r) a.size ≡ false = ⊎_elim (λ w. rw (eq-eqb _ _ w.0.taken, ← w.1.ensures, ne_eqb _ _ w.2.left)) (λ w. rw (ne_eqb _ _ w.left)) c.if-p-h.branch in
+    rw (other, c.in-Data.is, ne_eqb _ _ c.if-d-o.true)
 
 pub returns-then-order_of-age : goal.returns-then-order_of-age
 returns-then-order_of-age c =
-    let t = c.before.before in
-    let m = t.before.before.before.before in
-    rw (other m.before.before, m.in-Data.is, eq-eqb _ _ t.if-d-o.false, ← c.order_of.ensures, le-ltb _ _ c.if-order_of-age.true)
+    let other : let a = c.args in eqb a.p.0 a.h.0 && eqb (file_size a.r) a.size ≡ false = ⊎_elim (λ w. rw (eq-eqb _ _ w.0.taken, ← w.1.ensures, ne_eqb _ _ w.2.left)) (λ w. rw (ne_eqb _ _ w.left)) c.if-p-h.branch in
+    rw (other, c.in-Data.is, eq-eqb _ _ c.if-d-o.false, ← c.order_of.ensures, le-ltb _ _ c.if-order_of-age.true)
 
 pub returns-in-Other : goal.returns-in-Other
-returns-in-Other c = rw (other c.before.before, c.in-Other.is)
+returns-in-Other c = let other : let a = c.args in eqb a.p.0 a.h.0 && eqb (file_size a.r) a.size ≡ false = ⊎_elim (λ w. rw (eq-eqb _ _ w.0.taken, ← w.1.ensures, ne_eqb _ _ w.2.left)) (λ w. rw (ne_eqb _ _ w.left)) c.if-p-h.branch in
+    rw (other, c.in-Other.is)
 
 pub returns-in-Header : goal.returns-in-Header
 returns-in-Header c =
+    let other : let a = c.args in eqb a.p.0 a.h.0 && eqb (file_size a.r) a.size ≡ false = ⊎_elim (λ w. rw (eq-eqb _ _ w.0.taken, ← w.1.ensures, ne_eqb _ _ w.2.left)) (λ w. rw (ne_eqb _ _ w.left)) c.if-p-h.branch in
     let h = c.enum_told-in-Header-1.given in
     let a = c.args in
-    rw h.1 (header_sets a.«data» a.o.0 a.h.0 a.age a.size a.p.0 h.0.0 (rw h.1 at (other c.before.before)))
+    rw h.1 (header_sets a.«data» a.o.0 a.h.0 a.age a.size a.p.0 h.0.0 (rw h.1 at other))
 
 pub returns-else-order_of-age : goal.returns-else-order_of-age
 returns-else-order_of-age c =
-    let e = c.before.before in
-    let t = e.before.before in
-    let m = t.before.before.before.before in
-    rw (other m.before.before, m.in-Data.is, eq-eqb _ _ t.if-d-o.false, ← e.order_of.ensures, lt-ltb _ _ e.if-order_of-age.false, ← c.base_of.ensures.value)
+    let other : let a = c.args in eqb a.p.0 a.h.0 && eqb (file_size a.r) a.size ≡ false = ⊎_elim (λ w. rw (eq-eqb _ _ w.0.taken, ← w.1.ensures, ne_eqb _ _ w.2.left)) (λ w. rw (ne_eqb _ _ w.left)) c.if-p-h.branch in
+    rw (other, c.in-Data.is, eq-eqb _ _ c.if-d-o.false, ← c.order_of.ensures, lt-ltb _ _ c.if-order_of-age.false, ← c.base_of.ensures.value)

@@ -27,7 +27,7 @@ loop-i-preserved-then-not-may_set c =
     let age = c.order_of-age.result in
     let a = c.args in
     let says = seen_by a.t (record_at a.g a.dump.now) in
-    let u : eqb q.i a.h.0 || names_at a.g a.dump.now q.i a.o.0 ≡ false = rw (← c.may_set.ensures) (not-true c.may_set.result c.if-not-may_set.true) in
+    let u : eqb q.i a.h.0 || names_at a.g a.dump.now q.i a.o.0 ≡ false = rw (← c.may_set.ensures) c.if-not-may_set.true in
     let t = unnamed_sets a.g a.dump.now a.t a.g.layout.«data» a.o.0 a.h.0 age a.size q.i u in
     (search rules, q.invariant.1 ∙ ap (newest_in says) (sym (where_skip says (sets says a.g.layout.«data» a.o.0 a.h.0 age a.size) q.i t)))
 
@@ -38,7 +38,7 @@ loop-i-preserved-then-not-sets_size c =
     let a = c.args in
     let says = seen_by a.t (record_at a.g a.dump.now) in
     let t : sets says a.g.layout.«data» a.o.0 a.h.0 age a.size q.i ≡ false =
-    rw (← c.seen_at-r.ensures, ← c.sets_size.ensures) (not-true c.sets_size.result c.if-not-sets_size.true)
+    rw (← c.seen_at-r.ensures, ← c.sets_size.ensures) c.if-not-sets_size.true
     in
     (search rules, q.invariant.1 ∙ ap (newest_in says) (sym (where_skip says (sets says a.g.layout.«data» a.o.0 a.h.0 age a.size) q.i t)))
 
@@ -50,7 +50,7 @@ loop-i-preserved c =
     let says = seen_by a.t (record_at a.g a.dump.now) in
     let test : ℕ → Bool = sets says a.g.layout.«data» a.o.0 a.h.0 age a.size in
     let t : test q.i ≡ true =
-    rw (← c.seen_at-r.ensures, ← c.sets_size.ensures) (not-false c.sets_size.result c.if-not-sets_size.false)
+    rw (← c.seen_at-r.ensures, ← c.sets_size.ensures) c.if-not-sets_size.false
     in
     let g : c.order_of.result ≡ age_of says q.i = rw (← c.seen_at-r.ensures, ← c.sequence_of-in-loop-i.ensures) c.order_of.ensures in (
       search rules,
@@ -60,27 +60,22 @@ loop-i-preserved c =
     )
 
 -- the age that is searched above is that of the newest header
-known :
-    (c : goal.After-order_of-age) →
-    let a = c.args in
+known : (c : goal.After-order_of-age) → let a = c.args in
     c.order_of-age.result ≡ age_of (seen_by a.t (record_at a.g a.dump.now)) a.h.0
 known c = rw (← c.seen_at.ensures, ← c.sequence_of.ensures) c.order_of-age.ensures
 
 pub returns-in-Nothing : goal.returns-in-Nothing
 returns-in-Nothing c =
     let q = c.loop-i in
-    let k = c.before.before.before.before in
-    let a = k.args in
+    let a = c.args in
     let says = seen_by a.t (record_at a.g a.dump.now) in
     let n : q.i ≡ a.pages = omega (arith, q.invariant.0, c.loop-i-test.false) in
-    setter_none says a.g.layout.«data» a.o.0 a.pages a.h.0 k.order_of-age.result a.size (known k) k.requires (rw n at (sym q.invariant.1 ∙ c.in-Nothing.is))
+    setter_none says a.g.layout.«data» a.o.0 a.pages a.h.0 c.order_of-age.result a.size (known (goal.at.returns-in-Nothing c).After-order_of-age) c.requires (rw n at (sym q.invariant.1 ∙ c.in-Nothing.is))
 
 pub returns-in-At : goal.returns-in-At
 returns-in-At c =
-    let m = c.before in
-    let q = m.loop-i in
-    let k = m.before.before.before.before in
-    let a = k.args in
+    let q = c.loop-i in
+    let a = c.args in
     let says = seen_by a.t (record_at a.g a.dump.now) in
-    let n : q.i ≡ a.pages = omega (arith, q.invariant.0, m.loop-i-test.false) in
-    setter_some says a.g.layout.«data» a.o.0 a.pages a.h.0 k.order_of-age.result a.size (known k) k.requires _ _ (rw n at (sym q.invariant.1 ∙ m.in-At.is))
+    let n : q.i ≡ a.pages = omega (arith, q.invariant.0, c.loop-i-test.false) in
+    setter_some says a.g.layout.«data» a.o.0 a.pages a.h.0 c.order_of-age.result a.size (known (goal.at.returns-in-At c).After-order_of-age) c.requires _ _ (rw n at (sym q.invariant.1 ∙ c.in-At.is))

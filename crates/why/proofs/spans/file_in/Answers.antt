@@ -17,51 +17,32 @@ returns-then-is_missing c = rw (← c.is_missing.ensures, c.if-is_missing.true)
 
 pub returns-then-is_bad : goal.returns-then-is_bad
 unfolding filed_in
-returns-then-is_bad c =
-    rw (← c.is_missing.ensures, c.if-is_missing.false, ← c.is_bad.ensures, c.if-is_bad.true)
+returns-then-is_bad c = rw (← c.is_missing.ensures, c.if-is_missing.false, ← c.is_bad.ensures, c.if-is_bad.true)
 
 -- behind both tests the file of the object decides
-behind :
-    (w : goal.After-newest_page-newest) →
-    let a = w.args in
+behind : (w : goal.In-Nothing-1) → let a = w.args in
     let says = seen_by a.t (record_at a.g a.dump.now) in
     filed_by (file_of says a.o.0 a.pages) ≡ filed_in says a.pages a.m a.o.0
 unfolding filed_in
-behind w =
-    rw (← w.is_missing.ensures, w.if-is_missing.false, ← w.is_bad.ensures, w.if-is_bad.false)
+behind w = rw (← w.is_missing.ensures, w.if-is_missing.false, ← w.is_bad.ensures, w.if-is_bad.false)
 
 pub returns-then-records_since-eq0 : goal.returns-then-records_since-eq0
 returns-then-records_since-eq0 c =
-    let w = c.before.before.before.before in
-    let a = w.args in
+    let a = c.args in
     let says = seen_by a.t (record_at a.g a.dump.now) in
-    sym (filed_none says a.o.0 a.pages (sym c.records_since.ensures ∙ c.if-records_since-eq0.true)) ∙ behind w
+    sym (filed_none says a.o.0 a.pages (sym c.records_since.ensures ∙ c.if-records_since-eq0.true)) ∙ behind (goal.at.returns-then-records_since-eq0 c).In-Nothing-1
 
 pub returns-else-records_since-eq0 : goal.returns-else-records_since-eq0
 returns-else-records_since-eq0 c =
-    let w = c.before.before.before.before in
-    let a = w.args in
+    let a = c.args in
     let says = seen_by a.t (record_at a.g a.dump.now) in
-    let n : newest_header says a.o.0 a.pages ≡ none = in_none says (newest_header says a.o.0 a.pages) (sym w.newest_page-newest.ensures ∙ c.in-Nothing.is) in
-    sym (filed_headless says a.o.0 a.pages (λ z. c.if-records_since-eq0.false (c.records_since.ensures ∙ z)) n) ∙ behind w
-
--- the file of the newest header
-by-header :
-    (f : goal.After-file_at-f) →
-    let a = f.args in
-    let says = seen_by a.t (record_at a.g a.dump.now) in
-    filed_by f.file_at-f.result ≡ filed_in says a.pages a.m a.o.0
-by-header f =
-    let w = f.before.before.before.before.before in
-    let a = w.args in
-    let says = seen_by a.t (record_at a.g a.dump.now) in
-    let p = f.in-At.p in
-    let n = in_some says (newest_header says a.o.0 a.pages) p f.in-At.field-1 (sym w.newest_page-newest.ensures ∙ f.in-At.is) in
-    let k : f.file_at-f.result ≡ file_at (says p.0) p.0 0 = rw (← f.seen_at.ensures) f.file_at-f.ensures in
-    ap filed_by k ∙ sym (filed_at says a.o.0 a.pages p.0 n.0) ∙ behind w
+    let n : newest_header says a.o.0 a.pages ≡ none = in_none says (newest_header says a.o.0 a.pages) (sym c.newest_page-newest.ensures ∙ c.in-Nothing.is) in
+    sym (filed_headless says a.o.0 a.pages (λ z. c.if-records_since-eq0.false (c.records_since.ensures ∙ z)) n) ∙ behind (goal.at.returns-else-records_since-eq0 c).In-Nothing-1
 
 pub returns-in-Refused : goal.returns-in-Refused
-returns-in-Refused c = rw c.in-Refused.is at (by-header c.before.before.before)
+returns-in-Refused c = let by-header : let a = c.args in let says = seen_by a.t (record_at a.g a.dump.now) in filed_by c.file_at-f.result ≡ filed_in says a.pages a.m a.o.0 = let behind : let a = c.args in let says = seen_by a.t (record_at a.g a.dump.now) in filed_by (file_of says a.o.0 a.pages) ≡ filed_in says a.pages a.m a.o.0 = rw (← c.is_missing.ensures, c.if-is_missing.false, ← c.is_bad.ensures, c.if-is_bad.false) in let a = c.args in let says = seen_by a.t (record_at a.g a.dump.now) in let p = c.in-At.p in let n = in_some says (newest_header says a.o.0 a.pages) p c.in-At.field-1 (sym c.newest_page-newest.ensures ∙ c.in-At.is) in let k : c.file_at-f.result ≡ file_at (says p.0) p.0 0 = rw (← c.seen_at.ensures) c.file_at-f.ensures in ap filed_by k ∙ sym (filed_at says a.o.0 a.pages p.0 n.0) ∙ behind in
+    rw c.in-Refused.is at by-header
 
 pub returns-in-Header : goal.returns-in-Header
-returns-in-Header c = rw c.in-Header.is at (by-header c.before.before.before)
+returns-in-Header c = let by-header : let a = c.args in let says = seen_by a.t (record_at a.g a.dump.now) in filed_by c.file_at-f.result ≡ filed_in says a.pages a.m a.o.0 = let behind : let a = c.args in let says = seen_by a.t (record_at a.g a.dump.now) in filed_by (file_of says a.o.0 a.pages) ≡ filed_in says a.pages a.m a.o.0 = rw (← c.is_missing.ensures, c.if-is_missing.false, ← c.is_bad.ensures, c.if-is_bad.false) in let a = c.args in let says = seen_by a.t (record_at a.g a.dump.now) in let p = c.in-At.p in let n = in_some says (newest_header says a.o.0 a.pages) p c.in-At.field-1 (sym c.newest_page-newest.ensures ∙ c.in-At.is) in let k : c.file_at-f.result ≡ file_at (says p.0) p.0 0 = rw (← c.seen_at.ensures) c.file_at-f.ensures in ap filed_by k ∙ sym (filed_at says a.o.0 a.pages p.0 n.0) ∙ behind in
+    rw c.in-Header.is at by-header

@@ -8,44 +8,26 @@ use Rattle.why.specs.Answers.{spans_on, spans_left}
 use Rattle.why.proofs.Filling.{opened_sized}
 use Rattle.why.proofs.spans.spans_in.Goals as goal
 
-abbrev start : goal.After-takes-t → goal.Start
-start t = t.before.before.before
-
 pub measure-k-requires : goal.measure-k-requires
 measure-k-requires c =
-    let s = start c.before.before.before.before in
-    let z = opened_sized s.args.g (length s.args.dump.now) s.args.pages s.requires in
+    let z = opened_sized c.args.g (length c.args.dump.now) c.args.pages c.requires in
     record { pages_lt_page_values = z.pages; data_bound = z.most }
 
 -- too few words
 pub returns-then-rows-k : goal.returns-then-rows-k
 unfolding spans_on spans_left
-returns-then-rows-k c =
-    let n = c.before.before in
-    let f = n.before.before in
-    let k = f.before.before in
-    rw ((start k.before).requires, ← k.takes-t.ensures, ← k.file_in-f.ensures, f.in-Header.is, ← n.measure-k.ensures.marks_value, lt-ltb _ _ c.if-rows-k.true) record { value = refl; rows_after = refl }
+returns-then-rows-k c = rw (c.requires, ← c.takes-t.ensures, ← c.file_in-f.ensures, c.in-Header.is, ← c.measure-k.ensures.marks_value, lt-ltb _ _ c.if-rows-k.true) record { value = refl; rows_after = refl }
 
 pub fill-count-requires : goal.fill-count-requires
-fill-count-requires c =
-    let b = c.before.before in
-    let n = b.before.before in
-    record { dump_value = (start n.before.before.before.before.before).requires; size_value = n.measure-k.ensures.size_value; need_value = n.measure-k.ensures.marks_value; need_in_bounds = b.if-rows-k.false }
+fill-count-requires c = record { dump_value = c.requires; size_value = c.measure-k.ensures.size_value; need_value = c.measure-k.ensures.marks_value; need_in_bounds = c.if-rows-k.false }
 
 -- no file
 pub returns-in-Refused : goal.returns-in-Refused
 unfolding spans_on spans_left
-returns-in-Refused c =
-    let k = c.before.before.before in
-    rw ((start k.before).requires, ← k.takes-t.ensures, ← k.file_in-f.ensures, c.in-Refused.is) record { value = refl; rows_after = refl }
+returns-in-Refused c = rw (c.requires, ← c.takes-t.ensures, ← c.file_in-f.ensures, c.in-Refused.is) record { value = refl; rows_after = refl }
 
 pub returns-else-rows-k : goal.returns-else-rows-k
 unfolding spans_on spans_left
 returns-else-rows-k c =
-    let d = c.before.before in
-    let b = d.before.before.before in
-    let n = b.before.before in
-    let f = n.before.before in
-    let k = f.before.before in
-    rw ((start k.before).requires, ← k.takes-t.ensures, ← k.file_in-f.ensures, f.in-Header.is, ← n.measure-k.ensures.marks_value, le-ltb _ _ b.if-rows-k.false)
-    record { value = rw (← n.measure-k.ensures.size_value, d.fill-count.ensures.value); rows_after = d.fill-count.ensures.rows_after }
+    rw (c.requires, ← c.takes-t.ensures, ← c.file_in-f.ensures, c.in-Header.is, ← c.measure-k.ensures.marks_value, le-ltb _ _ c.if-rows-k.false)
+    record { value = rw (← c.measure-k.ensures.size_value, c.fill-count.ensures.value); rows_after = c.fill-count.ensures.rows_after }

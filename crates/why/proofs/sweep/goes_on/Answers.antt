@@ -10,5 +10,4 @@ returns-then-count-j c =
     rw (none_left a.j a.count a.rows.now c.if-count-j.true)
 
 pub returns : goal.returns
-returns c =
-    rw (slice-cons c.args.j c.args.count c.args.rows.now 0 c.if-count-j.false c.requires, c.place_of.ensures)
+returns c = rw (slice-cons c.args.j c.args.count c.args.rows.now 0 c.if-count-j.false c.requires, c.place_of.ensures)

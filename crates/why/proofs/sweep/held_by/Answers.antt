@@ -11,9 +11,7 @@ overflow_cast-at-2 c =
     record { fits = omega (arith, m, c.struct_known-1.given) }
 
 pub returns-then-count_of-at : goal.returns-then-count_of-at
-returns-then-count_of-at c =
-    rw (← c.seen_at.ensures, ← c.count_of.ensures, le-leb _ _ c.if-count_of-at.true)
+returns-then-count_of-at c = rw (← c.seen_at.ensures, ← c.count_of.ensures, le-leb _ _ c.if-count_of-at.true)
 
 pub returns : goal.returns
-returns c =
-    rw (← c.seen_at.ensures, ← c.count_of.ensures, lt-leb _ _ c.if-count_of-at.false)
+returns c = rw (← c.seen_at.ensures, ← c.count_of.ensures, lt-leb _ _ c.if-count_of-at.false)

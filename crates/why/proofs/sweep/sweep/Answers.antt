@@ -13,8 +13,7 @@ use Rattle.why.proofs.InPlace.{Swept, SeenBelow, taken_below, sweep_none, mark_i
 use Rattle.why.proofs.sweep.sweep.Goals as goal
 
 pub bounds-rows-j : goal.bounds-rows-j
-bounds-rows-j c =
-    omega (arith, c.loop-j.invariant.long, c.requires.count_in_bounds, c.loop-j-test.true)
+bounds-rows-j c = omega (arith, c.loop-j.invariant.long, c.requires.count_in_bounds, c.loop-j-test.true)
 
 -- the place of the mark is before the last
 inside : (c : goal.After-place_of-x) → c.place_of-x.result < places
@@ -25,74 +24,37 @@ inside c =
 
 pub loop-j-preserved-then-goes_on : goal.loop-j-preserved-then-goes_on
 loop-j-preserved-then-goes_on c =
-    let o = c.before in
-    let k = o.before.before in
-    let p = k.before in
-    let t = p.before.before in
-    let q = t.loop-j in
-    let s = t.before.before.before.before in
-    sweep_goes s.requires.0 q.invariant t.loop-j-test.true k.taking-seen.ensures p.place_of-x.ensures (sym o.goes_on.ensures ∙ c.if-goes_on.true)
+    let q = c.loop-j in
+    sweep_goes s.requires.0 q.invariant c.loop-j-test.true c.taking-seen.ensures c.place_of-x.ensures (sym c.goes_on.ensures ∙ c.if-goes_on.true)
 
 pub loop-j-preserved-then-size-x : goal.loop-j-preserved-then-size-x
 loop-j-preserved-then-size-x c =
-    let e = c.before in
-    let o = e.before in
-    let k = o.before.before in
-    let p = k.before in
-    let t = p.before.before in
-    let q = t.loop-j in
-    let s = t.before.before.before.before in
-    sweep_past s.requires.0 q.invariant t.loop-j-test.true k.taking-seen.ensures p.place_of-x.ensures (sym o.goes_on.ensures ∙ e.if-goes_on.false) c.if-size-x.true
+    let q = c.loop-j in
+    sweep_past s.requires.0 q.invariant c.loop-j-test.true c.taking-seen.ensures c.place_of-x.ensures (sym c.goes_on.ensures ∙ c.if-goes_on.false) c.if-size-x.true
 
 pub reason-requires : goal.reason-requires
-reason-requires c =
-    let p = c.before.before.before.before.before in
-    record { data_nonzero = p.requires.data_nonzero; x_lt_places = inside p }
-
--- the code is that of the reason at the place
-coded :
-    (c : goal.After-code-code) →
-    let a = c.args in
-    c.code-code.result ≡ code_of (reason_seen (seen_by a.t (record_at a.g a.dump.now)) a.g.layout.«data» c.taking-seen.result c.place_of-x.result)
-coded c = rw (← c.reason.ensures) c.code-code.ensures
+reason-requires c = record { data_nonzero = c.requires.data_nonzero; x_lt_places = inside (goal.at.reason-requires c).After-place_of-x }
 
 pub loop-j-preserved-then-code-last : goal.loop-j-preserved-then-code-last
 loop-j-preserved-then-code-last c =
-    let d = c.before in
-    let f = d.before.before in
-    let e = f.before in
-    let o = e.before in
-    let k = o.before.before in
-    let p = k.before in
-    let t = p.before.before in
-    let q = t.loop-j in
-    let s = t.before.before.before.before in
-    sweep_same s.requires.0 q.invariant t.loop-j-test.true k.taking-seen.ensures p.place_of-x.ensures (sym o.goes_on.ensures ∙ e.if-goes_on.false) f.if-size-x.false (coded d) c.if-code-last.true
+    let coded : let a = c.args in c.code-code.result ≡ code_of (reason_seen (seen_by a.t (record_at a.g a.dump.now)) a.g.layout.«data» c.taking-seen.result c.place_of-x.result) = rw (← c.reason.ensures) c.code-code.ensures in
+    let q = c.loop-j in
+    sweep_same s.requires.0 q.invariant c.loop-j-test.true c.taking-seen.ensures c.place_of-x.ensures (sym c.goes_on.ensures ∙ c.if-goes_on.false) c.if-size-x.false coded c.if-code-last.true
 
 pub row-requires : goal.row-requires
 row-requires c =
-    let d = c.before in
-    let k = d.before.before.before.before.before.before in
-    let p = k.before in
-    let q = p.loop-j in
-    let a = p.args in
+    let coded : let a = c.args in c.code-code.result ≡ code_of (reason_seen (seen_by a.t (record_at a.g a.dump.now)) a.g.layout.«data» c.taking-seen.result c.place_of-x.result) = rw (← c.reason.ensures) c.code-code.ensures in
+    let q = c.loop-j in
+    let a = c.args in
     let says = seen_by a.t (record_at a.g a.dump.now) in
-    let b : SeenBelow k.taking-seen.result = rw k.taking-seen.ensures (taken_below says q.seen (get_or q.rows q.j 0) q.invariant.below) in
-    record { place_lt_places = inside p; code_lt_code_values = rw (coded d) (code_below says a.g.layout.«data» k.taking-seen.result p.place_of-x.result b) }
+    let b : SeenBelow c.taking-seen.result = rw c.taking-seen.ensures (taken_below says q.seen (get_or q.rows q.j 0) q.invariant.below) in
+    record { place_lt_places = inside (goal.at.row-requires c).After-place_of-x; code_lt_code_values = rw coded (code_below says a.g.layout.«data» c.taking-seen.result c.place_of-x.result b) }
 
 pub loop-j-preserved : goal.loop-j-preserved
 loop-j-preserved c =
-    let l = c.before in
-    let d = l.before in
-    let f = d.before.before in
-    let e = f.before in
-    let o = e.before in
-    let k = o.before.before in
-    let p = k.before in
-    let t = p.before.before in
-    let q = t.loop-j in
-    let s = t.before.before.before.before in
-    sweep_row s.requires.0 q.invariant t.loop-j-test.true k.taking-seen.ensures p.place_of-x.ensures (sym o.goes_on.ensures ∙ e.if-goes_on.false) f.if-size-x.false (coded d) l.if-code-last.false c.row.ensures
+    let coded : let a = c.args in c.code-code.result ≡ code_of (reason_seen (seen_by a.t (record_at a.g a.dump.now)) a.g.layout.«data» c.taking-seen.result c.place_of-x.result) = rw (← c.reason.ensures) c.code-code.ensures in
+    let q = c.loop-j in
+    sweep_row s.requires.0 q.invariant c.loop-j-test.true c.taking-seen.ensures c.place_of-x.ensures (sym c.goes_on.ensures ∙ c.if-goes_on.false) c.if-size-x.false coded c.if-code-last.false c.row.ensures
 
 pub bounds-rows-at : goal.bounds-rows-at
 bounds-rows-at c =

@@ -3,5 +3,4 @@ use borrow.Author.Rules.{rules}
 use Rattle.chunk.proofs.moment.Moment.takes.Goals as goal
 
 pub returns-in-Before : goal.returns-in-Before
-returns-in-Before c =
-    rw (c.in-Before.is, c.order_of.ensures, c.sequence_of.ensures, c.record_at.ensures)
+returns-in-Before c = rw (c.in-Before.is, c.order_of.ensures, c.sequence_of.ensures, c.record_at.ensures)

@@ -22,9 +22,8 @@ overflow_add-result c = omega (arith, place c, c.page_len-size.ensures.upper_bou
 
 pub returns-then-not-has_room : goal.returns-then-not-has_room
 unfolding page_in
-returns-then-not-has_room c = rw (← c.has_room.ensures, not-true c.has_room.result c.if-not-has_room.true)
+returns-then-not-has_room c = rw (← c.has_room.ensures, c.if-not-has_room.true)
 
 pub returns : goal.returns
 unfolding page_in
-returns c =
-    rw (← c.has_room.ensures, not-false c.has_room.result c.if-not-has_room.false, c.page_len-size.ensures.value)
+returns c = rw (← c.has_room.ensures, c.if-not-has_room.false, c.page_len-size.ensures.value)

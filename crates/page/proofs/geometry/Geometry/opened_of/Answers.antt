@@ -18,43 +18,31 @@ returns-then-number-ge-COUNT c = rw (← c.number.ensures, le-leb _ _ c.if-numbe
 
 pub returns-then-not-block_fits : goal.returns-then-not-block_fits
 unfolding opened_of
-returns-then-not-block_fits c =
-    rw (← c.number.ensures, lt-leb _ _ c.if-number-ge-COUNT.false, ← c.block_fits.ensures, c.if-not-block_fits.true)
+returns-then-not-block_fits c = rw (← c.number.ensures, lt-leb _ _ c.if-number-ge-COUNT.false, ← c.block_fits.ensures, c.if-not-block_fits.true)
 
 pub returns-then-not-length_fits : goal.returns-then-not-length_fits
 unfolding opened_of
-returns-then-not-length_fits c =
-    rw (← c.number.ensures, lt-leb _ _ c.if-number-ge-COUNT.false, ← c.block_fits.ensures, c.if-not-block_fits.false, ← c.length_fits.ensures, c.if-not-length_fits.true)
+returns-then-not-length_fits c = rw (← c.number.ensures, lt-leb _ _ c.if-number-ge-COUNT.false, ← c.block_fits.ensures, c.if-not-block_fits.false, ← c.length_fits.ensures, c.if-not-length_fits.true)
 
--- the layout of these sizes
-abbrev asked : goal.Else-not-length_fits → Layout
-asked c = let a = c.args in layout_of a.«data» a.spare a.tag
-
-has_room : (c : goal.Else-not-length_fits) → roomy (asked c) ≡ true
-has_room c =
-    listed_roomy (asked c) (rw (← c.number.ensures) c.if-number-ge-COUNT.false)
+has_room : (c : goal.Else-not-length_fits) → roomy (let a = c.args in layout_of a.«data» a.spare a.tag) ≡ true
+has_room c = listed_roomy (let a = c.args in layout_of a.«data» a.spare a.tag) (rw (← c.number.ensures) c.if-number-ge-COUNT.false)
 
 pub divides-requires : goal.divides-requires
-divides-requires c =
-    record { layout_value = has_room c; block_value = rw (← c.block_fits.ensures) (not-false c.block_fits.result c.if-not-block_fits.false) }
+divides-requires c = record { layout_value = has_room c; block_value = rw (← c.block_fits.ensures) c.if-not-block_fits.false }
 
 pub returns-then-not-divides : goal.returns-then-not-divides
 unfolding opened_of
-returns-then-not-divides c =
-    rw (← c.number.ensures, lt-leb _ _ c.if-number-ge-COUNT.false, ← c.block_fits.ensures, c.if-not-block_fits.false, ← c.length_fits.ensures, c.if-not-length_fits.false, ← c.divides.ensures, c.if-not-divides.true)
+returns-then-not-divides c = rw (← c.number.ensures, lt-leb _ _ c.if-number-ge-COUNT.false, ← c.block_fits.ensures, c.if-not-block_fits.false, ← c.length_fits.ensures, c.if-not-length_fits.false, ← c.divides.ensures, c.if-not-divides.true)
 
 pub nonzero_div-result : goal.nonzero_div-result
-nonzero_div-result c =
-    let l = c.before.before.before in
-    omega (arith, roomy_facts _ (has_room l), c.page_len.ensures.value)
+nonzero_div-result c = omega (arith, roomy_facts _ (has_room (goal.at.nonzero_div-result c).Else-not-length_fits), c.page_len.ensures.value)
 
 pub overflow_cast-result : goal.overflow_cast-result
 overflow_cast-result c =
     let a = c.args in
-    let m = length_most a.len (rw (← c.length_fits.ensures) (not-false c.length_fits.result c.if-not-length_fits.false)) in
+    let m = length_most a.len (rw (← c.length_fits.ensures) c.if-not-length_fits.false) in
     omega (arith, div-le_self a.len c.page_len.result)
 
 pub returns : goal.returns
 unfolding opened_of
-returns c =
-    rw (← c.number.ensures, lt-leb _ _ c.if-number-ge-COUNT.false, ← c.block_fits.ensures, c.if-not-block_fits.false, ← c.length_fits.ensures, c.if-not-length_fits.false, ← c.divides.ensures, c.if-not-divides.false, c.page_len.ensures.value)
+returns c = rw (← c.number.ensures, lt-leb _ _ c.if-number-ge-COUNT.false, ← c.block_fits.ensures, c.if-not-block_fits.false, ← c.length_fits.ensures, c.if-not-length_fits.false, ← c.divides.ensures, c.if-not-divides.false, c.page_len.ensures.value)

@@ -6,8 +6,7 @@ use Rattle.page.proofs.geometry.Geometry.placed.Goals as goal
 
 pub returns-then-count-n : goal.returns-then-count-n
 unfolding placed_of placed_in
-returns-then-count-n c =
-    rw (← c.opened_of-o.ensures, c.in-Pages.is, le-leb _ _ c.if-count-n.true)
+returns-then-count-n c = rw (← c.opened_of-o.ensures, c.in-Pages.is, le-leb _ _ c.if-count-n.true)
 
 pub returns-in-Refused : goal.returns-in-Refused
 unfolding placed_of placed_in
@@ -15,5 +14,4 @@ returns-in-Refused c = rw (← c.opened_of-o.ensures, c.in-Refused.is)
 
 pub returns-else-count-n : goal.returns-else-count-n
 unfolding placed_of placed_in
-returns-else-count-n c =
-    rw (← c.opened_of-o.ensures, c.in-Pages.is, lt-leb _ _ c.if-count-n.false)
+returns-else-count-n c = rw (← c.opened_of-o.ensures, c.in-Pages.is, lt-leb _ _ c.if-count-n.false)

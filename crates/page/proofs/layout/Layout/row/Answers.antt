@@ -17,3 +17,7 @@ overflow_cast-result-2 c = omega (arith, column_small spare_sizes refl c.args.n 
 pub overflow_cast-result-3 : goal.overflow_cast-result-3
 unfolding tag_offsets all_below
 overflow_cast-result-3 c = omega (arith, column_small tag_offsets refl c.args.n c.requires)
+
+pub returns : goal.returns
+unfolding layout_at data_sizes spare_sizes tag_offsets
+returns c = search rules

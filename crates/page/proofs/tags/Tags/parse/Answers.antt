@@ -4,4 +4,5 @@ use Rattle.page.specs.Tags.{tags_of}
 use Rattle.page.proofs.tags.Tags.parse.Goals as goal
 
 pub returns : goal.returns
+unfolding tags_of
 returns c = cc

@@ -24,8 +24,7 @@ returns-then-kind-eq4 c = rw (← c.value_of-kind.ensures, ← c.key_of-then-kin
 
 pub returns-then-kind-eq5 : goal.returns-then-kind-eq5
 unfolding standing_of
-returns-then-kind-eq5 c =
-    rw (← c.value_of-kind.ensures, ← c.key_of-then-kind-eq5.ensures, ← c.value_of.ensures) (search cases)
+returns-then-kind-eq5 c = rw (← c.value_of-kind.ensures, ← c.key_of-then-kind-eq5.ensures, ← c.value_of.ensures) (search cases)
 
 pub returns : goal.returns
 unfolding standing_of

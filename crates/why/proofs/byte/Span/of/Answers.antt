@@ -7,5 +7,4 @@ pub of-requires : goal.of-requires
 of-requires c = rw c.code_in.ensures (omega arith)
 
 pub returns : goal.returns
-returns c =
-    rw (c.of.ensures, c.byte_at.ensures, c.code_in.ensures, c.from_of-from.ensures)
+returns c = rw (c.of.ensures, c.byte_at.ensures, c.code_in.ensures, c.from_of-from.ensures)

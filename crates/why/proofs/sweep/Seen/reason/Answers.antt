@@ -7,8 +7,7 @@ use Rattle.why.specs.Sweeps.{reason_seen}
 use Rattle.why.proofs.sweep.Seen.reason.Goals as goal
 
 pub overflow_add-x : goal.overflow_add-x
-overflow_add-x c =
-    record { fits = omega (arith, div-le_self c.args.x c.args.g.layout.«data», c.requires.x_lt_places) }
+overflow_add-x c = record { fits = omega (arith, div-le_self c.args.x c.args.g.layout.«data», c.requires.x_lt_places) }
 
 pub returns-then-self-x : goal.returns-then-self-x
 unfolding reason_seen
@@ -16,8 +15,7 @@ returns-then-self-x c = rw (c.in-At.is, ne_eqb _ _ c.if-self-x.true)
 
 pub returns-then-age-later : goal.returns-then-age-later
 unfolding reason_seen
-returns-then-age-later c =
-    rw (c.in-At.is, eq-eqb _ _ c.if-self-x.false, c.in-At-cut.is, lt-ltb _ _ c.if-age-later.true)
+returns-then-age-later c = rw (c.in-At.is, eq-eqb _ _ c.if-self-x.false, c.in-At-cut.is, lt-ltb _ _ c.if-age-later.true)
 
 pub returns-in-Nothing : goal.returns-in-Nothing
 unfolding reason_seen
@@ -25,10 +23,8 @@ returns-in-Nothing c = rw c.in-Nothing.is
 
 pub returns-in-Nothing-cut : goal.returns-in-Nothing-cut
 unfolding reason_seen
-returns-in-Nothing-cut c =
-    rw (c.in-At.is, eq-eqb _ _ c.if-self-x.false, c.in-Nothing-cut.is) c.held_by.ensures
+returns-in-Nothing-cut c = rw (c.in-At.is, eq-eqb _ _ c.if-self-x.false, c.in-Nothing-cut.is) c.held_by.ensures
 
 pub returns-else-age-later : goal.returns-else-age-later
 unfolding reason_seen
-returns-else-age-later c =
-    rw (c.in-At.is, eq-eqb _ _ c.if-self-x.false, c.in-At-cut.is, le-ltb _ _ c.if-age-later.false) c.held_by-in-At-cut.ensures
+returns-else-age-later c = rw (c.in-At.is, eq-eqb _ _ c.if-self-x.false, c.in-At-cut.is, le-ltb _ _ c.if-age-later.false) c.held_by-in-At-cut.ensures

@@ -1,0 +1,47 @@
+use Prim.Native.Nat.{◌≤◌, ◌-◌}
+use mathlib.Core.Bool.{false}
+use mathlib.Core.Path.{◌≡◌, sym, ◌∙◌}
+use native.Mathlib.Omega.{arith}
+use borrow.Author.Rules.{rules}
+use borrow.Author.Tests.{not-true}
+use Rattle.page.specs.Records.{is_data, record_at}
+use Rattle.page.specs.Tags.{names_at}
+use Rattle.page.proofs.Sound.{else_data}
+use Rattle.chunk.specs.Takes.{seen_by}
+use Rattle.chunk.specs.Records.{is_of}
+use Rattle.chunk.specs.Sizes.{data_end}
+use Rattle.chunk.proofs.Records.{seen_unnamed}
+use Rattle.chunk.proofs.Gathering.{end_none, end_skip, end_other, end_step}
+use Rattle.chunk.proofs.scan.data_end.Goals as goal
+
+pub loop-i-init : goal.loop-i-init
+loop-i-init c = (search rules, rw end_none)
+
+pub loop-i-preserved-then-not-names_object : goal.loop-i-preserved-then-not-names_object
+loop-i-preserved-then-not-names_object c =
+    let q = c.loop-i in
+    let a = c.args in
+    let says = seen_by a.t (record_at a.g a.dump.now) in
+    let u : names_at a.g a.dump.now q.i a.o.0 ≡ false = rw (← c.names_object.ensures) c.if-not-names_object.true in
+    let t : is_of a.o.0 (says q.i) ≡ false = seen_unnamed a.g a.dump.now q.i a.o.0 u a.t in
+    (search rules, q.invariant.1 ∙ sym (end_other says a.g.layout.«data» a.o.0 a.age q.i t))
+
+pub loop-i-preserved-in_default : goal.loop-i-preserved-in_default
+loop-i-preserved-in_default c =
+    let q = c.loop-i in
+    let a = c.args in
+    let says = seen_by a.t (record_at a.g a.dump.now) in
+    let t : is_data (says q.i) ≡ false = rw (← c.seen_at-r.ensures) (else_data c.seen_at-r.result c.in_default.keys2) in
+    (search rules, q.invariant.1 ∙ sym (end_skip says a.g.layout.«data» a.o.0 a.age q.i t))
+
+pub loop-i-preserved : goal.loop-i-preserved
+loop-i-preserved c =
+    let q = c.loop-i in
+    let a = c.args in
+    let says = seen_by a.t (record_at a.g a.dump.now) in
+    (search rules, c.end_with-end.ensures ∙ rw (q.invariant.1, ← c.in-Data.is, c.seen_at-r.ensures) (sym (end_step says a.g.layout.«data» a.o.0 a.age q.i)))
+
+pub returns : goal.returns
+returns c =
+    let e : c.loop-i.i ≡ c.args.pages = omega arith in
+    rw e at c.loop-i.invariant.1
