@@ -5,6 +5,7 @@ use borrow.Author.Rules.{rules}
 use borrow.Author.Tests.{not-true, not-false, le-leb, lt-leb}
 use Rattle.page.proofs.Lengths.{page_within}
 use Rattle.capi.proofs.answer.place_of.Goals as goal
+use Rattle.capi.proofs.answer.place_of.Goals.{After-page_len}
 
 pub returns-then-not-holds : goal.returns-then-not-holds
 returns-then-not-holds c = rw (← c.holds.ensures, c.if-not-holds.true)
@@ -13,10 +14,10 @@ pub returns-then-g-valid : goal.returns-then-g-valid
 returns-then-g-valid c = rw (← c.holds.ensures, c.if-not-holds.false, lt-leb _ _ c.if-g-valid.true)
 
 -- the page ends within the dump
-within : (c : goal.After-page_len) → let a = c.args in a.p.0 * c.page_len.result + c.page_len.result ≤ a.len
+within : (c : After-page_len) → let a = c.args in a.p.0 * c.page_len.result + c.page_len.result ≤ a.len
 within c =
     let a = c.args in
-    rw c.page_len.ensures.value (page_within a.g a.len a.p.0 (rw (← c.holds.ensures) (not-false c.holds.result c.if-not-holds.false))).ends
+    rw c.page_len.ensures.value (page_within a.g a.len a.p.0 (rw (← c.holds.ensures) c.if-not-holds.false)).ends
 
 pub overflow_mul-result : goal.overflow_mul-result
 overflow_mul-result c = omega (arith, within c)

@@ -9,9 +9,10 @@ use Rattle.page.proofs.Sound.{text_fits}
 use Rattle.page.proofs.Texts.{headed_in}
 use Rattle.capi.specs.Headers.{text_answer}
 use Rattle.capi.proofs.text.text_answer.Goals as goal
+use Rattle.capi.proofs.text.text_answer.Goals.{After-page_len}
 
 -- the page ends within the dump
-page-place : (c : goal.After-page_len) → let a = c.args in
+page-place : (c : After-page_len) → let a = c.args in
     a.page * c.page_len.result + c.page_len.result ≤ length a.dump.now
 page-place c =
     let a = c.args in

@@ -12,12 +12,13 @@ use Rattle.page.proofs.Lengths.{page_within}
 use Rattle.page.proofs.Pages.{page_front}
 use Rattle.chunk.specs.Answers.{valid_part}
 use Rattle.chunk.proofs.read.valid_part.Goals as goal
+use Rattle.chunk.proofs.read.valid_part.Goals.{After-page_len}
 
 -- the part ends within the dump
-within : (c : goal.After-page_len) → let a = c.args in
+within : (c : After-page_len) → let a = c.args in
     a.p.0 * c.page_len.result + a.valid ≤ length a.dump.now
 within c =
-    let lies : let a = c.args in page_in a.g (length a.dump.now) a.p.0 ≡ true = rw (← c.holds.ensures) (not-false c.holds.result c.if-not-holds.false) in
+    let lies : let a = c.args in page_in a.g (length a.dump.now) a.p.0 ≡ true = rw (← c.holds.ensures) c.if-not-holds.false in
     let a = c.args in
     let w = rw (← c.page_len.ensures.value) at (page_within a.g (length a.dump.now) a.p.0 lies).ends in
     omega (arith, c.page_len.ensures.value, c.if-g-valid.false)

@@ -4,8 +4,9 @@ use native.Mathlib.Omega.{arith}
 use borrow.Author.Rules.{rules}
 use Rattle.page.proofs.Layouts.{product_le}
 use Rattle.chunk.proofs.record.base_of.Goals as goal
+use Rattle.chunk.proofs.record.base_of.Goals.{After-chunks_before}
 
-bounded : (c : goal.After-chunks_before) → c.chunks_before.result * c.args.«data» ≤ 4294967295 * 4294967295
+bounded : (c : After-chunks_before) → c.chunks_before.result * c.args.«data» ≤ 4294967295 * 4294967295
 bounded c = product_le {m = 4294967295} {n = 4294967295} (omega arith) (omega arith)
 
 pub overflow_mul-result : goal.overflow_mul-result

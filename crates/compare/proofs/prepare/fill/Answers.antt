@@ -7,9 +7,10 @@ use lib.ListN.{length, take, replicate}
 use lib.Seq.{length-take-le}
 use Rattle.sort.proofs.Clearing.{cleared_all}
 use Rattle.compare.proofs.prepare.fill.Goals as goal
+use Rattle.compare.proofs.prepare.fill.Goals.{After-fill_order-arg-1}
 
 -- the front of the last slice has a word for each record
-front : (s : goal.After-fill_order-arg-1) → let a = s.args in
+front : (s : After-fill_order-arg-1) → let a = s.args in
     length (take (length a.order.now) a.work.now) ≡ length a.order.now
 front s = length-take-le _ s.args.work.now (omega (arith, s.requires.order_len, s.requires.work_len))
 

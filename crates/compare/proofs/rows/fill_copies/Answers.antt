@@ -8,13 +8,14 @@ use Rattle.page.specs.Records.{record_at}
 use Rattle.compare.specs.Rows.{copies_in}
 use Rattle.compare.proofs.Filling.{part_length, Filling, Turn, fill_start, turn_at, fill_end}
 use Rattle.compare.proofs.rows.fill_copies.Goals as goal
+use Rattle.compare.proofs.rows.fill_copies.Goals.{After-run_of}
 
 pub loop-i-init : goal.loop-i-init
 loop-i-init c =
     let a = c.args in
     (refl, fill_start a.g a.dump.now a.pages a.g.layout.«data» c.requires.dump_value a.order.now c.requires.order_value a.copies.now c.requires.copies_len)
 
-turn : (k : goal.After-run_of) → let q = k.loop-i in
+turn : (k : After-run_of) → let q = k.loop-i in
     let a = k.args in
     Turn a.g a.dump.now a.pages a.g.layout.«data» a.order.now q.copies q.i k.run_of.result
 turn k =

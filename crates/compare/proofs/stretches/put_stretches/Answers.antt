@@ -8,6 +8,7 @@ use Rattle.compare.specs.Report.{lines_of}
 use Rattle.compare.proofs.PassedLines.{lines_none}
 use Rattle.compare.proofs.Stretching.{begins_below, stands_first, stands_at_lem, stands_on, turn, Sofar}
 use Rattle.compare.proofs.stretches.put_stretches.Goals as goal
+use Rattle.compare.proofs.stretches.put_stretches.Goals.{In-loop-k}
 
 pub loop-k-init : goal.loop-k-init
 loop-k-init c =
@@ -19,7 +20,7 @@ loop-k-init c =
     }
 
 -- the stretch of a turn begins below the size
-below : (c : goal.In-loop-k) → let a = c.args in stretch_bytes * c.loop-k.k < a.m
+below : (c : In-loop-k) → let a = c.args in stretch_bytes * c.loop-k.k < a.m
 below c = begins_below c.loop-k.k c.stretches_in-end.result _ c.stretches_in-end.ensures c.loop-k-test.true
 
 pub standing_from-i-requires : goal.standing_from-i-requires

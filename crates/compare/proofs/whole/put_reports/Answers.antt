@@ -5,11 +5,12 @@ use lib.ListN.{length}
 use Rattle.text.proofs.Putting.{kept}
 use Rattle.compare.proofs.Listing.{Underway, under_start, under_end, turn_by, turn_few, turn_onward}
 use Rattle.compare.proofs.whole.put_reports.Goals as goal
+use Rattle.compare.proofs.whole.put_reports.Goals.{After-struct_known-1}
 
 pub loop-i-init : goal.loop-i-init
 loop-i-init c = under_start _ _ _ _ _ _ _ _ _ _ (omega (arith, c.well-formed.1.1.1.1.1.1.1.1.0)) (omega (arith, c.ranges))
 
-there : (n : goal.After-struct_known-1) → (n.loop-i.i + n.next_from-t.result.first ≤ length n.args.order.now)
+there : (n : After-struct_known-1) → (n.loop-i.i + n.next_from-t.result.first ≤ length n.args.order.now)
     × (n.loop-i.j + n.next_from-t.result.second ≤ length n.args.order2.now)
 there n = turn_few _ _ _ _ _ _ _ _ n.loop-i.inv n.next_from-t.result n.next_from-t.ensures
 

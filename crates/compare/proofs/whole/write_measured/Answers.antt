@@ -4,9 +4,10 @@ use native.Mathlib.Omega.{arith}
 use borrow.Author.Rules.{rules}
 use Rattle.compare.proofs.Lining.{written_nothing, written_short, written_both}
 use Rattle.compare.proofs.whole.write_measured.Goals as goal
+use Rattle.compare.proofs.whole.write_measured.Goals.{After-slice_known-2-1}
 
 -- an object's number is a word
-small : (n : goal.After-slice_known-2-1) → n.args.o.0 < 4294967296
+small : (n : After-slice_known-2-1) → n.args.o.0 < 4294967296
 small n = omega (arith, n.good.0)
 
 pub returns-then-need-line : goal.returns-then-need-line

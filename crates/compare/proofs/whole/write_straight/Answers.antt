@@ -5,9 +5,10 @@ use native.Mathlib.Omega.{arith}
 use borrow.Author.Rules.{rules}
 use Rattle.compare.proofs.Lining.{straight_nothing, straight_both}
 use Rattle.compare.proofs.whole.write_straight.Goals as goal
+use Rattle.compare.proofs.whole.write_straight.Goals.{After-put_differences-arg-1}
 
 -- an object's number is a word
-small : (n : goal.After-put_differences-arg-1) → n.args.o.0 < 4294967296
+small : (n : After-put_differences-arg-1) → n.args.o.0 < 4294967296
 small n = omega (arith, n.good.0)
 
 pub returns-then-next-line : goal.returns-then-next-line

@@ -20,18 +20,19 @@ use Rattle.file.proofs.Listing.{along_gathered}
 use Rattle.file.proofs.Putting.{put_zero}
 use Rattle.file.proofs.Shown.{met_some}
 use Rattle.file.proofs.along.lay_along.Goals as goal
+use Rattle.file.proofs.along.lay_along.Goals.{After-slice_known-2-1, After-gather-arg-1}
 
-all : (w : goal.After-slice_known-2-1) → length (let a = w.args in met (record_at a.g a.dump.now) a.g.layout.«data» w.chunks_in-chunks.result a.size true Nowhere (from_list (map value_of a.list.now))) ≡ w.walk_along-n.result
+all : (w : After-slice_known-2-1) → length (let a = w.args in met (record_at a.g a.dump.now) a.g.layout.«data» w.chunks_in-chunks.result a.size true Nowhere (from_list (map value_of a.list.now))) ≡ w.walk_along-n.result
 all w = sym w.walk_along-n.ensures.value
 
-few : (w : goal.After-slice_known-2-1) → w.walk_along-n.result < word_values
+few : (w : After-slice_known-2-1) → w.walk_along-n.result < word_values
 few w = omega (arith, w.walk_along-n.ensures.upper_bound, w.pre.1.0)
 
-room : (w : goal.After-slice_known-2-1) → room_for w.walk_along-n.result ≤ length w.args.rows.now
+room : (w : After-slice_known-2-1) → room_for w.walk_along-n.result ≤ length w.args.rows.now
 room w = omega (arith, w.walk_along-n.ensures.upper_bound, w.pre.1.1)
 
 -- it leaves the words
-same : (w : goal.After-slice_known-2-1) → w.walk_along-n.last.1.1.1.1.1.1.1.0 ≡ w.args.rows.now
+same : (w : After-slice_known-2-1) → w.walk_along-n.last.1.1.1.1.1.1.1.0 ≡ w.args.rows.now
 same w = w.walk_along-n.ensures.rows_after ∙ put_zero _ _ _
 
 pub walk_along-n-requires : goal.walk_along-n-requires
@@ -44,7 +45,7 @@ walk_along-requires c =
     let p = c.requires in
     record { dump_value = p.0; list_len_bound = p.1.0; chunks_lt_chunk_values = omega (arith, c.chunks_in-chunks.ensures.upper_bound); n_in_bounds = omega (arith, room (goal.at.walk_along-requires c).After-slice_known-2-1, ap length (same (goal.at.walk_along-requires c).After-slice_known-2-1)) }
 
-is_sorted : (k : goal.After-gather-arg-1) → k.sort.last.0 ≡ sorted_with k.args.rows.now k.walk_along-n.result (let a = k.args in met (record_at a.g a.dump.now) a.g.layout.«data» k.chunks_in-chunks.result a.size true Nowhere (from_list (map value_of a.list.now)))
+is_sorted : (k : After-gather-arg-1) → k.sort.last.0 ≡ sorted_with k.args.rows.now k.walk_along-n.result (let a = k.args in met (record_at a.g a.dump.now) a.g.layout.«data» k.chunks_in-chunks.result a.size true Nowhere (from_list (map value_of a.list.now)))
 is_sorted k =
     let same : k.walk_along-n.last.1.1.1.1.1.1.1.0 ≡ k.args.rows.now = k.walk_along-n.ensures.rows_after ∙ put_zero _ _ _ in
     k.sort.ensures

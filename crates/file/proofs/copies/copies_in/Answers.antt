@@ -16,14 +16,15 @@ use Rattle.file.proofs.Chunks.{data_some}
 use Rattle.file.proofs.Putting.{put_zero}
 use Rattle.file.proofs.Copying.{opened_data, copies_short, copies_rows, copies_filled}
 use Rattle.file.proofs.copies.copies_in.Goals as goal
+use Rattle.file.proofs.copies.copies_in.Goals.{In-Size, After-struct_known-1}
 
-given-size : (g : goal.In-Size) → (let a = g.args in size_from a.g a.dump.now a.cells.now a.o.0 ≡ sized.Size g.in-Size.bytes g.in-Size.field-1)
+given-size : (g : In-Size) → (let a = g.args in size_from a.g a.dump.now a.cells.now a.o.0 ≡ sized.Size g.in-Size.bytes g.in-Size.field-1)
 given-size g = sym g.size-s.ensures ∙ g.in-Size.is
 
 pub walk-w-requires : goal.walk-w-requires
 walk-w-requires c = let c = c in record { pages_lt_page_values = opened_pages _ _ _ c.requires; pages_in_bounds = (is_sized _ _ _ _ _ _ _ c.requires (given-size (goal.at.walk-w-requires c).In-Size)).room; chunks_lt_chunk_values = omega (arith, c.chunks_in-chunks.ensures.upper_bound); data_bound = opened_data _ _ _ c.requires; n_in_bounds = omega arith }
 
-same : (w : goal.After-struct_known-1) → w.walk-w.last.1.1.1.1.1.1.1.1.1.0 ≡ w.args.rows.now
+same : (w : After-struct_known-1) → w.walk-w.last.1.1.1.1.1.1.1.1.1.0 ≡ w.args.rows.now
 same w = w.walk-w.ensures.rows_after ∙ put_zero _ _ _
 
 pub returns-then-rows-room : goal.returns-then-rows-room
@@ -33,7 +34,7 @@ returns-then-rows-room c =
           _ c.room_for-room.ensures (omega (arith, c.if-rows-room.true, ap length (same (goal.at.returns-then-rows-room c).After-struct_known-1))); rows_after = same (goal.at.returns-then-rows-room c).After-struct_known-1 }
 
 -- they are no more than the pages
-few : (w : goal.After-struct_known-1) → w.walk-w.result.copies < page_values
+few : (w : After-struct_known-1) → w.walk-w.result.copies < page_values
 few w = omega (arith, w.walk-w.ensures.copies_le_pages, opened_pages _ _ _ w.pre)
 
 pub fill-m-requires : goal.fill-m-requires

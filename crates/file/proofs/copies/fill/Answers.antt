@@ -17,19 +17,20 @@ use Rattle.file.specs.declared.copy.Copy.{Copy}
 use Rattle.file.proofs.Arranged.{sorted_with, sorted_length, sorted_below, sorted_filled}
 use Rattle.file.proofs.Shown.{met_shown, met_some}
 use Rattle.file.proofs.copies.fill.Goals as goal
+use Rattle.file.proofs.copies.fill.Goals.{After-gather-arg-1}
 
 pub walk-requires : goal.walk-requires
 walk-requires c = let p = c.requires in record { pages_lt_page_values = p.0; pages_in_bounds = p.1.0; chunks_lt_chunk_values = p.1.1.0; data_bound = p.1.1.1.0; n_in_bounds = p.1.1.1.1.0 }
 
-all : (k : goal.After-gather-arg-1) → length (let a = k.args in let says = record_at a.g a.dump.now in met says a.g.layout.«data» a.chunks a.size true Nowhere (under says a.pages a.cells.now a.o.0 top a.first)) ≡ k.args.n
+all : (k : After-gather-arg-1) → length (let a = k.args in let says = record_at a.g a.dump.now in met says a.g.layout.«data» a.chunks a.size true Nowhere (under says a.pages a.cells.now a.o.0 top a.first)) ≡ k.args.n
 all k = sym k.pre.1.1.1.1.1
 
-few : (k : goal.After-gather-arg-1) → k.args.n < word_values
+few : (k : After-gather-arg-1) → k.args.n < word_values
 few k =
     let all : length (let a = k.args in let says = record_at a.g a.dump.now in met says a.g.layout.«data» a.chunks a.size true Nowhere (under says a.pages a.cells.now a.o.0 top a.first)) ≡ k.args.n = sym k.pre.1.1.1.1.1 in
     omega (arith, all, k.walk.ensures.0, k.walk.ensures.1.1.0, k.pre.0)
 
-is_sorted : (k : goal.After-gather-arg-1) → k.sort.last.0 ≡ sorted_with k.args.rows.now k.args.n (let a = k.args in let says = record_at a.g a.dump.now in met says a.g.layout.«data» a.chunks a.size true Nowhere (under says a.pages a.cells.now a.o.0 top a.first))
+is_sorted : (k : After-gather-arg-1) → k.sort.last.0 ≡ sorted_with k.args.rows.now k.args.n (let a = k.args in let says = record_at a.g a.dump.now in met says a.g.layout.«data» a.chunks a.size true Nowhere (under says a.pages a.cells.now a.o.0 top a.first))
 is_sorted k = k.sort.ensures ∙ ap (λ (r : List ℕ). arranged (take k.args.n r) ++ drop k.args.n r) k.walk.ensures.1.1.1
 
 pub gather-requires : goal.gather-requires

@@ -11,6 +11,7 @@ use Rattle.index.proofs.Chain.Links.{Meets, stepped, role_data, role_header}
 use Rattle.index.proofs.Chain.Turns.{count_on, few}
 use Rattle.file.proofs.Meeting.{Underway, under_start, under_header, under_data, under_clean, under_broken}
 use Rattle.file.proofs.copies.walk.Goals as goal
+use Rattle.file.proofs.copies.walk.Goals.{In-Record}
 
 pub loop-q-init : goal.loop-q-init
 loop-q-init c =
@@ -32,7 +33,7 @@ returns-in-Damaged c =
     let d = under_broken _ _ _ _ _ _ _ _ _ _ _ _ _ q.invariant e in
     record { copies_value = d.0; broken_value = d.2; copies_le_pages = omega (arith, q.invariant.few); rows_after = d.1 }
 
-here : (c : goal.In-Record) → (let q = c.loop in let a = c.args in Meets (record_at a.g a.dump.now) a.pages a.o.0 a.cells.now q.bound q.link c.in-Record.q c.in-Record.age c.in-Record.role)
+here : (c : In-Record) → (let q = c.loop in let a = c.args in Meets (record_at a.g a.dump.now) a.pages a.o.0 a.cells.now q.bound q.link c.in-Record.q c.in-Record.age c.in-Record.role)
 here c = stepped _ _ _ _ _ _ (Record _ _ _) (sym c.in-Record.is ∙ c.follow-step.ensures)
 
 pub offset_bounds-cells-i : goal.offset_bounds-cells-i

@@ -15,11 +15,12 @@ use Rattle.index.proofs.Walk.Ahead.{ahead_end, ahead_broken}
 use Rattle.file.specs.Table.{words_of, all_ahead}
 use Rattle.file.proofs.Rows.{Row, free, noted_length, noted_rest, header_row, noted_row, row_end_lem, row_broken, clear_length, clear_rest, cleared, table_is}
 use Rattle.file.proofs.table.fill.Goals as goal
+use Rattle.file.proofs.table.fill.Goals.{After-slice_known-2-1, At-loop-table, In-Record}
 
-front : (k : goal.After-slice_known-2-1) → (let t = k.args.table.now in let n = words_of k.args.count in k.clear.last.0 ≡ replicate (min n (length t)) 0 ++ drop (min n (length t)) t)
+front : (k : After-slice_known-2-1) → (let t = k.args.table.now in let n = words_of k.args.count in k.clear.last.0 ≡ replicate (min n (length t)) 0 ++ drop (min n (length t)) t)
 front k = rw (← k.words_of.ensures) k.clear.ensures
 
-same_length : (k : goal.After-slice_known-2-1) → length k.clear.last.0 ≡ length k.args.table.now
+same_length : (k : After-slice_known-2-1) → length k.clear.last.0 ≡ length k.args.table.now
 same_length k =
     let front : (let t = k.args.table.now in let n = words_of k.args.count in k.clear.last.0 ≡ replicate (min n (length t)) 0 ++ drop (min n (length t)) t) = rw (← k.words_of.ensures) k.clear.ensures in
     clear_length k.args.table.now k.clear.last.0 k.args.count k.pre.1.1 front
@@ -27,12 +28,12 @@ same_length k =
 pub loop-table-init : goal.loop-table-init
 loop-table-init c = (refl, refl, λ x h i. free (cleared c.args.table.now c.clear.last.0 c.args.count c.requires.1.1 (front c) x h i) refl)
 
-room : (q : goal.At-loop-table) → (Room q) q.loop-table.table
+room : (q : At-loop-table) → (Room q) q.loop-table.table
 room q =
     let same_length : length q.clear.last.0 ≡ length q.args.table.now = let front : (let t = q.args.table.now in let n = words_of q.args.count in q.clear.last.0 ≡ replicate (min n (length t)) 0 ++ drop (min n (length t)) t) = rw (← q.words_of.ensures) q.clear.ensures in clear_length q.args.table.now q.clear.last.0 q.args.count q.pre.1.1 front in
     omega (arith, q.loop-table.inv.0, same_length, q.pre.1.1)
 
-rest : (q : goal.At-loop-table) → (Rest q) q.loop-table.table
+rest : (q : At-loop-table) → (Rest q) q.loop-table.table
 rest q =
     let same_rest : drop (words_of q.args.count) q.clear.last.0 ≡ drop (words_of q.args.count) q.args.table.now = let front : (let t = q.args.table.now in let n = words_of q.args.count in q.clear.last.0 ≡ replicate (min n (length t)) 0 ++ drop (min n (length t)) t) = rw (← q.words_of.ensures) q.clear.ensures in clear_rest q.args.table.now q.clear.last.0 q.args.count q.pre.1.1 front in
     q.loop-table.inv.1 ∙ same_rest
@@ -52,7 +53,7 @@ returns-in-Damaged c =
 pub shape_of-table-in-Damaged : goal.shape_of-table-in-Damaged
 shape_of-table-in-Damaged c = c.mark_damaged.ensures.long ∙ c.loop-table.invariant.0 ∙ same_length (goal.at.shape_of-table-in-Damaged c).After-slice_known-2-1
 
-here : (c : goal.In-Record) → (let q = c.loop in let a = c.args in Meets (record_at a.g a.dump.now) a.pages a.o.0 a.cells.now q.bound q.link c.in-Record.q c.in-Record.age c.in-Record.role)
+here : (c : In-Record) → (let q = c.loop in let a = c.args in Meets (record_at a.g a.dump.now) a.pages a.o.0 a.cells.now q.bound q.link c.in-Record.q c.in-Record.age c.in-Record.role)
 here c = stepped _ _ _ _ _ _ (Record _ _ _) (sym c.in-Record.is ∙ c.follow-step.ensures)
 
 pub offset_bounds-cells-i : goal.offset_bounds-cells-i

@@ -6,8 +6,9 @@ use borrow.Author.Rules.{rules}
 use Rattle.file.specs.Table.{Closed}
 use Rattle.file.proofs.Rows.{closed_none, closed_more}
 use Rattle.file.proofs.table.mark_damaged.Goals as goal
+use Rattle.file.proofs.table.mark_damaged.Goals.{After-words_of-i}
 
-within : (w : goal.After-words_of-i) → (w.words_of-i.result + 1 < length w.args.table.now)
+within : (w : After-words_of-i) → (w.words_of-i.result + 1 < length w.args.table.now)
 within w = omega (arith, w.words_of-i.ensures, w.loop-r-test.true, w.requires)
 
 pub loop-r-preserved : goal.loop-r-preserved

@@ -10,17 +10,18 @@ use Rattle.file.specs.Shows.{is_met}
 use Rattle.file.specs.Table.{noted}
 use Rattle.file.proofs.IsMet.{met_in_lem}
 use Rattle.file.proofs.table.note.Goals as goal
+use Rattle.file.proofs.table.note.Goals.{After-struct_known-1, After-words_of-i}
 
 pub returns-then-not-is_met : goal.returns-then-not-is_met
 unfolding noted
 returns-then-not-is_met c = rw (← c.is_met.ensures, c.if-not-is_met.true)
 
-is_met_lem : (f : goal.After-struct_known-1) → (let a = f.args in is_met a.«data» a.count a.cut a.d.chunk.0 ≡ true)
-is_met_lem f = sym f.is_met.ensures ∙ not-false f.is_met.result f.if-not-is_met.left
+is_met_lem : (f : After-struct_known-1) → (let a = f.args in is_met a.«data» a.count a.cut a.d.chunk.0 ≡ true)
+is_met_lem f = sym f.is_met.ensures ∙ f.if-not-is_met.left
 
-within : (w : goal.After-words_of-i) → (w.words_of-i.result + 1 < length w.args.table.now)
+within : (w : After-words_of-i) → (w.words_of-i.result + 1 < length w.args.table.now)
 within w =
-    let is_met_lem : (let a = w.args in is_met a.«data» a.count a.cut a.d.chunk.0 ≡ true) = sym w.is_met.ensures ∙ not-false w.is_met.result w.if-not-is_met.left in
+    let is_met_lem : (let a = w.args in is_met a.«data» a.count a.cut a.d.chunk.0 ≡ true) = sym w.is_met.ensures ∙ w.if-not-is_met.left in
     let a = w.args in
     let i = met_in_lem a.«data» a.count a.cut a.d.chunk.0 is_met_lem in
     omega (arith, w.words_of-i.ensures, i.0, i.1, w.requires.0)

@@ -9,8 +9,9 @@ use Rattle.index.proofs.Walk.Ahead.{is_sized}
 use Rattle.file.specs.Table.{table_from, table_by, filled_by}
 use Rattle.file.proofs.Chunks.{data_some, table_short, table_rows, table_filled}
 use Rattle.file.proofs.table.table_in.Goals as goal
+use Rattle.file.proofs.table.table_in.Goals.{In-Size}
 
-given-size : (g : goal.In-Size) → (let a = g.args in size_from a.g a.dump.now a.cells.now a.o.0 ≡ sized.Size g.in-Size.bytes g.in-Size.field-1)
+given-size : (g : In-Size) → (let a = g.args in size_from a.g a.dump.now a.cells.now a.o.0 ≡ sized.Size g.in-Size.bytes g.in-Size.field-1)
 given-size g = sym g.size-s.ensures ∙ g.in-Size.is
 
 pub returns-then-table-words : goal.returns-then-table-words

@@ -16,6 +16,7 @@ use Rattle.index.specs.Places.{Recorded}
 use Rattle.index.proofs.Held.Cases.{add_short, add_far, add_other_lem, add_record_lem}
 use Rattle.index.proofs.Walk.Walks.{other_none}
 use Rattle.index.proofs.additions.add_page.Goals as goal
+use Rattle.index.proofs.additions.add_page.Goals.{After-add_record-arg-in_default-1, After-add_record-arg-3-1}
 
 pub returns-then-cells-cells_for : goal.returns-then-cells-cells_for
 returns-then-cells-cells_for c = sym (add_short _ _ _ _ _ (rw c.cells_for.ensures at c.if-cells-cells_for.true))
@@ -29,18 +30,18 @@ returns-in_default-r c =
     c.add_other.ensures
     ∙ sym (add_other_lem _ _ _ _ _ (rw c.cells_for.ensures at c.if-cells-cells_for.false) c.if-pages-p.false (rw c.record_at-r.ensures at none))
 
-is-data : (g : goal.After-add_record-arg-in_default-1) → record_at g.args.g g.args.dump.now g.args.p.0 ≡ Data g.in-Data.d
+is-data : (g : After-add_record-arg-in_default-1) → record_at g.args.g g.args.dump.now g.args.p.0 ≡ Data g.in-Data.d
 is-data g = sym g.record_at_lem.ensures ∙ g.in-Data.is
 
-data_some : (g : goal.After-add_record-arg-in_default-1) → 0 < g.in-Data.d.object.0
+data_some : (g : After-add_record-arg-in_default-1) → 0 < g.in-Data.d.object.0
 data_some g =
     let is-data : record_at g.args.g g.args.dump.now g.args.p.0 ≡ Data g.in-Data.d = sym g.record_at_lem.ensures ∙ g.in-Data.is in
     (data_within _ _ _ _ is-data).object.least
 
-is-header : (g : goal.After-add_record-arg-3-1) → record_at g.args.g g.args.dump.now g.args.p.0 ≡ Header g.in-Header.h
+is-header : (g : After-add_record-arg-3-1) → record_at g.args.g g.args.dump.now g.args.p.0 ≡ Header g.in-Header.h
 is-header g = sym g.record_at_lem.ensures ∙ g.in-Header.is
 
-header-some : (g : goal.After-add_record-arg-3-1) → 0 < g.in-Header.h.object.0
+header-some : (g : After-add_record-arg-3-1) → 0 < g.in-Header.h.object.0
 header-some g =
     let is-header : record_at g.args.g g.args.dump.now g.args.p.0 ≡ Header g.in-Header.h = sym g.record_at_lem.ensures ∙ g.in-Header.is in
     (header_within _ _ _ _ is-header).object.least

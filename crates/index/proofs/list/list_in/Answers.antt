@@ -10,16 +10,17 @@ use Rattle.chunk.proofs.Cases.{words_kept, words_listed}
 use Rattle.index.specs.Cells.{cells_for}
 use Rattle.index.proofs.Answer.Listings.{Counted, list_short, list_refused, list_counted}
 use Rattle.index.proofs.list.list_in.Goals as goal
+use Rattle.index.proofs.list.list_in.Goals.{Else-cells-cells_for, In-Count}
 
 pub returns-then-cells-cells_for : goal.returns-then-cells-cells_for
 returns-then-cells-cells_for c = record { value = sym (list_short _ _ _ _ _ (omega (arith, c.if-cells-cells_for.true, c.cells_for.ensures))); words_after = rw words_kept }
 
 -- there are enough words
-enough : (c : goal.Else-cells-cells_for) → let a = c.args in cells_for a.pages ≤ length a.cells.now
+enough : (c : Else-cells-cells_for) → let a = c.args in cells_for a.pages ≤ length a.cells.now
 enough c = omega (arith, c.if-cells-cells_for.false, c.cells_for.ensures)
 
 -- what is known where the tally counted
-counted : (c : goal.In-Count) → let a = c.args in
+counted : (c : In-Count) → let a = c.args in
     Counted (record_at a.g a.dump.now) a.g.layout.«data» a.cells.now a.pages (length a.words.now) c.in-Count.need
 counted c =
     let enough : let a = c.args in cells_for a.pages ≤ length a.cells.now = omega (arith, c.if-cells-cells_for.false, c.cells_for.ensures) in

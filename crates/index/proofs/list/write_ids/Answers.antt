@@ -11,19 +11,20 @@ use Rattle.index.specs.declared.list.Ask.TheVariants.{Live}
 use Rattle.index.proofs.Slot.Words.{slot_in, slots_pages}
 use Rattle.index.proofs.Answer.Listings.{at_free, else_asked}
 use Rattle.index.proofs.list.write_ids.Goals as goal
+use Rattle.index.proofs.list.write_ids.Goals.{In-loop-s}
 
 pub loop-s-init : goal.loop-s-init
 loop-s-init c = (search rules, listed_none _ _ _)
 
-inside : (t : goal.In-loop-s) → t.loop-s.s < slots_for t.args.pages
+inside : (t : In-loop-s) → t.loop-s.s < slots_for t.args.pages
 inside t = omega (arith, t.loop-s-test.taken, t.slots_for-slots.ensures)
 
-in_table : (t : goal.In-loop-s) → InTable t.args.cells.now t.loop-s.s
+in_table : (t : In-loop-s) → InTable t.args.cells.now t.loop-s.s
 in_table t =
     let inside : t.loop-s.s < slots_for t.args.pages = omega (arith, t.loop-s-test.taken, t.slots_for-slots.ensures) in
     slot_in t.args.pages t.loop-s.s inside t.args.cells.now (omega (arith, t.fits.pages)) t.pre.0
 
-some-pages : (t : goal.In-loop-s) → 0 < t.args.pages
+some-pages : (t : In-loop-s) → 0 < t.args.pages
 some-pages t =
     let inside : t.loop-s.s < slots_for t.args.pages = omega (arith, t.loop-s-test.taken, t.slots_for-slots.ensures) in
     slots_pages t.args.pages t.loop-s.s inside

@@ -16,9 +16,10 @@ use Rattle.index.specs.Walks.{size_at, copy_from, chunk_file, chunk_reached, bel
 use Rattle.index.specs.declared.walks.Reached.TheVariants.{Header}
 use Rattle.index.proofs.Chain.Turns.{chunk_live}
 use Rattle.index.proofs.lookups.chunk_file.Goals as goal
+use Rattle.index.proofs.lookups.chunk_file.Goals.{After-larger-size}
 
 -- the file is live, and its size is known
-live : (c : goal.After-larger-size) → let a = c.args in
+live : (c : After-larger-size) → let a = c.args in
     chunk_reached (record_at c.args.g c.args.dump.now) a.g.layout.«data» a.c.0 (below (record_at c.args.g c.args.dump.now) c.args.pages c.args.cells.now c.args.o.0 c.args.h.0) (Header a.h a.end a.met a.visits)
     ≡ pick (leb c.larger-size.result (base_of a.g.layout.«data» a.c.0)) (Refused PastEnd a.visits 0)
     (copy_from (record_at c.args.g c.args.dump.now) a.g.layout.«data» a.c.0 a.h.0 (shown_of a.g.layout.«data» a.c.0 c.larger-size.result) a.visits (below (record_at c.args.g c.args.dump.now) c.args.pages c.args.cells.now c.args.o.0 c.args.h.0) a.met)

@@ -14,6 +14,7 @@ use Rattle.index.specs.declared.walks.Met.TheVariants.{Nothing}
 use Rattle.index.proofs.Chain.Links.{Meets, stepped, role_data, role_header}
 use Rattle.index.proofs.Chain.Turns.{reach_nothing, reach_headless, reach_broken, reach_here, reach_on, count_on, few}
 use Rattle.index.proofs.lookups.size_walk.Goals as goal
+use Rattle.index.proofs.lookups.size_walk.Goals.{In-Record}
 
 pub loop-q-init : goal.loop-q-init
 unfolding size_walk
@@ -43,7 +44,7 @@ returns-in-Damaged c =
     let k = stepped _ _ _ _ _ _ Damaged (sym c.in-Damaged.is ∙ c.follow-step.ensures) in
     sym (q.invariant.1 ∙ ap (size_reached _) (reach_broken _ _ _ _ _ _ _ k))
 
-here : (c : goal.In-Record) → (let q = c.loop in let a = c.args in Meets (record_at a.g a.dump.now) a.pages a.o.0 a.cells.now q.bound q.link c.in-Record.q c.in-Record.age c.in-Record.role)
+here : (c : In-Record) → (let q = c.loop in let a = c.args in Meets (record_at a.g a.dump.now) a.pages a.o.0 a.cells.now q.bound q.link c.in-Record.q c.in-Record.age c.in-Record.role)
 here c = stepped _ _ _ _ _ _ (Record _ _ _) (sym c.in-Record.is ∙ c.follow-step.ensures)
 
 pub overflow_add-visits : goal.overflow_add-visits

@@ -9,9 +9,10 @@ use Rattle.index.proofs.Slot.Words.{key_room}
 use Rattle.index.proofs.Slot.Search.{first_in_own, first_in_none}
 use Rattle.index.proofs.Chain.Place.{place_end}
 use Rattle.index.proofs.places.place_of.Goals as goal
+use Rattle.index.proofs.places.place_of.Goals.{After-first_at-from}
 
 -- the first link stands in the cells
-first-room : (f : goal.After-first_at-from) → let a = f.args in f.first_at-from.result < length a.cells.now
+first-room : (f : After-first_at-from) → let a = f.args in f.first_at-from.result < length a.cells.now
 first-room f = omega (arith, f.first_at-from.ensures.value, f.requires.in_table.room)
 
 pub bounds-cells-i : goal.bounds-cells-i

@@ -18,6 +18,7 @@ use Rattle.index.specs.Recorded.{pages_of, tally_of, records_by, records_at}
 use Rattle.index.proofs.Slot.Search.{first_link_lem}
 use Rattle.index.proofs.Walk.Recorded.{pages_length, tally_counted, records_few, records_bad, records_tally, records_refused, records_none, records_short, records_fit}
 use Rattle.index.proofs.records.records_in.Goals as goal
+use Rattle.index.proofs.records.records_in.Goals.{In-Count-1}
 
 pub returns-then-cells-cells_for : goal.returns-then-cells-cells_for
 returns-then-cells-cells_for c = record { value = sym (records_few _ _ _ _ _ _ (omega (arith, c.if-cells-cells_for.true, c.cells_for.ensures))); words_after = rw words_kept }
@@ -25,14 +26,14 @@ returns-then-cells-cells_for c = record { value = sym (records_few _ _ _ _ _ _ (
 pub returns-then-is_bad : goal.returns-then-is_bad
 returns-then-is_bad c = record { value = sym (records_bad _ _ _ _ _ _ (omega (arith, c.if-cells-cells_for.false, c.cells_for.ensures)) (sym c.is_bad.ensures ∙ c.if-is_bad.true)); words_after = rw words_kept }
 
-chain-is : (t : goal.In-Count-1) → under (record_at t.args.g t.args.dump.now) t.args.pages t.args.cells.now t.args.o.0 top t.first-link.result ≡ (chain_of (record_at t.args.g t.args.dump.now) t.args.g.layout.«data» t.args.cells.now t.args.o.0 t.args.pages)
+chain-is : (t : In-Count-1) → under (record_at t.args.g t.args.dump.now) t.args.pages t.args.cells.now t.args.o.0 top t.first-link.result ≡ (chain_of (record_at t.args.g t.args.dump.now) t.args.g.layout.«data» t.args.cells.now t.args.o.0 t.args.pages)
 unfolding chain
 chain-is t =
     let enough : cells_for t.args.pages ≤ length t.args.cells.now = omega (arith, t.before.before.if1.left, t.before.before.before.cells-for.ensures) in
     ap (trace t.args.pages (objects (record_at t.args.g t.args.dump.now)) (age_of (record_at t.args.g t.args.dump.now)) t.args.cells.now t.args.o.0 top)
     (t.first-link.ensures ∙ first_link_lem t.args.pages t.args.cells.now t.args.o.0 t.pre enough)
 
-counted : (t : goal.In-Count-1) → (m : ℕ) → t.tally-tallied.result ≡ Count m → length (pages_of (chain_of (record_at t.args.g t.args.dump.now) t.args.g.layout.«data» t.args.cells.now t.args.o.0 t.args.pages)) ≡ m
+counted : (t : In-Count-1) → (m : ℕ) → t.tally-tallied.result ≡ Count m → length (pages_of (chain_of (record_at t.args.g t.args.dump.now) t.args.g.layout.«data» t.args.cells.now t.args.o.0 t.args.pages)) ≡ m
 unfolding chain
 counted t m k =
     let chain-is : under (record_at t.args.g t.args.dump.now) t.args.pages t.args.cells.now t.args.o.0 top t.first-link.result ≡ (chain_of (record_at t.args.g t.args.dump.now) t.args.g.layout.«data» t.args.cells.now t.args.o.0 t.args.pages) = let enough : cells_for t.args.pages ≤ length t.args.cells.now = omega (arith, t.before.before.if1.left, t.before.before.before.cells-for.ensures) in ap (trace t.args.pages (objects (record_at t.args.g t.args.dump.now)) (age_of (record_at t.args.g t.args.dump.now)) t.args.cells.now t.args.o.0 top) (t.first-link.ensures ∙ first_link_lem t.args.pages t.args.cells.now t.args.o.0 t.pre enough) in

@@ -12,6 +12,7 @@ use Rattle.index.proofs.Chain.Links.{Meets, stepped}
 use Rattle.index.proofs.Chain.Turns.{count_on, few}
 use Rattle.index.proofs.Walk.Recorded.{tally_from, tally_all, tally_end, tally_broken, tally_on}
 use Rattle.index.proofs.records.tally.Goals as goal
+use Rattle.index.proofs.records.tally.Goals.{In-Record}
 
 pub loop-q-init : goal.loop-q-init
 loop-q-init c =
@@ -31,7 +32,7 @@ returns-in-Damaged c =
     let k = stepped _ _ _ _ _ _ Damaged (sym c.in-Damaged.is ∙ c.follow-step.ensures) in
     sym (q.invariant.1 ∙ tally_broken _ _ k)
 
-here : (c : goal.In-Record) → (let q = c.loop in let a = c.args in Meets (record_at a.g a.dump.now) a.pages a.o.0 a.cells.now q.bound q.link c.in-Record.q c.in-Record.age c.in-Record.field-2)
+here : (c : In-Record) → (let q = c.loop in let a = c.args in Meets (record_at a.g a.dump.now) a.pages a.o.0 a.cells.now q.bound q.link c.in-Record.q c.in-Record.age c.in-Record.field-2)
 here c = stepped _ _ _ _ _ _ (Record _ _ _) (sym c.in-Record.is ∙ c.follow-step.ensures)
 
 pub overflow_add-count : goal.overflow_add-count

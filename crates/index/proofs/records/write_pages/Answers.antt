@@ -17,6 +17,7 @@ use Rattle.index.proofs.Chain.Links.{Meets, stepped}
 use Rattle.index.proofs.Chain.Turns.{few}
 use Rattle.index.proofs.Walk.Recorded.{pages_length, pages_end, pages_broken, pages_on, Next, next_of, all_taken}
 use Rattle.index.proofs.records.write_pages.Goals as goal
+use Rattle.index.proofs.records.write_pages.Goals.{In-Record}
 
 pub loop-q-init : goal.loop-q-init
 loop-q-init c = (refl, refl, refl)
@@ -34,16 +35,16 @@ returns-in-Damaged c =
     let k = stepped _ _ _ _ _ _ Damaged (sym c.in-Damaged.is ∙ c.follow-step.ensures) in
     q.invariant.2 ∙ ap (λ (L : List ℕ). in_front L c.args.words.now) (all_taken (pages_of (under (record_at c.args.g c.args.dump.now) c.args.pages c.args.cells.now c.args.o.0 top c.args.first)) q.count (q.invariant.1 ∙ pages_broken _ k))
 
-here : (c : goal.In-Record) → (let q = c.loop in let c c.args in Meets (record_at a.g a.dump.now) a.pages a.o.0 a.cells.now q.bound q.link c.in-Record.q c.in-Record.age c.in-Record.field-2)
+here : (c : In-Record) → (let q = c.loop in let c c.args in Meets (record_at a.g a.dump.now) a.pages a.o.0 a.cells.now q.bound q.link c.in-Record.q c.in-Record.age c.in-Record.field-2)
 here c = stepped _ _ _ _ _ _ (Record _ _ _) (sym c.in-Record.is ∙ c.follow-step.ensures)
 
-next : (c : goal.In-Record) → (link : ℕ) → link ≡ word c.args.cells.now (link_at c.in-Record.q.0) → Next (pages_of (under (record_at c.args.g c.args.dump.now) c.args.pages c.args.cells.now c.args.o.0 top c.args.first)) c.loop.count c.in-Record.q.0
+next : (c : In-Record) → (link : ℕ) → link ≡ word c.args.cells.now (link_at c.in-Record.q.0) → Next (pages_of (under (record_at c.args.g c.args.dump.now) c.args.pages c.args.cells.now c.args.o.0 top c.args.first)) c.loop.count c.in-Record.q.0
     (pages_of (under (record_at c.args.g c.args.dump.now) c.args.pages c.args.cells.now c.args.o.0 c.in-Record.age link))
 next c link e =
     let here : (let q = c.loop in let c c.args in Meets (record_at a.g a.dump.now) a.pages a.o.0 a.cells.now q.bound q.link c.in-Record.q c.in-Record.age c.in-Record.field-2) = stepped _ _ _ _ _ _ (Record _ _ _) (sym c.in-Record.is ∙ c.follow-step.ensures) in
     next_of (pages_of (under (record_at c.args.g c.args.dump.now) c.args.pages c.args.cells.now c.args.o.0 top c.args.first)) _ _ _ (c.loop.invariant.1 ∙ pages_on _ _ _ (here.onward link e))
 
-room : (c : goal.In-Record) → (c.loop.count < length c.args.words.now) × (c.loop.count < c.args.pages)
+room : (c : In-Record) → (c.loop.count < length c.args.words.now) × (c.loop.count < c.args.pages)
 room c =
     let says = record_at c.args.g c.args.dump.now in
     let inside = ((next c) _ refl).3 in (

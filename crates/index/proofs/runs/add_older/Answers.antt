@@ -14,13 +14,14 @@ use Rattle.index.specs.Chains.{objects}
 use Rattle.index.specs.Runs.{taken_by, run_by}
 use Rattle.index.proofs.Demand.Runs.{older_refused, older_short, older_far, older_room}
 use Rattle.index.proofs.runs.add_older.Goals as goal
+use Rattle.index.proofs.runs.add_older.Goals.{In-Pages}
 
 pub run_pages-requires : goal.run_pages-requires
 run_pages-requires c =
     let c c.args in
     omega (arith, opened_most a.g (length a.dump.now) _ (sym c.opened-o.ensures ∙ c.in-Pages.is))
 
-pages-are : (k : goal.In-Pages) → opened_of k.args.g (length k.args.dump.now) ≡ opened.Pages k.in-Pages.pages
+pages-are : (k : In-Pages) → opened_of k.args.g (length k.args.dump.now) ≡ opened.Pages k.in-Pages.pages
 pages-are k = sym k.opened-o.ensures ∙ k.in-Pages.is
 
 pub returns-then-cells-cells_for : goal.returns-then-cells-cells_for

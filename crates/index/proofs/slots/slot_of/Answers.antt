@@ -9,22 +9,23 @@ use Rattle.index.specs.declared.slots.Found.{Found}
 use Rattle.index.proofs.Slot.Words.{slot_in, slots_some}
 use Rattle.index.proofs.Slot.Search.{home_lt, slot_first, slot_second}
 use Rattle.index.proofs.slots.slot_of.Goals as goal
+use Rattle.index.proofs.slots.slot_of.Goals.{After-home_of-home}
 
 pub home_of-home-requires : goal.home_of-home-requires
 home_of-home-requires c = rw c.slots_for-slots.ensures (slots_some _ c.requires.pages_nonzero)
 
-home-is : (h : goal.After-home_of-home) → h.home_of-home.result ≡ home_of (slots_for h.args.pages) (seed_of h.args.cells.now) h.args.o.0
+home-is : (h : After-home_of-home) → h.home_of-home.result ≡ home_of (slots_for h.args.pages) (seed_of h.args.cells.now) h.args.o.0
 home-is h =
     h.home_of-home.ensures
     ∙ ap (λ (w : ℕ). home_of h.slots_for-slots.result w h.args.o.0) h.seed_of.ensures
     ∙ ap (λ (m : ℕ). home_of m (seed_of h.args.cells.now) h.args.o.0) h.slots_for-slots.ensures
 
-home-inside : (h : goal.After-home_of-home) → h.home_of-home.result < slots_for h.args.pages
+home-inside : (h : After-home_of-home) → h.home_of-home.result < slots_for h.args.pages
 home-inside h =
     let home-is : h.home_of-home.result ≡ home_of (slots_for h.args.pages) (seed_of h.args.cells.now) h.args.o.0 = h.home_of-home.ensures ∙ ap (λ (w : ℕ). home_of h.slots_for-slots.result w h.args.o.0) h.seed_of.ensures ∙ ap (λ (m : ℕ). home_of m (seed_of h.args.cells.now) h.args.o.0) h.slots_for-slots.ensures in
     omega (arith, home-is, home_lt h.args.pages h.args.cells.now h.args.o.0 h.pre.0)
 
-all_in : (h : goal.After-home_of-home) → AllInTable h.args.cells.now (slots_for h.args.pages)
+all_in : (h : After-home_of-home) → AllInTable h.args.cells.now (slots_for h.args.pages)
 all_in h s k = slot_in h.args.pages s k h.args.cells.now (omega arith) h.pre.1
 
 pub overflow_add-home : goal.overflow_add-home

@@ -4,9 +4,10 @@ use borrow.Author.Rules.{rules}
 use Rattle.page.specs.Records.{record_at}
 use Rattle.chunk.specs.Records.{age_of}
 use Rattle.index.proofs.walks.seek_below.Goals as goal
+use Rattle.index.proofs.walks.seek_below.Goals.{After-order_of-age}
 
 -- the age of the newest header
-aged : (c : goal.After-order_of-age) → c.order_of-age.result ≡ age_of (record_at c.args.g c.args.dump.now) c.args.h.0
+aged : (c : After-order_of-age) → c.order_of-age.result ≡ age_of (record_at c.args.g c.args.dump.now) c.args.h.0
 aged c = rw (← c.record_at-r.ensures, ← c.sequence_of.ensures) c.order_of-age.ensures
 
 pub seek_copy-requires : goal.seek_copy-requires

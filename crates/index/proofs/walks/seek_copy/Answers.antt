@@ -11,6 +11,7 @@ use Rattle.index.proofs.Chain.Links.{Meets, stepped, role_data, role_header}
 use Rattle.index.proofs.Walk.Walks.{no_copy_lem}
 use Rattle.index.proofs.Chain.Turns.{seek_end, seek_broken, seek_here, seek_on, count_on}
 use Rattle.index.proofs.walks.seek_copy.Goals as goal
+use Rattle.index.proofs.walks.seek_copy.Goals.{In-Record}
 
 pub loop-q-init : goal.loop-q-init
 loop-q-init c = (c.requires, refl)
@@ -25,7 +26,7 @@ returns-in-Damaged c =
     let k = stepped _ _ _ _ _ _ Damaged (sym c.in-Damaged.is ∙ c.follow-step.ensures) in
     sym (c.loop-q.invariant.1 ∙ seek_broken _ _ _ _ _ _ _ k)
 
-here : (c : goal.In-Record) → (let q = c.loop in let a = c.args in Meets (record_at a.g a.dump.now) a.pages a.o.0 a.cells.now q.bound q.link c.in-Record.q c.in-Record.older c.in-Record.role)
+here : (c : In-Record) → (let q = c.loop in let a = c.args in Meets (record_at a.g a.dump.now) a.pages a.o.0 a.cells.now q.bound q.link c.in-Record.q c.in-Record.older c.in-Record.role)
 here c = stepped _ _ _ _ _ _ (Record _ _ _) (sym c.in-Record.is ∙ c.follow-step.ensures)
 
 pub overflow_add-visits : goal.overflow_add-visits

@@ -9,9 +9,10 @@ use Rattle.page.specs.Tags.{claim_on, claim_at}
 use Rattle.page.specs.Find.{is_good, bears_sequence}
 use Rattle.page.proofs.Blocks.{bears_other, bears_same}
 use Rattle.page.proofs.find.bears.Goals as goal
+use Rattle.page.proofs.find.bears.Goals.{Else-not-holds}
 
-lies : (c : goal.Else-not-holds) → page_in c.args.g (length c.args.dump.now) c.args.n.0 ≡ true
-lies c = rw (← c.holds.ensures) (not-false c.holds.result c.if-not-holds.false)
+lies : (c : Else-not-holds) → page_in c.args.g (length c.args.dump.now) c.args.n.0 ≡ true
+lies c = rw (← c.holds.ensures) c.if-not-holds.false
 
 pub returns-then-not-holds : goal.returns-then-not-holds
 unfolding claim_at bears_sequence

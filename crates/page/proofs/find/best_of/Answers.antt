@@ -12,6 +12,7 @@ use Rattle.page.proofs.Blocks.{through_ends}
 use Rattle.page.proofs.Leading.{in_turn_twice, in_turn_listed, Leads, leads_none, need_some, leads_still, leads_now, Won, leads_won, won_named, won_refused}
 use Rattle.page.proofs.Leaving.{Underway, under_none, under_on, under_lost, under_won, under_fits}
 use Rattle.page.proofs.find.best_of.Goals as goal
+use Rattle.page.proofs.find.best_of.Goals.{After-in_turn-n, After-row, After-need_of-need, At-blocks-2, Else-next-pages, After-gain_in-gain}
 
 pub candidates-init : goal.candidates-init
 candidates-init c =
@@ -19,11 +20,11 @@ candidates-init c =
     (search rules, search rules, leads_none (candidate_score a.dump.now a.k) (in_turn c.guess-first.result))
 
 -- the candidate is one of the table
-listed : (c : goal.After-in_turn-n) → c.in_turn-n.result < layouts
+listed : (c : After-in_turn-n) → c.in_turn-n.result < layouts
 listed c = rw c.in_turn-n.ensures (in_turn_listed c.guess-first.result c.candidates.turn c.guess-first.ensures c.candidates-test.true)
 
 -- and has room
-room : (c : goal.After-row) → roomy c.row.result ≡ true
+room : (c : After-row) → roomy c.row.result ≡ true
 room c =
     let listed : c.in_turn-n.result < layouts = rw c.in_turn-n.ensures (in_turn_listed c.guess-first.result c.candidates.turn c.guess-first.ensures c.candidates-test.true) in
     rw c.row.ensures (row_roomy c.in_turn-n.result listed)
@@ -32,7 +33,7 @@ pub pages_under-pages-requires : goal.pages_under-pages-requires
 pages_under-pages-requires c = (room c, c.requires)
 
 -- something is needed to lead
-some : (c : goal.After-need_of-need) → 0 < c.need_of-need.result
+some : (c : After-need_of-need) → 0 < c.need_of-need.result
 some c = rw (c.need_of-need.ensures, c.in_turn-n.ensures) (need_some c.candidates.invariant.2)
 
 pub blocks-2-init : goal.blocks-2-init
@@ -50,10 +51,10 @@ pub is_lost-requires : goal.is_lost-requires
 is_lost-requires c = (under_fits c.blocks-2.invariant.1).0
 
 -- a turn ends
-turn-less : (c : goal.At-blocks-2) → 13 - (c.blocks-2.turn + 1) < 13 - c.candidates.turn
+turn-less : (c : At-blocks-2) → 13 - (c.blocks-2.turn + 1) < 13 - c.candidates.turn
 turn-less c = omega (arith, c.blocks-2.invariant.0, c.candidates-test.true)
 
-turn_few : (c : goal.At-blocks-2) → c.blocks-2.turn + 1 < 2 ^ 32
+turn_few : (c : At-blocks-2) → c.blocks-2.turn + 1 < 2 ^ 32
 turn_few c = omega (arith, c.blocks-2.invariant.0, c.candidates-test.true)
 
 pub overflow_step-turn : goal.overflow_step-turn
@@ -71,7 +72,7 @@ candidates-preserved-then-is_lost c =
     )
 
 -- blocks are left
-more : (c : goal.Else-next-pages) → c.blocks-2.next < c.pages_under-pages.result
+more : (c : Else-next-pages) → c.blocks-2.next < c.pages_under-pages.result
 more c = let t = c.blocks-2.invariant.1.through in omega (arith, t.within, c.if-next-pages.false)
 
 pub gain_in-gain-requires : goal.gain_in-gain-requires
@@ -80,7 +81,7 @@ gain_in-gain-requires c =
     record { block_value = t.starts; block_bound = omega (arith, t.few, through_ends t (more c)) }
 
 -- the candidate, one block on
-on : (c : goal.After-gain_in-gain) → let a = c.args in
+on : (c : After-gain_in-gain) → let a = c.args in
     Underway a.dump.now a.k c.in_turn-n.result (record { layout = c.row.result; block = a.k }) c.pages_under-pages.result (c.blocks-2.next + a.k) (c.blocks-2.score + c.gain_in-gain.result.score) (c.blocks-2.marked + c.gain_in-gain.result.marked)
 on c =
     let more : c.blocks-2.next < c.pages_under-pages.result = let t = c.blocks-2.invariant.1.through in omega (arith, t.within, c.if-next-pages.false) in

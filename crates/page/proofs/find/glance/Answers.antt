@@ -10,6 +10,7 @@ use Rattle.page.proofs.Layouts.{row_roomy}
 use Rattle.page.proofs.Lengths.{block_some, block_most}
 use Rattle.page.proofs.Leaving.{pages_few, count_by}
 use Rattle.page.proofs.find.glance.Goals as goal
+use Rattle.page.proofs.find.glance.Goals.{Else-pages-eq0, After-struct_known-1}
 
 -- the strides do not go past the pages
 strides : (pages k i : ℕ) → i ≤ 8 → pages / 8 / k * k * i ≤ pages
@@ -19,7 +20,7 @@ pub pages_under-pages-requires : goal.pages_under-pages-requires
 pages_under-pages-requires c = (rw c.row.ensures (row_roomy c.args.n c.requires.n_lt_layouts), c.requires.k_value)
 
 -- its pages are few
-few : (c : goal.Else-pages-eq0) → c.pages_under-pages.result < 2 ^ 31
+few : (c : Else-pages-eq0) → c.pages_under-pages.result < 2 ^ 31
 few c = rw c.pages_under-pages.ensures (pages_few (record { layout = c.row.result; block = c.args.k }) (length c.args.dump.now) c.requires.dump_value)
 
 pub nonzero_div-stride-2 : goal.nonzero_div-stride-2
@@ -37,7 +38,7 @@ gain_in-score-requires c =
     let x = c.pages_under-pages.result / 8 / c.args.k in record { block_value = rw (mul_right_comm x c.args.k i) (mul-mod_left (x * i) c.args.k); block_bound = omega (arith, strides c.pages_under-pages.result c.args.k i (omega arith), few (goal.at.gain_in-score-requires c).Else-pages-eq0, block_most c.args.k c.requires.k_value) }
 
 -- a block scores at most its pages
-gains : (c : goal.After-struct_known-1) → c.gain_in-score.result.score ≤ 256
+gains : (c : After-struct_known-1) → c.gain_in-score.result.score ≤ 256
 gains c =
     let block = c.pages_under-pages.result / 8 / c.args.k * c.args.k * c.loop-i.i in
     omega (arith, c.gain_in-score.ensures.scored, count_by (is_scored (claim_at (record { layout = c.row.result; block = c.args.k }) c.args.dump.now) c.args.k) block c.args.k, block_most c.args.k c.requires.k_value)

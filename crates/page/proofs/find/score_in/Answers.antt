@@ -6,6 +6,7 @@ use Rattle.page.specs.Leaving.{at_least}
 use Rattle.page.proofs.Blocks.{Through, through_none, through_on, through_ends}
 use Rattle.page.proofs.Leaving.{through_lost, through_won, through_fits, at_least_lem, not_least}
 use Rattle.page.proofs.find.score_in.Goals as goal
+use Rattle.page.proofs.find.score_in.Goals.{Else-next-pages, After-struct_known-1}
 
 pub loop-g-init : goal.loop-g-init
 loop-g-init c = through_none (claim_at c.args.g c.args.dump.now) c.args.g.block c.args.pages c.requires.block_nonzero c.requires.pages_bound c.requires.block_value
@@ -30,7 +31,7 @@ returns-then-next-pages c =
     sym (ap (at_least a.need) w.1 ∙ at_least_lem a.need q.score w.0)
 
 -- blocks are left
-more : (c : goal.Else-next-pages) → c.loop-g.next < c.args.pages
+more : (c : Else-next-pages) → c.loop-g.next < c.args.pages
 more c = omega (arith, c.loop-g.invariant.within, c.if-next-pages.false)
 
 pub gain_in-gain-requires : goal.gain_in-gain-requires
@@ -39,7 +40,7 @@ gain_in-gain-requires c =
     record { block_value = t.starts; block_bound = omega (arith, t.few, through_ends t (more c)) }
 
 -- one block on
-on : (c : goal.After-struct_known-1) → let a = c.args in
+on : (c : After-struct_known-1) → let a = c.args in
     Through (claim_at a.g a.dump.now) a.g.block a.pages (c.loop-g.next + a.g.block) (c.loop-g.score + c.gain_in-gain.result.score) (c.loop-g.marked + c.gain_in-gain.result.marked)
 on c =
     let more : c.loop-g.next < c.args.pages = omega (arith, c.loop-g.invariant.within, c.if-next-pages.false) in

@@ -11,8 +11,9 @@ use Rattle.page.proofs.Lengths.{page_within}
 use Rattle.page.proofs.Pages.{page_length}
 use Rattle.page.proofs.Sound.{asked_in}
 use Rattle.page.proofs.header.header.Goals as goal
+use Rattle.page.proofs.header.header.Goals.{In-Header}
 
-lies : (c : goal.In-Header) → let a = c.args in page_in a.g (length a.dump.now) a.n.0 ≡ true
+lies : (c : In-Header) → let a = c.args in page_in a.g (length a.dump.now) a.n.0 ≡ true
 lies c =
     let a = c.args in
     asked_in a.g a.dump.now a.n.0 (rw (← c.ask_header-a.ensures) c.in-Header.is)

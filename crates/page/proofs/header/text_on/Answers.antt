@@ -11,9 +11,10 @@ use Rattle.page.proofs.Lengths.{page_within}
 use Rattle.page.proofs.Pages.{page_length}
 use Rattle.page.proofs.Sound.{text_fits}
 use Rattle.page.proofs.header.text_on.Goals as goal
+use Rattle.page.proofs.header.text_on.Goals.{After-length}
 
 -- the field ends within the page
-within : (c : goal.After-length) → c.place-from.result + c.length.result ≤ length c.page_at-page.result.now
+within : (c : After-length) → c.place-from.result + c.length.result ≤ length c.page_at-page.result.now
 within c =
     let a = c.args in
     let w = page_within a.g (length a.dump.now) a.n.0 c.requires in

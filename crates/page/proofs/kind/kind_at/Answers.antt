@@ -9,9 +9,10 @@ use Rattle.page.specs.Kinds.{kind_at}
 use Rattle.page.proofs.Lengths.{page_within}
 use Rattle.page.proofs.Pages.{page_length}
 use Rattle.page.proofs.kind.kind_at.Goals as goal
+use Rattle.page.proofs.kind.kind_at.Goals.{Else-not-holds}
 
-lies : (c : goal.Else-not-holds) → page_in c.args.g (length c.args.dump.now) c.args.n.0 ≡ true
-lies c = rw (← c.holds.ensures) (not-false c.holds.result c.if-not-holds.false)
+lies : (c : Else-not-holds) → page_in c.args.g (length c.args.dump.now) c.args.n.0 ≡ true
+lies c = rw (← c.holds.ensures) c.if-not-holds.false
 
 pub returns-then-not-holds : goal.returns-then-not-holds
 unfolding kind_at

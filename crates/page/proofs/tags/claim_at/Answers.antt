@@ -7,9 +7,10 @@ use borrow.Author.Tests.{not-true, not-false}
 use Rattle.page.specs.Lengths.{page_in}
 use Rattle.page.specs.Tags.{claim_on, claim_at}
 use Rattle.page.proofs.tags.claim_at.Goals as goal
+use Rattle.page.proofs.tags.claim_at.Goals.{Else-not-holds}
 
-lies : (c : goal.Else-not-holds) → page_in c.args.g (length c.args.dump.now) c.args.n.0 ≡ true
-lies c = rw (← c.holds.ensures) (not-false c.holds.result c.if-not-holds.false)
+lies : (c : Else-not-holds) → page_in c.args.g (length c.args.dump.now) c.args.n.0 ≡ true
+lies c = rw (← c.holds.ensures) c.if-not-holds.false
 
 pub returns-then-not-holds : goal.returns-then-not-holds
 unfolding claim_at

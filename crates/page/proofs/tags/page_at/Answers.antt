@@ -7,8 +7,9 @@ use borrow.Author.Rules.{rules}
 use Rattle.page.specs.Pages.{page_at}
 use Rattle.page.proofs.Lengths.{page_within}
 use Rattle.page.proofs.tags.page_at.Goals as goal
+use Rattle.page.proofs.tags.page_at.Goals.{After-struct_known-1}
 
-within : (c : goal.After-struct_known-1) → c.args.n.0 * c.page_len-size.result + c.page_len-size.result ≤ length c.args.dump.now
+within : (c : After-struct_known-1) → c.args.n.0 * c.page_len-size.result + c.page_len-size.result ≤ length c.args.dump.now
 within c = rw c.page_len-size.ensures.value (page_within c.args.g (length c.args.dump.now) c.args.n.0 c.requires).ends
 
 pub overflow_mul-a : goal.overflow_mul-a

@@ -11,14 +11,15 @@ use Rattle.records.proofs.Accepted.{opened_few, written_good}
 use Rattle.records.proofs.Following.{follow_turn}
 use Rattle.records.proofs.Histories.{Recounted, recounted_none, next_age, recounted_more, recounted_all}
 use Rattle.records.proofs.history.fill.Goals as goal
+use Rattle.records.proofs.history.fill.Goals.{After-slice_known-3-1, After-value_of}
 
-long : (f : goal.After-slice_known-3-1) → length f.fill_ages.last.1.1.1.1.1.0 ≡ length f.args.sizes.now
+long : (f : After-slice_known-3-1) → length f.fill_ages.last.1.1.1.1.1.0 ≡ length f.args.sizes.now
 long f = f.fill_ages.kept.1.1.1.1.1.0 ∙ f.pre.1.0 ∙ sym f.pre.1.1
 
-inside : (v : goal.After-value_of) → v.loop-i.i < length v.fill_ages.last.1.1.1.1.1.0
+inside : (v : After-value_of) → v.loop-i.i < length v.fill_ages.last.1.1.1.1.1.0
 inside v = let q = v.loop-i in omega (arith, v.loop-i-test.taken, q.inv.rows_long)
 
-page : (v : goal.After-value_of) → v.value_of.result ≡ page_of (get_or v.fill_ages.last.1.1.1.1.1.0 v.loop-i.i 0)
+page : (v : After-value_of) → v.value_of.result ≡ page_of (get_or v.fill_ages.last.1.1.1.1.1.0 v.loop-i.i 0)
 page v =
     let inside : v.loop-i.i < length v.fill_ages.last.1.1.1.1.1.0 = let q = v.loop-i in omega (arith, v.loop-i-test.taken, q.inv.rows_long) in
     v.value_of.ensures ∙ ap page_of (next_age v.loop-i.inv v.args.o.0 v.fill-ages.ensures inside)

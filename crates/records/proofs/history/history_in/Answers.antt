@@ -15,18 +15,19 @@ use Rattle.records.specs.Answers.{history_left, sizes_left}
 use Rattle.records.specs.Rows.{history_rows, history_sizes}
 use Rattle.records.proofs.Answering.{Front, Counted, recorded_on_lem, left_refused, told_count, told_front, left_told}
 use Rattle.records.proofs.history.history_in.Goals as goal
+use Rattle.records.proofs.history.history_in.Goals.{In-Records}
 
-rows : (c : goal.In-Records) → Front c.in-Records.count c.args.rows.now
+rows : (c : In-Records) → Front c.in-Records.count c.args.rows.now
 rows c =
     let counted : let a = c.args in Counted a.g a.dump.now a.m a.o.0 (min (length c.args.rows.now) (length c.args.sizes.now)) a.pages c.count_in-r.result = record { accepted = c.requires; is = rw (← c.takes-t.ensures, ← c.least.ensures) c.count_in-r.ensures } in
     told_front counted c.in-Records.is c.args.rows.now (omega arith)
 
-sizes : (c : goal.In-Records) → Front c.in-Records.count c.args.sizes.now
+sizes : (c : In-Records) → Front c.in-Records.count c.args.sizes.now
 sizes c =
     let counted : let a = c.args in Counted a.g a.dump.now a.m a.o.0 (min (length c.args.rows.now) (length c.args.sizes.now)) a.pages c.count_in-r.result = record { accepted = c.requires; is = rw (← c.takes-t.ensures, ← c.least.ensures) c.count_in-r.ensures } in
     told_front counted c.in-Records.is c.args.sizes.now (omega arith)
 
-all : (c : goal.In-Records) → let a = c.args in c.in-Records.count ≡ records (seen_by c.before.before.takes.result (record_at a.g a.dump.now)) a.o.0 a.pages
+all : (c : In-Records) → let a = c.args in c.in-Records.count ≡ records (seen_by c.before.before.takes.result (record_at a.g a.dump.now)) a.o.0 a.pages
 all c =
     let counted : let a = c.args in Counted a.g a.dump.now a.m a.o.0 (min (length c.args.rows.now) (length c.args.sizes.now)) a.pages c.count_in-r.result = record { accepted = c.requires; is = rw (← c.takes-t.ensures, ← c.least.ensures) c.count_in-r.ensures } in
     let a = c.args in

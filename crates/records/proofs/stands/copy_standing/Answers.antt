@@ -18,9 +18,10 @@ use Rattle.records.specs.Written.{written}
 use Rattle.records.proofs.InSight.{NewestAt, first_there, first_word, words_sorted, stands_held, Hidden, stands_cut}
 use Rattle.records.proofs.Accepted.{seen_within}
 use Rattle.records.proofs.stands.copy_standing.Goals as goal
+use Rattle.records.proofs.stands.copy_standing.Goals.{After-shared_slice_known-then-base-lows-1, After-chunk-1, After-first_from-k}
 
 -- the copy, whose chunk has a number and ends before the last word
-copy : (b : goal.After-shared_slice_known-then-base-lows-1) → let a = b.args in NewestAt (seen_by b.args.t (record_at b.args.g b.args.dump.now)) a.g.layout.«data» a.o.0 a.pages a.i a.d
+copy : (b : After-shared_slice_known-then-base-lows-1) → let a = b.args in NewestAt (seen_by b.args.t (record_at b.args.g b.args.dump.now)) a.g.layout.«data» a.o.0 a.pages a.i a.d
 copy b =
     let b = b in
     let a = b.args in
@@ -40,12 +41,12 @@ copy b =
           );
     }
 
-word-there : (s : goal.After-chunk-1) → 0 < length s.args.lows.now
+word-there : (s : After-chunk-1) → 0 < length s.args.lows.now
 word-there s =
     let lows : s.args.lows.now ≡ drop s.args.i (lows_of (seen_by s.args.t (record_at s.args.g s.args.dump.now)) (written (seen_by s.args.t (record_at s.args.g s.args.dump.now)) s.args.o.0 s.args.pages)) = s.requires.lows_value in
     first_there (seen_by s.args.t (record_at s.args.g s.args.dump.now)) (written (seen_by s.args.t (record_at s.args.g s.args.dump.now)) s.args.o.0 s.args.pages) s.args.i s.requires.i_in_bounds s.args.lows.now lows
 
-word-is : (s : goal.After-chunk-1) → get_or s.args.lows.now 0 0 ≡ cut_word (low_of (seen_by s.args.t (record_at s.args.g s.args.dump.now)) (drop s.args.i (written (seen_by s.args.t (record_at s.args.g s.args.dump.now)) s.args.o.0 s.args.pages)))
+word-is : (s : After-chunk-1) → get_or s.args.lows.now 0 0 ≡ cut_word (low_of (seen_by s.args.t (record_at s.args.g s.args.dump.now)) (drop s.args.i (written (seen_by s.args.t (record_at s.args.g s.args.dump.now)) s.args.o.0 s.args.pages)))
 word-is s =
     let lows : s.args.lows.now ≡ drop s.args.i (lows_of (seen_by s.args.t (record_at s.args.g s.args.dump.now)) (written (seen_by s.args.t (record_at s.args.g s.args.dump.now)) s.args.o.0 s.args.pages)) = s.requires.lows_value in
     first_word (seen_by s.args.t (record_at s.args.g s.args.dump.now)) (written (seen_by s.args.t (record_at s.args.g s.args.dump.now)) s.args.o.0 s.args.pages) s.args.i s.requires.i_in_bounds s.args.lows.now lows
@@ -56,7 +57,7 @@ returns-then-base-lows c =
     ∙ stands_held (copy (goal.at.returns-then-base-lows c).After-shared_slice_known-then-base-lows-1) c.requires.1.1.1.1.0 (word-is (goal.at.returns-then-base-lows c).After-chunk-1) (omega (arith, c.base_of-base.ensures.value, c.if-base-lows.true))
 
 -- where the copy is hidden
-hidden : (f : goal.After-first_from-k) → let f = f in
+hidden : (f : After-first_from-k) → let f = f in
     let a = f.args in
     Hidden (seen_by f.args.t (record_at f.args.g f.args.dump.now)) a.g.layout.«data» a.o.0 a.pages a.i a.d f.first_from-k.result
 hidden f =

@@ -18,14 +18,15 @@ use Rattle.records.proofs.Last.{written_few}
 use Rattle.records.proofs.Placing.{places_length}
 use Rattle.records.proofs.Writing.{written_length}
 use Rattle.records.proofs.stands.fill.Goals as goal
+use Rattle.records.proofs.stands.fill.Goals.{After-fill_ages-arg-1, After-slice_known-6-1}
 
-few : (s : goal.After-fill_ages-arg-1) → length (written (seen_by s.args.t (record_at s.args.g s.args.dump.now)) s.args.o.0 s.args.pages) < 0xFFFFFFFF
+few : (s : After-fill_ages-arg-1) → length (written (seen_by s.args.t (record_at s.args.g s.args.dump.now)) s.args.o.0 s.args.pages) < 0xFFFFFFFF
 few s =
     let a = s.args in
     written_few (seen_by s.args.t (record_at s.args.g s.args.dump.now)) a.o.0 a.pages (opened_pages a.g (length a.dump.now) a.pages s.requires.dump_value)
 
 -- there are as many working words as ages
-long : (s : goal.After-fill_ages-arg-1) → length s.args.work.now ≡ length (written (seen_by s.args.t (record_at s.args.g s.args.dump.now)) s.args.o.0 s.args.pages)
+long : (s : After-fill_ages-arg-1) → length s.args.work.now ≡ length (written (seen_by s.args.t (record_at s.args.g s.args.dump.now)) s.args.o.0 s.args.pages)
 long s = s.requires.work_len ∙ sym (written_length (seen_by s.args.t (record_at s.args.g s.args.dump.now)) s.args.o.0 s.args.pages)
 
 pub fill_places-requires : goal.fill_places-requires
@@ -37,7 +38,7 @@ pub after_all-after-requires : goal.after_all-after-requires
 after_all-after-requires c = let c = c in record { dump_value = c.pre.0; ages_value = c.fill_ages.ensures }
 
 -- the places are those of the ages
-places : (p : goal.After-slice_known-6-1) → p.fill_places.new.1.1.1.1.0 ≡ places_of (seen_by p.args.t (record_at p.args.g p.args.dump.now)) (written (seen_by p.args.t (record_at p.args.g p.args.dump.now)) p.args.o.0 p.args.pages)
+places : (p : After-slice_known-6-1) → p.fill_places.new.1.1.1.1.0 ≡ places_of (seen_by p.args.t (record_at p.args.g p.args.dump.now)) (written (seen_by p.args.t (record_at p.args.g p.args.dump.now)) p.args.o.0 p.args.pages)
 places p = p.fill_places.ensures ∙ ap (places_of (seen_by p.args.t (record_at p.args.g p.args.dump.now))) p.fill-ages.ensures
 
 pub put_standings-requires : goal.put_standings-requires

@@ -13,6 +13,7 @@ use Rattle.records.proofs.Last.{written_few}
 use Rattle.records.proofs.Lowering.{lows_length}
 use Rattle.records.proofs.Rowing.{PutTo, rest_rows, rest_details, put_more, put_all}
 use Rattle.records.proofs.stands.put_standings.Goals as goal
+use Rattle.records.proofs.stands.put_standings.Goals.{In-loop-i}
 
 abbrev Start : Type 0
 Start = tie.Start invariant-loop decreases-loop
@@ -39,10 +40,10 @@ few s =
 pub loop-i-init : goal.loop-i-init
 loop-i-init c = record { inside (goal.at.loop-i-init c).In-loop-i search rules; rows_long = refl; details_long = long c ∙ ap length (sym (own c)); rows_laid = refl; details_laid = refl }
 
-inside : (t : goal.In-loop-i) → t.loop-i.i < length t.args.rows.now
+inside : (t : In-loop-i) → t.loop-i.i < length t.args.rows.now
 inside t = omega (arith, t.loop-i-test.taken, t.loop-i.inv.rows_long)
 
-of-record : (t : goal.In-loop-i) → t.loop-i.i < length (ages t)
+of-record : (t : In-loop-i) → t.loop-i.i < length (ages t)
 of-record t =
     let inside : t.loop-i.i < length t.args.rows.now = omega (arith, t.loop-i-test.taken, t.loop-i.inv.rows_long) in
     omega (arith, inside, ap length (own t))

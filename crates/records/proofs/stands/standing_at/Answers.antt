@@ -17,8 +17,9 @@ use Rattle.records.specs.Written.{written, page_at}
 use Rattle.records.proofs.Last.{rest_some, rest_first, rest_inside, rest_at, written_few, has_its, ByLast, by_last}
 use Rattle.records.proofs.Accepted.{seen_chunk}
 use Rattle.records.proofs.stands.standing_at.Goals as goal
+use Rattle.records.proofs.stands.standing_at.Goals.{After-shared_slice_known-5-1, After-seen_at-r}
 
-few : (s : goal.After-shared_slice_known-5-1) → s.args.pages < page_values
+few : (s : After-shared_slice_known-5-1) → s.args.pages < page_values
 few s = opened_pages s.args.g (length s.args.dump.now) s.args.pages s.requires.dump_value
 
 chunked : (s : tie.Start) (p : ℕ) → is_data (says s p) ≡ true → chunk_of (says s p) ≡ 0 → ⊥
@@ -30,7 +31,7 @@ bounds-ages-0 c =
     rest_some (written (seen_by c.args.t (record_at c.args.g c.args.dump.now)) c.args.o.0 c.args.pages) c.args.ages.now c.args.i rest c.requires.i_in_bounds
 
 -- the record that is read is that at place i
-said : (c : goal.After-seen_at-r) → c.seen_at-r.result ≡ (seen_by c.args.t (record_at c.args.g c.args.dump.now)) (page_at (seen_by c.args.t (record_at c.args.g c.args.dump.now)) c.args.o.0 c.args.pages c.args.i)
+said : (c : After-seen_at-r) → c.seen_at-r.result ≡ (seen_by c.args.t (record_at c.args.g c.args.dump.now)) (page_at (seen_by c.args.t (record_at c.args.g c.args.dump.now)) c.args.o.0 c.args.pages c.args.i)
 said c =
     let rest : c.args.ages.now ≡ drop c.args.i (written (seen_by c.args.t (record_at c.args.g c.args.dump.now)) c.args.o.0 c.args.pages) = c.requires.ages_value in
     rw (c.seen_at-r.ensures, c.value_of.ensures, rest_first (written (seen_by c.args.t (record_at c.args.g c.args.dump.now)) c.args.o.0 c.args.pages) c.args.ages.now c.args.i rest)

@@ -15,23 +15,24 @@ use Rattle.records.specs.Answers.{standing_left, details_left}
 use Rattle.records.specs.Rows.{standing_rows, standing_details}
 use Rattle.records.proofs.Answering.{Front, Counted, recorded_on_lem, left_refused, worked_refused, told_count, told_front, left_told, worked_told}
 use Rattle.records.proofs.stands.stands_in.Goals as goal
+use Rattle.records.proofs.stands.stands_in.Goals.{In-Records}
 
-rows : (c : goal.In-Records) → Front c.in-Records.count c.args.rows.now
+rows : (c : In-Records) → Front c.in-Records.count c.args.rows.now
 rows c =
     let counted : let a = c.args in Counted a.g a.dump.now a.m a.o.0 (min (length c.args.rows.now) (min (length c.args.details.now) (length c.args.work.now))) a.pages c.count_in-r.result = record { accepted = c.requires; is = rw (← c.takes-t.ensures, ← c.least.ensures, ← c.least-room.ensures) c.count_in-r.ensures; } in
     told_front counted c.in-Records.is c.args.rows.now (omega arith)
 
-details : (c : goal.In-Records) → Front c.in-Records.count c.args.details.now
+details : (c : In-Records) → Front c.in-Records.count c.args.details.now
 details c =
     let counted : let a = c.args in Counted a.g a.dump.now a.m a.o.0 (min (length c.args.rows.now) (min (length c.args.details.now) (length c.args.work.now))) a.pages c.count_in-r.result = record { accepted = c.requires; is = rw (← c.takes-t.ensures, ← c.least.ensures, ← c.least-room.ensures) c.count_in-r.ensures; } in
     told_front counted c.in-Records.is c.args.details.now (omega arith)
 
-work : (c : goal.In-Records) → Front c.in-Records.count c.args.work.now
+work : (c : In-Records) → Front c.in-Records.count c.args.work.now
 work c =
     let counted : let a = c.args in Counted a.g a.dump.now a.m a.o.0 (min (length c.args.rows.now) (min (length c.args.details.now) (length c.args.work.now))) a.pages c.count_in-r.result = record { accepted = c.requires; is = rw (← c.takes-t.ensures, ← c.least.ensures, ← c.least-room.ensures) c.count_in-r.ensures; } in
     told_front counted c.in-Records.is c.args.work.now (omega arith)
 
-all : (c : goal.In-Records) → let a = c.args in c.in-Records.count ≡ records (seen_by c.before.before.before.takes.result (record_at a.g a.dump.now)) a.o.0 a.pages
+all : (c : In-Records) → let a = c.args in c.in-Records.count ≡ records (seen_by c.before.before.before.takes.result (record_at a.g a.dump.now)) a.o.0 a.pages
 all c =
     let counted : let a = c.args in Counted a.g a.dump.now a.m a.o.0 (min (length c.args.rows.now) (min (length c.args.details.now) (length c.args.work.now))) a.pages c.count_in-r.result = record { accepted = c.requires; is = rw (← c.takes-t.ensures, ← c.least.ensures, ← c.least-room.ensures) c.count_in-r.ensures; } in
     let a = c.args in

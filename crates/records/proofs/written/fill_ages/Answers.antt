@@ -15,6 +15,7 @@ use Rattle.chunk.proofs.Sorting.{Listed, listed_none, listed_skip, listed_room, 
 use Rattle.records.specs.Written.{is_record, written}
 use Rattle.records.proofs.Writing.{records_count}
 use Rattle.records.proofs.written.fill_ages.Goals as goal
+use Rattle.records.proofs.written.fill_ages.Goals.{After-order_of}
 
 -- a page whose tags do not name the object is passed over, and so is another that is no record of it
 pub loop-i-preserved-then-not-names_object : goal.loop-i-preserved-then-not-names_object
@@ -33,13 +34,13 @@ loop-i-preserved-then-not-is_of c =
     (search rules, listed_skip q.invariant.1 t)
 
 -- a record has room
-room : (c : goal.After-order_of) → let q = c.loop-i in
+room : (c : After-order_of) → let q = c.loop-i in
     (is_record (seen_by c.args.t (record_at c.args.g c.args.dump.now)) c.args.o.0 q.i ≡ true) × (q.at < length c.args.words.now)
 room c =
     let q = c.loop-i in
     let a = c.args in
     let t : is_record (seen_by c.args.t (record_at c.args.g c.args.dump.now)) a.o.0 q.i ≡ true =
-    rw (← c.seen_at-r.ensures, ← c.is_of.ensures) (not-false c.is_of.result c.if-not-is_of.false)
+    rw (← c.seen_at-r.ensures, ← c.is_of.ensures) c.if-not-is_of.false
     in
     (t, listed_room q.invariant.1 a.pages c.loop-i-test.true t (omega (arith, records_count (seen_by c.args.t (record_at c.args.g c.args.dump.now)) a.o.0 a.pages, c.requires)))
 

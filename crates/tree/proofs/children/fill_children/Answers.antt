@@ -19,6 +19,7 @@ use Rattle.tree.specs.Objects.{says_by}
 use Rattle.tree.proofs.Entries.{root_no_child, page_no_child, deleted_no_child, is_child_lem, child_row_lem}
 use Rattle.tree.proofs.Fronts.{put_length, put_sorted}
 use Rattle.tree.proofs.children.fill_children.Goals as goal
+use Rattle.tree.proofs.children.fill_children.Goals.{After-sort-arg-1, After-slice_known-1}
 
 pub loop-i-preserved-then-key_of-eq-ROOT : goal.loop-i-preserved-then-key_of-eq-ROOT
 loop-i-preserved-then-key_of-eq-ROOT c =
@@ -63,14 +64,14 @@ loop-i-preserved c =
     (search rules, rw (more, ← r) (also q.inv.1 c.put_row-at.ensures))
 
 -- were put
-put_all : (l : goal.After-sort-arg-1) → Put (let says = says_by l.args.g l.args.dump.now l.args.t in passed (is_child says l.args.heads.now) (child_row says l.args.heads.now) (length l.args.heads.now)) l.args.rows.now 0 l.loop-i.rows l.loop-i.at
+put_all : (l : After-sort-arg-1) → Put (let says = says_by l.args.g l.args.dump.now l.args.t in passed (is_child says l.args.heads.now) (child_row says l.args.heads.now) (length l.args.heads.now)) l.args.rows.now 0 l.loop-i.rows l.loop-i.at
 put_all l =
     let q = l.loop-i in
     let e : q.i ≡ length l.args.heads.now = omega (arith, l.loop-i-test.left, q.inv.0) in
     rw e at q.inv.1
 
 -- and are no more than the heads
-fits : (l : goal.After-slice_known-1) → length (let says = says_by l.args.g l.args.dump.now l.args.t in passed (is_child says l.args.heads.now) (child_row says l.args.heads.now) (length l.args.heads.now)) ≤ length l.args.rows.now
+fits : (l : After-slice_known-1) → length (let says = says_by l.args.g l.args.dump.now l.args.t in passed (is_child says l.args.heads.now) (child_row says l.args.heads.now) (length l.args.heads.now)) ≤ length l.args.rows.now
 fits l =
     let says = says_by l.args.g l.args.dump.now l.args.t in
     let heads = l.args.heads.now in

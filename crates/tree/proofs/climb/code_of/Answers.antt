@@ -8,8 +8,9 @@ use lib.ListN.{length, get_or}
 use Rattle.sort.specs.Packed.{key_of}
 use Rattle.tree.proofs.Climbing.{header_kind, leads_root, leads_none, leads_row}
 use Rattle.tree.proofs.climb.code_of.Goals as goal
+use Rattle.tree.proofs.climb.code_of.Goals.{In-At}
 
-found : (k : goal.In-At) → (k.in-At.i < length k.args.heads.now) × (key_of (get_or k.args.heads.now k.in-At.i 0) ≡ k.args.o)
+found : (k : In-At) → (k.in-At.i < length k.args.heads.now) × (key_of (get_or k.args.heads.now k.in-At.i 0) ≡ k.args.o)
 found k = rw k.in-At.is at k.find.ensures
 
 pub returns-then-o-eq-ROOT : goal.returns-then-o-eq-ROOT

@@ -4,6 +4,7 @@ use borrow.Author.Rules.{rules}
 use lib.ListN.{length}
 use Rattle.tree.proofs.Climbing.{Doubling, doubling_inside, doubling_none, doubling_ended, doubling_more, doubling_all}
 use Rattle.tree.proofs.climb.double.Goals as goal
+use Rattle.tree.proofs.climb.double.Goals.{Else-jump-ne-GOES_ON}
 
 pub loop-i-preserved-then-jump-ne-GOES_ON : goal.loop-i-preserved-then-jump-ne-GOES_ON
 loop-i-preserved-then-jump-ne-GOES_ON c =
@@ -11,7 +12,7 @@ loop-i-preserved-then-jump-ne-GOES_ON c =
     doubling_ended _ q.ways q.i q.invariant c.loop-i-test.true (rw (← c.value_of-jump.ensures) c.if-jump-ne-GOES_ON.true)
 
 -- the word that the way has come to
-next : (c : goal.Else-jump-ne-GOES_ON) → c.value_of-jump.result / 4 < length c.loop-i.ways
+next : (c : Else-jump-ne-GOES_ON) → c.value_of-jump.result / 4 < length c.loop-i.ways
 next c =
     let q = c.loop-i in
     rw c.value_of-jump.ensures

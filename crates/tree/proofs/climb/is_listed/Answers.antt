@@ -5,6 +5,7 @@ use lib.ListN.{length}
 use Rattle.tree.specs.Paths.{most_depth}
 use Rattle.tree.proofs.Settled.{Tracked, tracked_first, tracked_inside, tracked_more, tracked_deep, tracked_end}
 use Rattle.tree.proofs.climb.is_listed.Goals as goal
+use Rattle.tree.proofs.climb.is_listed.Goals.{Else-steps-eq-MOST_DEPTH}
 
 pub loop-code-init : goal.loop-code-init
 loop-code-init c = rw c.key_of-code.ensures (tracked_first _ _ c.requires.i_in_bounds)
@@ -13,7 +14,7 @@ pub returns-then-steps-eq-MOST_DEPTH : goal.returns-then-steps-eq-MOST_DEPTH
 returns-then-steps-eq-MOST_DEPTH c = tracked_deep _ _ _ _ c.loop-code.invariant c.loop-code-test.true c.if-steps-eq-MOST_DEPTH.true
 
 -- the word that the way has come to
-next : (c : goal.Else-steps-eq-MOST_DEPTH) → c.loop-code.code / 4 < length c.args.ways.now
+next : (c : Else-steps-eq-MOST_DEPTH) → c.loop-code.code / 4 < length c.args.ways.now
 next c = tracked_inside _ _ _ _ c.loop-code.invariant c.requires.some_ways c.loop-code-test.true
 
 pub loop-code-preserved : goal.loop-code-preserved

@@ -13,13 +13,14 @@ use Rattle.tree.specs.Heads.{is_head}
 use Rattle.tree.specs.Objects.{says_by}
 use Rattle.tree.proofs.NewestHeads.{heads_are}
 use Rattle.tree.proofs.whole.both_lists.Goals as goal
+use Rattle.tree.proofs.whole.both_lists.Goals.{After-slice_known-4-1}
 
 -- they are in front, and no more than the headers
-in-front : (f : goal.After-slice_known-4-1) → length (take f.fill_heads-count.result f.fill_heads-count.last.1.1.1.1.0) ≡ f.fill_heads-count.result
+in-front : (f : After-slice_known-4-1) → length (take f.fill_heads-count.result f.fill_heads-count.last.1.1.1.1.0) ≡ f.fill_heads-count.result
 in-front f = length-take-le f.fill_heads-count.result f.fill_heads-count.last.1.1.1.1.0 (omega (arith, f.fill_heads-count.ensures.upper_bound, f.fill_heads-count.kept.1.1.1.1.0))
 
 -- there are as many words to work in
-work-in-front : (f : goal.After-slice_known-4-1) → length (take f.fill_heads-count.result f.args.work.now) ≡ f.fill_heads-count.result
+work-in-front : (f : After-slice_known-4-1) → length (take f.fill_heads-count.result f.args.work.now) ≡ f.fill_heads-count.result
 work-in-front f = length-take-le f.fill_heads-count.result f.args.work.now (omega (arith, f.fill_heads-count.ensures.upper_bound, f.pre.1.1.0, f.pre.1.1.1))
 
 pub lists-answer-requires : goal.lists-answer-requires

@@ -12,6 +12,7 @@ use Rattle.tree.specs.Answers.{says_at}
 use Rattle.tree.specs.Heads.{head_count}
 use Rattle.tree.proofs.Answering.{page_refused, room_refused, room_enough}
 use Rattle.tree.proofs.whole.tree_in.Goals as goal
+use Rattle.tree.proofs.whole.tree_in.Goals.{After-both_lists-arg-1}
 
 pub returns-then-is_missing : goal.returns-then-is_missing
 returns-then-is_missing c =
@@ -28,22 +29,22 @@ returns-then-least-room c =
     (rw (← needed, ← c.least.ensures) c.if-least-room.true))
 
 -- in each slice
-in_rows : (c : goal.After-both_lists-arg-1) → c.count_heads-need.result ≤ length c.args.rows.now
+in_rows : (c : After-both_lists-arg-1) → c.count_heads-need.result ≤ length c.args.rows.now
 in_rows c = omega (arith, c.if-least-room.false, c.least.ensures)
 
-in-heads : (c : goal.After-both_lists-arg-1) → c.count_heads-need.result ≤ length c.args.heads.now
+in-heads : (c : After-both_lists-arg-1) → c.count_heads-need.result ≤ length c.args.heads.now
 in-heads c = omega (arith, c.if-least-room.false, c.least.ensures)
 
-in-work : (c : goal.After-both_lists-arg-1) → c.count_heads-need.result ≤ length c.args.work.now
+in-work : (c : After-both_lists-arg-1) → c.count_heads-need.result ≤ length c.args.work.now
 in-work c = omega (arith, c.if-least-room.false, c.least.ensures)
 
 -- the parts that are lent on have a word for each header
-heads-part : (c : goal.After-both_lists-arg-1) → length (take c.count_heads-need.result c.args.heads.now) ≡ c.count_heads-need.result
+heads-part : (c : After-both_lists-arg-1) → length (take c.count_heads-need.result c.args.heads.now) ≡ c.count_heads-need.result
 heads-part c =
     let in-heads : c.count_heads-need.result ≤ length c.args.heads.now = omega (arith, c.if-least-room.false, c.least.ensures) in
     length-take-le _ c.args.heads.now in-heads
 
-work-part : (c : goal.After-both_lists-arg-1) → length (take c.count_heads-need.result c.args.work.now) ≡ c.count_heads-need.result
+work-part : (c : After-both_lists-arg-1) → length (take c.count_heads-need.result c.args.work.now) ≡ c.count_heads-need.result
 work-part c =
     let in-work : c.count_heads-need.result ≤ length c.args.work.now = omega (arith, c.if-least-room.false, c.least.ensures) in
     length-take-le _ c.args.work.now in-work

@@ -10,6 +10,7 @@ use lib.ListN.{length}
 use Rattle.page.specs.Lengths.{page_in}
 use Rattle.why.proofs.Finding.{byte_inside, byte_there}
 use Rattle.why.proofs.byte.shown.Goals as goal
+use Rattle.why.proofs.byte.shown.Goals.{After-page_len}
 
 pub returns-then-not-holds : goal.returns-then-not-holds
 returns-then-not-holds c = rw (c.in-Held.is, ← c.holds.ensures, c.if-not-holds.true)
@@ -18,12 +19,12 @@ pub returns-then-g-at : goal.returns-then-g-at
 returns-then-g-at c = rw (c.in-Held.is, ← c.holds.ensures, c.if-not-holds.false, le-ltb _ _ c.if-g-at.true)
 
 -- behind both tests: the page lies in the dump, and so does the byte
-there : (c : goal.After-page_len) → page_in c.args.g (length c.args.dump.now) c.in-Held.p.0 ≡ true
-there c = sym c.holds.ensures ∙ not-false c.holds.result c.if-not-holds.false
+there : (c : After-page_len) → page_in c.args.g (length c.args.dump.now) c.in-Held.p.0 ≡ true
+there c = sym c.holds.ensures ∙ c.if-not-holds.false
 
-inside : (c : goal.After-page_len) → c.in-Held.p.0 * c.page_len.result + c.in-Held.at < length c.args.dump.now
+inside : (c : After-page_len) → c.in-Held.p.0 * c.page_len.result + c.in-Held.at < length c.args.dump.now
 inside c =
-    let there : page_in c.args.g (length c.args.dump.now) c.in-Held.p.0 ≡ true = sym c.holds.ensures ∙ not-false c.holds.result c.if-not-holds.false in
+    let there : page_in c.args.g (length c.args.dump.now) c.in-Held.p.0 ≡ true = sym c.holds.ensures ∙ c.if-not-holds.false in
     rw c.page_len.ensures.value (byte_inside c.args.g c.args.dump.now c.in-Held.p.0 c.in-Held.at there c.if-g-at.false)
 
 pub returns-else-g-at : goal.returns-else-g-at

@@ -17,6 +17,7 @@ use Rattle.why.specs.Answers.{found_in, why_on, why_left}
 use Rattle.why.proofs.Filling.{opened_sized, rows_inside, rows_front, rows_cleared, found_tells, past_tells}
 use Rattle.why.proofs.Finding.{found_below}
 use Rattle.why.proofs.byte.why_in.Goals as goal
+use Rattle.why.proofs.byte.why_in.Goals.{After-clear-arg-in-Header-1}
 
 pub measure-k-requires : goal.measure-k-requires
 measure-k-requires c =
@@ -47,7 +48,7 @@ find-found-requires c =
     (rows_inside (let a = c.args in spans_of (let a = c.args in seen_by c.takes-t.result (record_at a.g a.dump.now)) a.g.layout.«data» a.o.0 a.pages c.f-in-Header-1.given.0.0.0) c.args.rows.now c.measure-k.result.marks c.if-rows-need.false _ c.fill-count.ensures.rows_after c.rows-in-Header-1.given)
 
 -- what is found is found in them
-found : (c : goal.After-clear-arg-in-Header-1) → let h = c.f-in-Header-1.given.0.0.0 in
+found : (c : After-clear-arg-in-Header-1) → let h = c.f-in-Header-1.given.0.0.0 in
     let a = c.args in
     c.find-found.result ≡ found_in a.x (size_of (let a = c.args in seen_by c.takes-t.result (record_at a.g a.dump.now)) a.g.layout.«data» a.o.0 h a.pages) 0 (let a = c.args in spans_of (let a = c.args in seen_by c.takes-t.result (record_at a.g a.dump.now)) a.g.layout.«data» a.o.0 a.pages h)
 found c =

@@ -7,12 +7,13 @@ use borrow.Author.Tests.{le-leb, lt-leb}
 use Rattle.why.specs.Marks.{places}
 use Rattle.why.proofs.Places.{page_inside}
 use Rattle.why.proofs.marks.data_marks.Goals as goal
+use Rattle.why.proofs.marks.data_marks.Goals.{After-base_of-base}
 
 pub returns-then-is_bad : goal.returns-then-is_bad
 returns-then-is_bad c = rw (← c.is_bad.ensures, c.if-is_bad.true)
 
 -- the page of the chunk ends before the last place
-inside : (b : goal.After-base_of-base) → b.base_of-base.result + b.args.«data» < places
+inside : (b : After-base_of-base) → b.base_of-base.result + b.args.«data» < places
 inside b =
     let a = b.args in
     rw b.base_of-base.ensures.value (page_inside a.«data» a.d.chunk.0 b.requires.data_le_most_data (sym b.is_bad.ensures ∙ b.if-is_bad.false))

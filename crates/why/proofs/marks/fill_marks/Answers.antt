@@ -12,6 +12,7 @@ use Rattle.why.specs.Marks.{marks_in, marks_of, marks_to}
 use Rattle.chunk.proofs.Records.{seen_unnamed}
 use Rattle.why.proofs.Putting.{Filled, marks_some, fill_none, fill_skip, fill_room, fill_more, fill_end}
 use Rattle.why.proofs.marks.fill_marks.Goals as goal
+use Rattle.why.proofs.marks.fill_marks.Goals.{After-mark, After-put-arg-1}
 
 pub bounds-rows-0 : goal.bounds-rows-0
 bounds-rows-0 c =
@@ -33,11 +34,11 @@ loop-i-preserved-then-not-names_object c =
     fill_skip q.invariant c.loop-i-test.true (seen_unnamed a.g a.dump.now q.i a.o.0 u a.t)
 
 -- all marks have room in the words, and those of the page are the definition's
-room : (c : goal.After-mark) → let a = c.args in
+room : (c : After-mark) → let a = c.args in
     length (marks_to (seen_by a.t (record_at a.g a.dump.now)) a.g.layout.«data» a.o.0 a.h.0 a.pages) ≤ length (set a.rows.now 0 c.mark.result)
 room c = rw (length-set c.args.rows.now 0 c.mark.result) c.requires.pages_in_bounds
 
-made : (c : goal.After-put-arg-1) → let q = c.loop-i in
+made : (c : After-put-arg-1) → let q = c.loop-i in
     let a = c.args in
     marks_in c.marks_of-made.result ≡ marks_of a.g.layout.«data» a.o.0 a.h.0 q.i (seen_by a.t (record_at a.g a.dump.now) q.i)
 made c = rw (← c.seen_at.ensures) c.marks_of-made.ensures

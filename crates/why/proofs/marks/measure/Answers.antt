@@ -17,6 +17,7 @@ use Rattle.chunk.proofs.Gathering.{end_none, end_other, end_step}
 use Rattle.why.specs.Marks.{marks_to}
 use Rattle.why.proofs.Putting.{count_none, count_more, marks_same, marks_few}
 use Rattle.why.proofs.marks.measure.Goals as goal
+use Rattle.why.proofs.marks.measure.Goals.{After-count-marks}
 
 pub loop-i-init : goal.loop-i-init
 loop-i-init c =
@@ -42,7 +43,7 @@ pub marks_of-made-requires : goal.marks_of-made-requires
 marks_of-made-requires c = record { p_lt_page_values = omega (arith, c.loop-i-test.true, c.requires.pages_lt_page_values); data_le_most_data = c.requires.data_bound }
 
 -- with those of the page they are one page more's
-counted : (c : goal.After-count-marks) → c.loop-i.marks + c.count-marks.result ≡ length (let a = c.args in marks_to (seen_by c.args.t (record_at c.args.g c.args.dump.now)) a.g.layout.«data» a.o.0 a.h.0 (c.loop-i.i + 1))
+counted : (c : After-count-marks) → c.loop-i.marks + c.count-marks.result ≡ length (let a = c.args in marks_to (seen_by c.args.t (record_at c.args.g c.args.dump.now)) a.g.layout.«data» a.o.0 a.h.0 (c.loop-i.i + 1))
 counted c =
     let a = c.args in
     rw (c.loop-i.invariant.1.0, c.count-marks.ensures, c.marks_of-made.ensures, c.seen_at-r.ensures)

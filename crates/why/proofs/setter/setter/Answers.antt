@@ -16,6 +16,7 @@ use Rattle.chunk.proofs.Gathering.{where_none, where_skip, where_take, later_in_
 use Rattle.why.specs.Reasons.{sets_by}
 use Rattle.why.proofs.Setting.{unnamed_sets, setter_none, setter_some}
 use Rattle.why.proofs.setter.setter.Goals as goal
+use Rattle.why.proofs.setter.setter.Goals.{After-order_of-age}
 use Rattle.why.proofs.setter.setter.Invariants.{sets}
 
 pub loop-i-init : goal.loop-i-init
@@ -60,7 +61,7 @@ loop-i-preserved c =
     )
 
 -- the age that is searched above is that of the newest header
-known : (c : goal.After-order_of-age) → let a = c.args in
+known : (c : After-order_of-age) → let a = c.args in
     c.order_of-age.result ≡ age_of (seen_by a.t (record_at a.g a.dump.now)) a.h.0
 known c = rw (← c.seen_at.ensures, ← c.sequence_of.ensures) c.order_of-age.ensures
 

@@ -10,6 +10,7 @@ use Rattle.chunk.proofs.Gathering.{in_none, in_some}
 use Rattle.why.specs.Answers.{filed_by, filed_in}
 use Rattle.why.proofs.Filing.{filed_none, filed_headless, filed_at}
 use Rattle.why.proofs.spans.file_in.Goals as goal
+use Rattle.why.proofs.spans.file_in.Goals.{In-Nothing-1}
 
 pub returns-then-is_missing : goal.returns-then-is_missing
 unfolding filed_in
@@ -20,7 +21,7 @@ unfolding filed_in
 returns-then-is_bad c = rw (← c.is_missing.ensures, c.if-is_missing.false, ← c.is_bad.ensures, c.if-is_bad.true)
 
 -- behind both tests the file of the object decides
-behind : (w : goal.In-Nothing-1) → let a = w.args in
+behind : (w : In-Nothing-1) → let a = w.args in
     let says = seen_by a.t (record_at a.g a.dump.now) in
     filed_by (file_of says a.o.0 a.pages) ≡ filed_in says a.pages a.m a.o.0
 unfolding filed_in

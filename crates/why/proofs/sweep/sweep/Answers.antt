@@ -11,12 +11,13 @@ use Rattle.why.specs.Sweeps.{reason_seen}
 use Rattle.sort.proofs.Clearing.{clear_inside}
 use Rattle.why.proofs.InPlace.{Swept, SeenBelow, taken_below, sweep_none, mark_inside, code_below, sweep_goes, sweep_past, sweep_same, sweep_row, sweep_end}
 use Rattle.why.proofs.sweep.sweep.Goals as goal
+use Rattle.why.proofs.sweep.sweep.Goals.{After-place_of-x}
 
 pub bounds-rows-j : goal.bounds-rows-j
 bounds-rows-j c = omega (arith, c.loop-j.invariant.long, c.requires.count_in_bounds, c.loop-j-test.true)
 
 -- the place of the mark is before the last
-inside : (c : goal.After-place_of-x) → c.place_of-x.result < places
+inside : (c : After-place_of-x) → c.place_of-x.result < places
 inside c =
     let q = c.loop-j in
     rw c.place_of-x.ensures

@@ -7,9 +7,10 @@ use Rattle.page.specs.Lengths.{whole_blocks}
 use Rattle.page.proofs.Layouts.{product_le, product_pos, Roomy, roomy_facts}
 use Rattle.page.proofs.Lengths.{block_some, block_most}
 use Rattle.page.proofs.geometry.Geometry.divides.Goals as goal
+use Rattle.page.proofs.geometry.Geometry.divides.Goals.{After-page_len}
 
 -- the layout's facts
-room : (c : goal.After-page_len) → Roomy c.args.self.layout
+room : (c : After-page_len) → Roomy c.args.self.layout
 room c = roomy_facts c.args.self.layout c.requires.layout_value
 
 pub overflow_mul-block : goal.overflow_mul-block

@@ -11,6 +11,7 @@ use Rattle.page.specs.declared.layout.Layout.{Layout}
 use Rattle.page.proofs.Layouts.{listed_roomy, roomy_facts}
 use Rattle.page.proofs.Lengths.{length_most}
 use Rattle.page.proofs.geometry.Geometry.opened_of.Goals as goal
+use Rattle.page.proofs.geometry.Geometry.opened_of.Goals.{Else-not-length_fits}
 
 pub returns-then-number-ge-COUNT : goal.returns-then-number-ge-COUNT
 unfolding opened_of
@@ -24,7 +25,7 @@ pub returns-then-not-length_fits : goal.returns-then-not-length_fits
 unfolding opened_of
 returns-then-not-length_fits c = rw (← c.number.ensures, lt-leb _ _ c.if-number-ge-COUNT.false, ← c.block_fits.ensures, c.if-not-block_fits.false, ← c.length_fits.ensures, c.if-not-length_fits.true)
 
-has_room : (c : goal.Else-not-length_fits) → roomy (let a = c.args in layout_of a.«data» a.spare a.tag) ≡ true
+has_room : (c : Else-not-length_fits) → roomy (let a = c.args in layout_of a.«data» a.spare a.tag) ≡ true
 has_room c = listed_roomy (let a = c.args in layout_of a.«data» a.spare a.tag) (rw (← c.number.ensures) c.if-number-ge-COUNT.false)
 
 pub divides-requires : goal.divides-requires
