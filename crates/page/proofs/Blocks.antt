@@ -10,8 +10,6 @@ use native.Mathlib.Numerals.{add-one}
 use native.Mathlib.Omega.{arith}
 use lib.Arith.{mod-mul}
 use lib.Dec.{eqb, ltb}
-use types.Run.{OneOf, miss}
-use denote.Enum.Declared.{tag_of}
 use borrow.Author.Tests.{eqb-true, eq-eqb, ne_eqb}
 use Rattle.page.specs.Choice.{pick}
 use Rattle.page.specs.Search.{count}
@@ -21,29 +19,26 @@ use Rattle.page.specs.Lengths.{whole_blocks, page_count}
 use Rattle.page.specs.Tags.{blank_sequence, least_sequence, most_sequence, is_typed, object_in, header_claim, data_claim, claim_of}
 use Rattle.page.specs.Find.{is_good, sequence_of, is_marked, bears_sequence, first_sequence, block_sequence, is_scored, score_of, marked_at, marked_of}
 use Rattle.page.specs.declared.geometry.Geometry.{Geometry}
+use Rattle.page.specs.declared.number.ObjectId.{ObjectId}
+use Rattle.page.specs.declared.record.Data as datum
 use Rattle.page.specs.declared.tags.Tags.{Tags}
 use Rattle.page.specs.declared.tags.Claim.{Claim}
 use Rattle.page.specs.declared.tags.Claim.TheVariants.{Blank, Foreign, Damaged, Header, Data}
-use Rattle.page.specs.contracts.tags.Claim.{the_type}
-use Rattle.page.proofs.Arms.{all_but, before}
 use Rattle.page.proofs.Searching.{clash, by_test, count_step, count_none, count_le}
 use Rattle.page.proofs.Layouts.{product_pos}
 
--- a header, by which the number of its variant is named: the good variants are the last two
-abbrev some_header : Claim
-some_header = Header 0 (record { 0 = 0 })
-
 -- a page is not good where neither good case was met
-pub not_good : (c : Claim) → OneOf (before (tag_of the_type some_header)) (tag_of the_type c) → is_good c ≡ false
-not_good Blank h = refl
-not_good Foreign h = refl
-not_good Damaged h = refl
-not_good (Header s o) h = absurd (miss (before (tag_of the_type some_header)) (tag_of the_type some_header) tt h)
-not_good (Data d) h = absurd (miss (before (tag_of the_type some_header)) (tag_of the_type (Data d)) tt h)
+pub not_good :
+    (c : Claim) → ((s : ℕ) → (o : ObjectId) → c ≡ Header s o → ⊥) → ((d : datum.Data) → c ≡ Data d → ⊥) → is_good c ≡ false
+not_good Blank h d = refl
+not_good Foreign h d = refl
+not_good Damaged h d = refl
+not_good (Header s o) h d = absurd (h s o refl)
+not_good (Data e) h d = absurd (d e refl)
 
 -- and marked where the blank case was not
-pub not_blank : (c : Claim) → OneOf (all_but (tag_of the_type Blank) 5) (tag_of the_type c) → is_marked c ≡ true
-not_blank Blank h = absurd (miss (all_but (tag_of the_type Blank) 5) (tag_of the_type Blank) tt h)
+pub not_blank : (c : Claim) → (c ≡ Blank → ⊥) → is_marked c ≡ true
+not_blank Blank h = absurd (h refl)
 not_blank Foreign h = refl
 not_blank Damaged h = refl
 not_blank (Header s o) h = refl

@@ -5,8 +5,6 @@ use mathlib.Core.List.{List}
 use mathlib.Core.Path.{◌≡◌, refl}
 use lib.ListN.{length}
 use native.Mathlib.Omega.{arith}
-use types.Run.{OneOf, miss}
-use denote.Enum.Declared.{tag_of}
 use Rattle.page.specs.Layouts.{header_bytes}
 use Rattle.page.specs.Lengths.{page_in, placed_of}
 use Rattle.page.specs.Kinds.{kind_at, told_in, told_of}
@@ -25,10 +23,7 @@ use Rattle.page.specs.declared.record.Header as header
 use Rattle.page.specs.declared.record.Data as «data»
 use Rattle.page.specs.declared.record.Record.{Record}
 use Rattle.page.specs.declared.record.Record.TheVariants as recorded
-use Rattle.page.specs.contracts.record.Record as rec
 use Rattle.page.specs.declared.header.Asked.TheVariants as asked
-use Rattle.page.specs.contracts.kind.Kind.{the_type}
-use Rattle.page.proofs.Arms.{all_but}
 use Rattle.page.proofs.Searching.{clash, by_test, pick_cases}
 
 -- every field that is bytes lies in the header
@@ -37,33 +32,24 @@ text_fits Name = omega arith
 text_fits Alias = omega arith
 text_fits Reserved = omega arith
 
--- a header and a data page that say nothing, by which the numbers of their variants are named
-abbrev pub some_header : header.Header
-some_header = record { sequence = 0; object = record { 0 = 0 }; page_type = 0; parent = record { 0 = 0 }; size = 0; shrink = false }
-
-abbrev pub some_data : «data».Data
-some_data = record { sequence = 0; object = record { 0 = 0 }; chunk = record { 0 = 0 }; count = 0 }
-
 -- what a `let .. else` on a header leaves: no header
-pub else_kind_header : (k : Kind) → OneOf (all_but (tag_of the_type (Header some_header)) 5) (tag_of the_type k) → is_header k ≡ false
+pub else_kind_header : (k : Kind) → ((h : header.Header) → k ≡ Header h → ⊥) → is_header k ≡ false
 else_kind_header Blank h = refl
 else_kind_header Foreign h = refl
 else_kind_header Damaged h = refl
-else_kind_header (Header s) h = absurd (miss (all_but (tag_of the_type (Header some_header)) 5) (tag_of the_type (Header some_header)) tt h)
+else_kind_header (Header s) h = absurd (h s refl)
 else_kind_header (Data d) h = refl
 
 -- the same of a record: no header, and no data page
-pub else_header : (r : Record) → OneOf (all_but (tag_of rec.the_type (recorded.Header some_header)) 3) (tag_of rec.the_type r) → records.is_header r ≡ false
+pub else_header : (r : Record) → ((h : header.Header) → r ≡ recorded.Header h → ⊥) → records.is_header r ≡ false
 else_header recorded.Other h = refl
-else_header (recorded.Header s) h =
-    absurd (miss (all_but (tag_of rec.the_type (recorded.Header some_header)) 3) (tag_of rec.the_type (recorded.Header some_header)) tt h)
+else_header (recorded.Header s) h = absurd (h s refl)
 else_header (recorded.Data d) h = refl
 
-pub else_data : (r : Record) → OneOf (all_but (tag_of rec.the_type (recorded.Data some_data)) 3) (tag_of rec.the_type r) → records.is_data r ≡ false
+pub else_data : (r : Record) → ((d : «data».Data) → r ≡ recorded.Data d → ⊥) → records.is_data r ≡ false
 else_data recorded.Other h = refl
 else_data (recorded.Header s) h = refl
-else_data (recorded.Data d) h =
-    absurd (miss (all_but (tag_of rec.the_type (recorded.Data some_data)) 3) (tag_of rec.the_type (recorded.Data some_data)) tt h)
+else_data (recorded.Data d) h = absurd (h d refl)
 
 module _ (g : Geometry) (dump : List ℕ) (i : ℕ) where
   -- a header lies in the dump

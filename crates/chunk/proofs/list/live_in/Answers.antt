@@ -20,7 +20,7 @@ loop-i-preserved-in_default c =
     let q = c.loop-i in
     let a = c.args in
     let says = record_at a.g a.dump.now in
-    let h : is_header (says q.i) ≡ false = rw (← c.record_at-r.ensures) (else_header c.record_at-r.result c.in_default.keys2) in
+    let h : is_header (says q.i) ≡ false = rw (← c.record_at-r.ensures) (else_header c.record_at-r.result c.in_default.not-Header) in
     (search rules, search rules, q.invariant.2 ∙ sym (count_skip _ q.i (live_other says a.pages q.i h)))
 
 pub loop-i-preserved-then-not-is_live : goal.loop-i-preserved-then-not-is_live

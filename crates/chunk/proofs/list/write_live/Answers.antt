@@ -20,7 +20,7 @@ loop-i-preserved-in_default c =
     let q = c.loop-i in
     let a = c.args in
     let says = record_at a.g a.dump.now in
-    let h : is_header (says q.i) ≡ false = rw (← c.record_at-r.ensures) (else_header c.record_at-r.result c.in_default.keys2) in
+    let h : is_header (says q.i) ≡ false = rw (← c.record_at-r.ensures) (else_header c.record_at-r.result c.in_default.not-Header) in
     let t = live_other says a.pages q.i h in
     (search rules, listed_skip q.invariant.1 t)
 

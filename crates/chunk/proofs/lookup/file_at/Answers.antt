@@ -10,7 +10,7 @@ use Rattle.chunk.proofs.lookup.file_at.Goals as goal
 pub returns-in_default : goal.returns-in_default
 returns-in_default c =
     let a = c.args in
-    sym (other_file a.r a.h.0 a.visits (else_header a.r c.in_default.keys2))
+    sym (other_file a.r a.h.0 a.visits (else_header a.r c.in_default.not-Header))
 
 pub returns-then-gone_under : goal.returns-then-gone_under
 unfolding file_at

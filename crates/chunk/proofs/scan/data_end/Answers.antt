@@ -31,7 +31,7 @@ loop-i-preserved-in_default c =
     let q = c.loop-i in
     let a = c.args in
     let says = seen_by a.t (record_at a.g a.dump.now) in
-    let t : is_data (says q.i) ≡ false = rw (← c.seen_at-r.ensures) (else_data c.seen_at-r.result c.in_default.keys2) in
+    let t : is_data (says q.i) ≡ false = rw (← c.seen_at-r.ensures) (else_data c.seen_at-r.result c.in_default.not-Data) in
     (search rules, q.invariant.1 ∙ sym (end_skip says a.g.layout.«data» a.o.0 a.age q.i t))
 
 pub loop-i-preserved : goal.loop-i-preserved

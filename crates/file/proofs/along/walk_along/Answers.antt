@@ -25,7 +25,7 @@ loop-i-preserved-then-not-is_header c =
     let says = record_at a.g a.dump.now in
     let r = c.record_at-r.result in
     let h = sym c.is_header.ensures ∙ c.if-not-is_header.true in
-    let e = rw c.value_of.ensures at (sym c.record_at-r.ensures ∙ said_other r h (else_data r c.in_default.keys2)) in (
+    let e = rw c.value_of.ensures at (sym c.record_at-r.ensures ∙ said_other r h (else_data r c.in_default.not-Data)) in (
       omega (arith, c.loop-i-test.true),
       under_other says a.g.layout.«data» a.chunks a.size a.n (length a.list.now) _ _ q.rows q.newest q.cut q.copies _ q.invariant.1
           _ _ (from_on a.list.now q.i c.loop-i-test.true) e,

@@ -26,7 +26,7 @@ returns-then-pages-p c = sym (add_far _ _ _ _ _ (rw c.cells_for.ensures at c.if-
 
 pub returns-in_default-r : goal.returns-in_default-r
 returns-in_default-r c =
-    let none = other_none c.record_at-r.result (else_header c.record_at-r.result c.in_default.keys2) (else_data c.record_at-r.result c.in_default-r.keys2) in
+    let none = other_none c.record_at-r.result (else_header c.record_at-r.result c.in_default.not-Header) (else_data c.record_at-r.result c.in_default-r.not-Data) in
     c.add_other.ensures
     ∙ sym (add_other_lem _ _ _ _ _ (rw c.cells_for.ensures at c.if-cells-cells_for.false) c.if-pages-p.false (rw c.record_at-r.ensures at none))
 

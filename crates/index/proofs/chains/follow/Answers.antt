@@ -22,7 +22,7 @@ returns-then-pages-q c = rw (lead_outside _ _ _ _ _ _ c.if-link-lt-LINKS.false c
 pub returns-in_default-r : goal.returns-in_default-r
 unfolding step_of
 returns-in_default-r c =
-    let none = other_none c.record_at-r.result (else_header c.record_at-r.result c.in_default-r.keys2) (else_data c.record_at-r.result c.in_default.keys2) in
+    let none = other_none c.record_at-r.result (else_header c.record_at-r.result c.in_default-r.not-Header) (else_data c.record_at-r.result c.in_default.not-Data) in
     rw (lead_none _ _ _ _ _ _ c.if-link-lt-LINKS.false c.if-pages-q.false (rw c.record_at-r.ensures at none))
 
 pub returns-in_default : goal.returns-in_default

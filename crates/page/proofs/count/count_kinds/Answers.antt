@@ -2,7 +2,6 @@
 use native.Mathlib.Omega.{arith}
 use lib.ListN.{length}
 use Rattle.page.proofs.Lengths.{opened_most}
-use borrow.Author.Rules.{rules}
 use Rattle.page.specs.Counts.{counted_of, counted_in}
 use Rattle.page.proofs.count.count_kinds.Goals as goal
 

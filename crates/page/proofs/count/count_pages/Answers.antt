@@ -1,4 +1,4 @@
-use Prim.Native.Nat.{◌≤◌, ◌-◌, ◌^◌}
+use Prim.Native.Nat.{◌^◌}
 use mathlib.Core.Path.{◌≡◌}
 use native.Mathlib.Omega.{arith}
 use borrow.Author.Rules.{rules}
@@ -24,3 +24,7 @@ returns c =
     let a = c.args in
     let e : c.loop-i.i ≡ a.pages = omega arith in
     cc
+
+pub loop-i-init : goal.loop-i-init
+unfolding counts_below count
+loop-i-init c = search rules

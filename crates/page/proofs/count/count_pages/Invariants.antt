@@ -1,11 +1,7 @@
 -- The loop's invariant: the counts of the pages passed.
-use Prim.Native.Nat.{◌≤◌, ◌-◌, ◌^◌}
+use Prim.Native.Nat.{◌≤◌, ◌-◌}
 use mathlib.Core.Path.{◌≡◌}
-use native.Mathlib.Omega.{arith}
-use borrow.Author.Rules.{rules}
-use Rattle.page.specs.Search.{count}
 use Rattle.page.specs.Counts.{counts_below}
-use Rattle.page.proofs.Counting.{counts_next, counts_at_most}
 use Rattle.page.proofs.count.count_pages.Given as goal
 
 abbrev pub invariant-loop-i : goal.invariant-loop-i

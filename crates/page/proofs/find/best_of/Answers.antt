@@ -1,4 +1,4 @@
-use Prim.Native.Nat.{◌+◌, ◌-◌, ◌^◌, ◌<◌, ◌≤◌}
+use Prim.Native.Nat.{◌+◌, ◌-◌, ◌^◌, ◌<◌}
 use mathlib.Core.Bool.{true}
 use mathlib.Core.Path.{◌≡◌, sym, ◌∙◌}
 use native.Mathlib.Omega.{arith}
@@ -9,7 +9,7 @@ use Rattle.page.specs.Leaving.{in_turn}
 use Rattle.page.proofs.Layouts.{row_roomy, roomy_facts}
 use Rattle.page.proofs.Lengths.{block_some}
 use Rattle.page.proofs.Blocks.{through_ends}
-use Rattle.page.proofs.Leading.{in_turn_twice, in_turn_listed, Leads, leads_none, need_some, leads_still, leads_now, Won, leads_won, won_named, won_refused}
+use Rattle.page.proofs.Leading.{in_turn_twice, in_turn_listed, leads_none, need_some, leads_still, leads_now, Won, leads_won, won_named, won_refused}
 use Rattle.page.proofs.Leaving.{Underway, under_none, under_on, under_lost, under_won, under_fits}
 use Rattle.page.proofs.find.best_of.Goals as goal
 use Rattle.page.proofs.find.best_of.Goals.{After-in_turn-n, After-row, After-need_of-need, At-blocks-2, Else-next-pages, After-gain_in-gain}
@@ -30,7 +30,7 @@ room c =
     rw c.row.ensures (row_roomy c.in_turn-n.result listed)
 
 pub pages_under-pages-requires : goal.pages_under-pages-requires
-pages_under-pages-requires c = (room c, c.requires)
+pages_under-pages-requires c = record { layout_value = room c; block_value = c.requires.k_value; len_value = c.requires.dump_value }
 
 -- something is needed to lead
 some : (c : After-need_of-need) → 0 < c.need_of-need.result
@@ -38,24 +38,22 @@ some c = rw (c.need_of-need.ensures, c.in_turn-n.ensures) (need_some c.candidate
 
 pub blocks-2-init : goal.blocks-2-init
 blocks-2-init c =
-    let size = roomy_facts c.row.result (room (goal.at.blocks-2-init c).After-row) in (
-      search rules,
-      under_none c.args.dump.now c.args.k c.in_turn-n.result (record { layout = c.row.result; block = c.args.k }) c.pages_under-pages.result
-          (rw c.row.ensures) c.pages_under-pages.ensures (block_some c.args.k c.requires.k_value) (omega arith) c.requires.dump_value,
-    )
+    let size = roomy_facts c.row.result (room (goal.at.blocks-2-init c).After-row) in
+    under_none c.args.dump.now c.args.k c.in_turn-n.result (record { layout = c.row.result; block = c.args.k }) c.pages_under-pages.result
+    (rw c.row.ensures) c.pages_under-pages.ensures (block_some c.args.k c.requires.k_value) (omega arith) c.requires.dump_value
 
 pub overflow_sub-pages : goal.overflow_sub-pages
-overflow_sub-pages c = c.blocks-2.invariant.1.through.within
+overflow_sub-pages c = c.blocks-2.invariant.through.within
 
 pub is_lost-requires : goal.is_lost-requires
-is_lost-requires c = (under_fits c.blocks-2.invariant.1).0
+is_lost-requires c = (under_fits c.blocks-2.invariant).0
 
 -- a turn ends
-turn-less : (c : At-blocks-2) → 13 - (c.blocks-2.turn + 1) < 13 - c.candidates.turn
-turn-less c = omega (arith, c.blocks-2.invariant.0, c.candidates-test.true)
+turn-less : (c : At-blocks-2) → 13 - (c.candidates.turn + 1) < 13 - c.candidates.turn
+turn-less c = omega (arith, c.candidates-test.true)
 
-turn_few : (c : At-blocks-2) → c.blocks-2.turn + 1 < 2 ^ 32
-turn_few c = omega (arith, c.blocks-2.invariant.0, c.candidates-test.true)
+turn_few : (c : At-blocks-2) → c.candidates.turn + 1 < 2 ^ 32
+turn_few c = omega (arith, c.candidates-test.true)
 
 pub overflow_step-turn : goal.overflow_step-turn
 overflow_step-turn c = omega (arith, turn_few (goal.at.overflow_step-turn c).At-blocks-2)
@@ -65,27 +63,27 @@ candidates-smaller-then-is_lost c = turn-less (goal.at.candidates-smaller-then-i
 
 pub candidates-preserved-then-is_lost : goal.candidates-preserved-then-is_lost
 candidates-preserved-then-is_lost c =
-    let low = under_lost c.blocks-2.invariant.1 c.need_of-need.result (some (goal.at.candidates-preserved-then-is_lost c).After-need_of-need) (sym c.is_lost.ensures ∙ c.if-is_lost.true) in (
-      omega (arith, c.blocks-2.invariant.0, c.candidates-test.true),
+    let low = under_lost c.blocks-2.invariant c.need_of-need.result (some (goal.at.candidates-preserved-then-is_lost c).After-need_of-need) (sym c.is_lost.ensures ∙ c.if-is_lost.true) in (
+      omega (arith, c.candidates-test.true),
       c.candidates.invariant.1,
-      rw c.blocks-2.invariant.0 (leads_still c.candidates.invariant.2 (rw (c.need_of-need.ensures, c.in_turn-n.ensures) at low)),
+      (leads_still c.candidates.invariant.2 (rw (c.need_of-need.ensures, c.in_turn-n.ensures) at low)),
     )
 
 -- blocks are left
 more : (c : Else-next-pages) → c.blocks-2.next < c.pages_under-pages.result
-more c = let t = c.blocks-2.invariant.1.through in omega (arith, t.within, c.if-next-pages.false)
+more c = let t = c.blocks-2.invariant.through in omega (arith, t.within, c.if-next-pages.false)
 
 pub gain_in-gain-requires : goal.gain_in-gain-requires
 gain_in-gain-requires c =
-    let t = c.blocks-2.invariant.1.through in
+    let t = c.blocks-2.invariant.through in
     record { block_value = t.starts; block_bound = omega (arith, t.few, through_ends t (more c)) }
 
 -- the candidate, one block on
 on : (c : After-gain_in-gain) → let a = c.args in
     Underway a.dump.now a.k c.in_turn-n.result (record { layout = c.row.result; block = a.k }) c.pages_under-pages.result (c.blocks-2.next + a.k) (c.blocks-2.score + c.gain_in-gain.result.score) (c.blocks-2.marked + c.gain_in-gain.result.marked)
 on c =
-    let more : c.blocks-2.next < c.pages_under-pages.result = let t = c.blocks-2.invariant.1.through in omega (arith, t.within, c.if-next-pages.false) in
-    under_on c.blocks-2.invariant.1 c.gain_in-gain.result more c.gain_in-gain.ensures
+    let more : c.blocks-2.next < c.pages_under-pages.result = let t = c.blocks-2.invariant.through in omega (arith, t.within, c.if-next-pages.false) in
+    under_on c.blocks-2.invariant c.gain_in-gain.result more c.gain_in-gain.ensures
 
 pub overflow_add-next : goal.overflow_add-next
 overflow_add-next c = omega (arith, (under_fits (on c)).3)
@@ -97,10 +95,10 @@ pub overflow_add-marked : goal.overflow_add-marked
 overflow_add-marked c = omega (arith, (under_fits (on (goal.at.overflow_add-marked c).After-gain_in-gain)).2)
 
 pub blocks-2-smaller : goal.blocks-2-smaller
-blocks-2-smaller c = omega (arith, c.blocks-2.invariant.1.through.some, more (goal.at.blocks-2-smaller c).Else-next-pages)
+blocks-2-smaller c = omega (arith, c.blocks-2.invariant.through.some, more (goal.at.blocks-2-smaller c).Else-next-pages)
 
 pub blocks-2-preserved : goal.blocks-2-preserved
-blocks-2-preserved c = (c.blocks-2.invariant.0, on (goal.at.blocks-2-preserved c).After-gain_in-gain)
+blocks-2-preserved c = on (goal.at.blocks-2-preserved c).After-gain_in-gain
 
 pub overflow_step-turn-in-candidates : goal.overflow_step-turn-in-candidates
 overflow_step-turn-in-candidates c = omega (arith, turn_few (goal.at.overflow_step-turn-in-candidates c).At-blocks-2)
@@ -110,10 +108,10 @@ candidates-smaller c = turn-less (goal.at.candidates-smaller c).At-blocks-2
 
 pub candidates-preserved : goal.candidates-preserved
 candidates-preserved c =
-    let high = under_won c.blocks-2.invariant.1 c.need_of-need.result c.if-next-pages.true (sym c.is_lost.ensures ∙ c.if-is_lost.false) in (
-      omega (arith, c.blocks-2.invariant.0, c.candidates-test.true),
-      (under_fits c.blocks-2.invariant.1).1,
-      rw (c.blocks-2.invariant.0, ← high.1, c.in_turn-n.ensures)
+    let high = under_won c.blocks-2.invariant c.need_of-need.result c.if-next-pages.true (sym c.is_lost.ensures ∙ c.if-is_lost.false) in (
+      omega (arith, c.candidates-test.true),
+      (under_fits c.blocks-2.invariant).1,
+      rw (← high.1, c.in_turn-n.ensures)
           (leads_now c.candidates.invariant.2 (rw c.in_turn-n.ensures at (listed (goal.at.candidates-preserved c).After-in_turn-n)) (rw (c.need_of-need.ensures, ← high.1, c.in_turn-n.ensures) at high.0)),
     )
 

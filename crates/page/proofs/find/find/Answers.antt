@@ -1,6 +1,4 @@
 -- The refusals come in the definition's order, and leave what the search asks.
-use borrow.Author.Rules.{rules}
-use borrow.Author.Tests.{not-false}
 use Rattle.page.specs.Find.{find_of}
 use Rattle.page.proofs.find.find.Goals as goal
 

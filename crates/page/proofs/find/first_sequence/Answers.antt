@@ -1,10 +1,10 @@
-use Prim.Native.Nat.{◌≤◌, ◌-◌, ◌+◌}
+use Prim.Native.Nat.{◌+◌}
 use mathlib.Core.Bool.{true, false}
 use mathlib.Core.Path.{◌≡◌, sym, ◌∙◌}
 use native.Mathlib.Nat.{add-sub_cancel_left}
 use borrow.Author.Rules.{rules}
 use Rattle.page.specs.Tags.{claim_at}
-use Rattle.page.specs.Find.{is_good, first_sequence}
+use Rattle.page.specs.Find.{is_good}
 use Rattle.page.proofs.Blocks.{not_good, sequence_here, sequence_next, sequence_end}
 use Rattle.page.proofs.find.first_sequence.Goals as goal
 
@@ -16,7 +16,7 @@ loop-i-preserved c =
     let q = c.loop-i in
     let a = c.args in
     let said = claim_at a.g a.dump.now in
-    let g : is_good (said q.i) ≡ false = rw (← c.claim_at-claim.ensures) (not_good c.claim_at-claim.result c.in_default.keys3) in
+    let g : is_good (said q.i) ≡ false = rw (← c.claim_at-claim.ensures) (not_good c.claim_at-claim.result c.in_default.not-Header c.in_default.not-Data) in
     (search rules, q.invariant.1 ∙ sequence_next said q.i (a.block + a.g.block) c.if-end-i.false g)
 
 pub returns-then-end-i : goal.returns-then-end-i

@@ -1,12 +1,8 @@
 -- The loop's invariant: the search from the block's start and the search from here find the same sequence.
-use Prim.Native.Nat.{◌≤◌, ◌-◌, ◌+◌}
-use mathlib.Core.Bool.{true, false}
-use mathlib.Core.Path.{◌≡◌, sym, ◌∙◌}
-use native.Mathlib.Nat.{add-sub_cancel_left}
-use borrow.Author.Rules.{rules}
+use Prim.Native.Nat.{◌≤◌, ◌-◌}
+use mathlib.Core.Path.{◌≡◌}
 use Rattle.page.specs.Tags.{claim_at}
-use Rattle.page.specs.Find.{is_good, first_sequence}
-use Rattle.page.proofs.Blocks.{not_good, sequence_here, sequence_next, sequence_end}
+use Rattle.page.specs.Find.{first_sequence}
 use Rattle.page.proofs.find.first_sequence.Given as goal
 
 abbrev pub invariant-loop-i : goal.invariant-loop-i

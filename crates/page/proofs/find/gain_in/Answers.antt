@@ -1,12 +1,12 @@
-use Prim.Native.Nat.{◌≤◌, ◌-◌, ◌+◌}
+use Prim.Native.Nat.{◌+◌}
 use mathlib.Core.Path.{◌≡◌, sym, ◌∙◌}
-use mathlib.Core.Logic.{⊎_elim}
 use native.Mathlib.Omega.{arith}
 use borrow.Author.Rules.{rules}
 use Rattle.page.specs.Tags.{claim_at}
-use Rattle.page.specs.Find.{is_scored, score_of, marked_at, marked_of}
+use Rattle.page.specs.Find.{is_scored, marked_at}
 use Rattle.page.proofs.Blocks.{tally_yes, tally_no, tally_le, scored_in_block}
 use Rattle.page.proofs.find.gain_in.Goals as goal
+use Rattle.page.proofs.find.gain_in.Goals.{then-bears, else-bears, then-is_marked, else-is_marked}
 
 pub loop-i-init : goal.loop-i-init
 loop-i-init c = (search rules, search rules, omega arith, omega arith)
@@ -34,14 +34,14 @@ loop-i-preserved c =
     let m : marked c.loop-i.i ≡ c.is_marked.result = rw (← c.claim_at.ensures) (sym c.is_marked.ensures) in (
       search rules,
       search rules,
-      ⊎_elim
-          (λ w. rw w.1 (tally_yes score a.block c.loop-i.i c.loop-i.score c.loop-i.invariant.2 (t ∙ w.0.taken)))
-          (λ w. rw w.1 (tally_no score a.block c.loop-i.i c.loop-i.score c.loop-i.invariant.2 (t ∙ w.0.left)))
-          c.if-bears.branch,
-      ⊎_elim
-          (λ w. rw w.1 (tally_yes marked a.block c.loop-i.i c.loop-i.marked c.loop-i.invariant.3 (m ∙ w.0.taken)))
-          (λ w. rw w.1 (tally_no marked a.block c.loop-i.i c.loop-i.marked c.loop-i.invariant.3 (m ∙ w.0.left)))
-          c.if-is_marked.branch,
+      elim c.if-bears.branch [
+        | then-bears w ↦ rw w.score-is (tally_yes score a.block c.loop-i.i c.loop-i.score c.loop-i.invariant.2 (t ∙ w.if-bears.true))
+        | else-bears w ↦ rw w.score-is (tally_no score a.block c.loop-i.i c.loop-i.score c.loop-i.invariant.2 (t ∙ w.if-bears.false))
+      ],
+      elim c.if-is_marked.branch [
+        | then-is_marked w ↦ rw w.marked-is (tally_yes marked a.block c.loop-i.i c.loop-i.marked c.loop-i.invariant.3 (m ∙ w.if-is_marked.true))
+        | else-is_marked w ↦ rw w.marked-is (tally_no marked a.block c.loop-i.i c.loop-i.marked c.loop-i.invariant.3 (m ∙ w.if-is_marked.false))
+      ],
     )
 
 pub returns : goal.returns

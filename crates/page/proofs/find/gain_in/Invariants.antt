@@ -1,12 +1,8 @@
 -- The loop's invariant: what was counted so far is what the pages from the block's start to here add, since each page of the block has its sequence.
 use Prim.Native.Nat.{◌≤◌, ◌-◌, ◌+◌}
-use mathlib.Core.Path.{◌≡◌, sym, ◌∙◌}
-use mathlib.Core.Logic.{⊎_elim}
-use native.Mathlib.Omega.{arith}
-use borrow.Author.Rules.{rules}
+use mathlib.Core.Path.{◌≡◌}
 use Rattle.page.specs.Tags.{claim_at}
-use Rattle.page.specs.Find.{is_scored, score_of, marked_at, marked_of}
-use Rattle.page.proofs.Blocks.{tally_yes, tally_no, tally_le, scored_in_block}
+use Rattle.page.specs.Find.{score_of, marked_of}
 use Rattle.page.proofs.find.gain_in.Given as goal
 
 abbrev pub invariant-loop-i : goal.invariant-loop-i

@@ -1,11 +1,10 @@
-use Prim.Native.Nat.{ℕ, ◌*◌, ◌/◌, ◌-◌, ◌^◌, ◌<◌, ◌≤◌}
+use Prim.Native.Nat.{ℕ, ◌*◌, ◌/◌, ◌^◌, ◌<◌, ◌≤◌}
 use native.Mathlib.Nat.{div-mul-le_self, mul-le-mul_left, mul-mod_left, mul_right_comm}
 use native.Mathlib.Omega.{arith}
 use lib.ListN.{length}
 use borrow.Author.Rules.{rules}
 use Rattle.page.specs.Tags.{claim_at}
 use Rattle.page.specs.Find.{is_scored}
-use Rattle.page.specs.declared.geometry.Geometry.{Geometry}
 use Rattle.page.proofs.Layouts.{row_roomy}
 use Rattle.page.proofs.Lengths.{block_some, block_most}
 use Rattle.page.proofs.Leaving.{pages_few, count_by}
@@ -17,7 +16,7 @@ strides : (pages k i : ℕ) → i ≤ 8 → pages / 8 / k * k * i ≤ pages
 strides pages k i h = omega (arith, mul-le-mul_left (pages / 8 / k * k) h, div-mul-le_self (pages / 8) k, div-mul-le_self pages 8)
 
 pub pages_under-pages-requires : goal.pages_under-pages-requires
-pages_under-pages-requires c = (rw c.row.ensures (row_roomy c.args.n c.requires.n_lt_layouts), c.requires.k_value)
+pages_under-pages-requires c = record { layout_value = rw c.row.ensures (row_roomy c.args.n c.requires.n_lt_layouts); block_value = c.requires.k_value; len_value = c.requires.dump_value }
 
 -- its pages are few
 few : (c : Else-pages-eq0) → c.pages_under-pages.result < 2 ^ 31

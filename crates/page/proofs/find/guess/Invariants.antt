@@ -1,6 +1,5 @@
 -- The guess is a candidate of the table.
 use Prim.Native.Nat.{◌-◌, ◌≤◌, ◌<◌}
-use borrow.Author.Rules.{rules}
 use Rattle.page.proofs.find.guess.Given as goal
 
 abbrev pub invariant-loop-n : goal.invariant-loop-n

@@ -1,5 +1,4 @@
 -- The tests come in the definition's order.
-use borrow.Author.Rules.{rules}
 use Rattle.page.proofs.Tests.{cases}
 use Rattle.page.specs.Leaving.{is_lost}
 use Rattle.page.proofs.find.is_lost.Goals as goal

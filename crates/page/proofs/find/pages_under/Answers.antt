@@ -1,8 +1,6 @@
 -- A layout with room has no page length of 0, and few enough pages to count.
 use native.Mathlib.Nat.{div-le_self}
 use native.Mathlib.Omega.{arith}
-use borrow.Author.Rules.{rules}
-use borrow.Author.Tests.{not-true, not-false}
 use Rattle.page.specs.Leaving.{pages_under}
 use Rattle.page.proofs.Layouts.{roomy_facts}
 use Rattle.page.proofs.Lengths.{length_most}

@@ -1,5 +1,4 @@
 -- Each way through the matches is a case of the definition.
-use borrow.Author.Rules.{rules}
 use Rattle.page.specs.Asked.{asked_of, asked_by}
 use Rattle.page.proofs.header.ask_header.Goals as goal
 

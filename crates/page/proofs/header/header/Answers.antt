@@ -3,7 +3,6 @@ use mathlib.Core.Bool.{true}
 use mathlib.Core.Path.{◌≡◌, ap}
 use lib.ListN.{length}
 use native.Mathlib.Omega.{arith}
-use borrow.Author.Rules.{rules}
 use Rattle.page.specs.Lengths.{page_in}
 use Rattle.page.specs.Asked.{headed_of, headed_by}
 use Rattle.page.proofs.Layouts.{roomy_facts}

@@ -1,5 +1,4 @@
 -- A page that is a header lies in the dump.
-use borrow.Author.Rules.{rules}
 use Rattle.page.specs.Asked.{text_at, text_by}
 use Rattle.page.proofs.Sound.{asked_in}
 use Rattle.page.proofs.header.header_text.Goals as goal
@@ -11,7 +10,7 @@ text_on-requires c =
 
 pub returns-in-Refused : goal.returns-in-Refused
 unfolding text_at text_by
-returns-in-Refused c = rw (← c.ask_header-a.ensures, c.enum_told-1.given.1)
+returns-in-Refused c = rw (← c.ask_header-a.ensures, c.in-Refused.is)
 
 pub returns-in-Header : goal.returns-in-Header
 unfolding text_at text_by

@@ -1,6 +1,5 @@
 -- A page that is a header lies in the dump.
 use mathlib.Core.Path.{◌≡◌, sym, ◌∙◌}
-use borrow.Author.Rules.{rules}
 use Rattle.page.specs.Asked.{text_in}
 use Rattle.page.specs.Counts.{is_header}
 use Rattle.page.specs.Kinds.{kind_at}

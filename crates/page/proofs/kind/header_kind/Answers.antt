@@ -1,5 +1,4 @@
 -- The tests come in the definition's order, and the words are read where it says.
-use borrow.Author.Rules.{rules}
 use Rattle.page.specs.Kinds.{header_of}
 use Rattle.page.proofs.kind.header_kind.Goals as goal
 

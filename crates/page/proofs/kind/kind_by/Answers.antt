@@ -1,5 +1,4 @@
 -- Each arm of the match is a case of the definition.
-use borrow.Author.Rules.{rules}
 use Rattle.page.specs.Kinds.{kind_by}
 use Rattle.page.proofs.kind.kind_by.Goals as goal
 

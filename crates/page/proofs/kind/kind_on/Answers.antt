@@ -1,6 +1,5 @@
 -- The tags are read once, and say which kind the page is.
 use native.Mathlib.Omega.{arith}
-use borrow.Author.Rules.{rules}
 use Rattle.page.specs.Kinds.{kind_of}
 use Rattle.page.specs.Tags.{claim_on}
 use Rattle.page.proofs.Layouts.{roomy_facts}

@@ -1,5 +1,4 @@
 -- Each arm of the match is a case of the definition.
-use borrow.Author.Rules.{rules}
 use Rattle.page.specs.Kinds.{told_of, told_in}
 use Rattle.page.proofs.kind.page_kind.Goals as goal
 

@@ -1,6 +1,5 @@
 -- The record of the page's kind.
 use mathlib.Core.Path.{ap, ◌∙◌}
-use borrow.Author.Rules.{rules}
 use Rattle.page.specs.Records.{record_of, record_at}
 use Rattle.page.proofs.record.record_at.Goals as goal
 

@@ -2,8 +2,6 @@
 use mathlib.Core.Bool.{true}
 use mathlib.Core.Path.{◌≡◌}
 use lib.ListN.{length}
-use borrow.Author.Rules.{rules}
-use borrow.Author.Tests.{not-true, not-false}
 use Rattle.page.specs.Lengths.{page_in}
 use Rattle.page.specs.Tags.{names_at}
 use Rattle.page.proofs.tags.names_object.Goals as goal

@@ -3,7 +3,6 @@ use Prim.Native.Nat.{◌+◌, ◌*◌, ◌≤◌}
 use lib.ListN.{length}
 use native.Mathlib.Omega.{arith}
 use native.Mathlib.Nat.{add-sub_cancel_left}
-use borrow.Author.Rules.{rules}
 use Rattle.page.specs.Pages.{page_at}
 use Rattle.page.proofs.Lengths.{page_within}
 use Rattle.page.proofs.tags.page_at.Goals as goal

@@ -1,5 +1,4 @@
 -- The low word, and the high one 2^32 times.
-use borrow.Author.Rules.{rules}
 use Rattle.page.specs.Words.{le64}
 use Rattle.page.proofs.word.long_at.Goals as goal
 

@@ -35,7 +35,7 @@ loop-i-preserved-in_default c =
     let q = c.loop in
     let a = c.args in
     let says = says_by a.g a.dump.now a.t in
-    let t = page_no_child says a.heads.now q.i (rw said (else_header c.seen_at-r.result c.in_default.keys2)) in
+    let t = page_no_child says a.heads.now q.i (rw said (else_header c.seen_at-r.result c.in_default.not-Header)) in
     (search rules, rw (passed_skip (is_child says a.heads.now) (child_row says a.heads.now) q.i t) q.inv.1)
 
 pub loop-i-preserved-then-gone_under : goal.loop-i-preserved-then-gone_under

@@ -17,7 +17,7 @@ loop-i-preserved-in_default c =
     let q = c.loop-i in
     let a = c.args in
     let h : is_head (says_by a.g a.dump.now a.t) q.i ≡ false =
-    rw (← c.seen_at-r.ensures) (else_header c.seen_at-r.result c.in_default.keys2) in
+    rw (← c.seen_at-r.ensures) (else_header c.seen_at-r.result c.in_default.not-Header) in
     (search rules, search rules, q.invariant.2 ∙ sym (count_skip _ q.i h))
 
 pub loop-i-preserved : goal.loop-i-preserved

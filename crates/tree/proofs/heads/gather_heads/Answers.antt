@@ -20,7 +20,7 @@ loop-i-preserved-in_default c =
     let q = c.loop-i in
     let a = c.args in
     let says = says_by a.g a.dump.now a.t in
-    let h : is_head says q.i ≡ false = rw (← c.seen_at-r.ensures) (else_header c.seen_at-r.result c.in_default.keys2) in
+    let h : is_head says q.i ≡ false = rw (← c.seen_at-r.ensures) (else_header c.seen_at-r.result c.in_default.not-Header) in
     (search rules, rw (passed_skip (is_head says) (head_row says) q.i h) q.invariant.1)
 
 pub loop-i-preserved : goal.loop-i-preserved

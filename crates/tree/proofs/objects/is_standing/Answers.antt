@@ -9,7 +9,7 @@ use Rattle.tree.proofs.Standing.{other_standing, gone_standing, kept_standing}
 use Rattle.tree.proofs.objects.is_standing.Goals as goal
 
 pub returns-in_default : goal.returns-in_default
-returns-in_default c = sym (other_standing c.args.r (else_header c.args.r c.in_default.keys2))
+returns-in_default c = sym (other_standing c.args.r (else_header c.args.r c.in_default.not-Header))
 
 pub returns-then-gone_under : goal.returns-then-gone_under
 returns-then-gone_under c =

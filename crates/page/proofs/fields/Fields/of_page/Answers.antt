@@ -1,6 +1,5 @@
 -- Each number is read where the definition says; the last word ends the header.
 use native.Mathlib.Omega.{arith}
-use borrow.Author.Rules.{rules}
 use Rattle.page.specs.Headers.{fields_of}
 use Rattle.page.proofs.fields.Fields.of_page.Goals as goal
 

@@ -1,7 +1,6 @@
 -- A block is not empty and its length fits, for any layout with room.
 use Prim.Native.Nat.{◌*◌, ◌≤◌}
 use native.Mathlib.Omega.{arith}
-use borrow.Author.Rules.{rules}
 use Rattle.page.specs.Layouts.{most_bytes}
 use Rattle.page.specs.Lengths.{whole_blocks}
 use Rattle.page.proofs.Layouts.{product_le, product_pos, Roomy, roomy_facts}

@@ -1,8 +1,6 @@
 -- The place of a page is the product of a 32-bit number and a page's length, so it fits.
 use Prim.Native.Nat.{◌*◌, ◌≤◌}
 use native.Mathlib.Omega.{arith}
-use borrow.Author.Rules.{rules}
-use borrow.Author.Tests.{not-true, not-false}
 use Rattle.page.specs.Layouts.{most_bytes}
 use Rattle.page.specs.Lengths.{page_in}
 use Rattle.page.proofs.Layouts.{product_le, roomy_facts}

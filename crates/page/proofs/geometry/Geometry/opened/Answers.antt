@@ -1,5 +1,4 @@
 -- A geometry is that of its numbers.
-use borrow.Author.Rules.{rules}
 use Rattle.page.proofs.geometry.Geometry.opened.Goals as goal
 
 pub returns : goal.returns

@@ -3,11 +3,9 @@ use mathlib.Core.Bool.{true}
 use mathlib.Core.Path.{◌≡◌}
 use native.Mathlib.Omega.{arith}
 use native.Mathlib.Nat.{div-le_self}
-use borrow.Author.Rules.{rules}
-use borrow.Author.Tests.{le-leb, lt-leb, not-false}
+use borrow.Author.Tests.{le-leb, lt-leb}
 use Rattle.page.specs.Layouts.{layout_of, roomy}
 use Rattle.page.specs.Lengths.{opened_of}
-use Rattle.page.specs.declared.layout.Layout.{Layout}
 use Rattle.page.proofs.Layouts.{listed_roomy, roomy_facts}
 use Rattle.page.proofs.Lengths.{length_most}
 use Rattle.page.proofs.geometry.Geometry.opened_of.Goals as goal

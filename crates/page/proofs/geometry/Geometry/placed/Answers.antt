@@ -1,5 +1,4 @@
 -- The page count decides, where the dump has one.
-use borrow.Author.Rules.{rules}
 use borrow.Author.Tests.{le-leb, lt-leb}
 use Rattle.page.specs.Lengths.{placed_of, placed_in}
 use Rattle.page.proofs.geometry.Geometry.placed.Goals as goal

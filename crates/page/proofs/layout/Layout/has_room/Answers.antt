@@ -1,6 +1,5 @@
 -- The tests come in the definition's order.
 use Prim.Native.Nat.{◌+◌}
-use borrow.Author.Rules.{rules}
 use borrow.Author.Tests.{le-leb, lt-leb}
 use Rattle.page.specs.Layouts.{header_bytes, tag_length, roomy}
 use Rattle.page.proofs.layout.Layout.has_room.Goals as goal

@@ -1,8 +1,6 @@
-use Prim.Native.Nat.{◌≤◌, ◌-◌}
 use mathlib.Core.Bool.{true, false}
 use mathlib.Core.Path.{◌≡◌, refl, sym, ◌∙◌}
 use borrow.Author.Rules.{rules}
-use Rattle.page.specs.Search.{first_from}
 use Rattle.page.specs.Layouts.{layout_at, has_sizes, number_of_sizes}
 use Rattle.page.proofs.Searching.{first_here, first_next, first_end}
 use Rattle.page.proofs.layout.Layout.number_of.Goals as goal

@@ -1,11 +1,8 @@
 -- The loop's invariant: the search from the start and the search from here find the same.
 use Prim.Native.Nat.{◌≤◌, ◌-◌}
-use mathlib.Core.Bool.{true, false}
-use mathlib.Core.Path.{◌≡◌, refl, sym, ◌∙◌}
-use borrow.Author.Rules.{rules}
+use mathlib.Core.Path.{◌≡◌}
 use Rattle.page.specs.Search.{first_from}
 use Rattle.page.specs.Layouts.{layout_at, has_sizes, number_of_sizes}
-use Rattle.page.proofs.Searching.{first_here, first_next, first_end}
 use Rattle.page.proofs.layout.Layout.number_of.Given as goal
 
 abbrev pub invariant-loop-n : goal.invariant-loop-n

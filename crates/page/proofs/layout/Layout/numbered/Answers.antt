@@ -1,5 +1,4 @@
 -- A number that the table lacks is refused; another has its row.
-use borrow.Author.Rules.{rules}
 use Rattle.page.proofs.Tests.{cases}
 use Rattle.page.specs.Layouts.{by_number}
 use Rattle.page.proofs.layout.Layout.numbered.Goals as goal

@@ -1,5 +1,4 @@
 -- The number of the sizes in the table, and then the layout of that number.
-use borrow.Author.Rules.{rules}
 use Rattle.page.specs.Layouts.{by_sizes}
 use Rattle.page.proofs.layout.Layout.sized.Goals as goal
 

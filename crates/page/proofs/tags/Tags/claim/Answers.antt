@@ -1,5 +1,4 @@
 -- The tests come in the definition's order.
-use borrow.Author.Rules.{rules}
 use Rattle.page.proofs.Tests.{cases}
 use Rattle.page.specs.Tags.{claim_of}
 use Rattle.page.proofs.tags.Tags.claim.Goals as goal

@@ -1,5 +1,4 @@
 -- The id is tested first; the other tests come in the definition's order.
-use borrow.Author.Rules.{rules}
 use Rattle.page.proofs.Tests.{cases}
 use Rattle.page.specs.Tags.{data_claim}
 use Rattle.page.proofs.tags.Tags.data_claim.Goals as goal

@@ -1,5 +1,4 @@
 -- The id without its mark is bad, or it is the object's.
-use borrow.Author.Rules.{rules}
 use Rattle.page.specs.Tags.{header_claim}
 use Rattle.page.proofs.tags.Tags.header_claim.Goals as goal
 

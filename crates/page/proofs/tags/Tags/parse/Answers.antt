@@ -1,5 +1,4 @@
 -- Each field is the word that its call reads.
-use borrow.Author.Rules.{rules}
 use Rattle.page.specs.Tags.{tags_of}
 use Rattle.page.proofs.tags.Tags.parse.Goals as goal
 
