@@ -1,6 +1,6 @@
 -- Demand 2 on holes. A chunk that a live file reaches, and of which nothing is refused, is told as a hole if it has no copy, or a later cut hides its
 -- newest one, and in no other case; else that copy is told, with at least one valid byte.
-use Prim.Native.Nat.{ℕ, ◌-◌, ◌<◌}
+use Prim.Native.Nat.{ℕ, ◌<◌}
 use mathlib.Core.Bool.{false}
 use mathlib.Core.Option.{none, some}
 use mathlib.Core.Path.{◌≡◌, ◌∙◌}

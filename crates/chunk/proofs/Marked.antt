@@ -35,7 +35,7 @@ unfolding answers expected size_on chunk_on sized_of sized_by looked_of looked_b
 marked_cases =
     rw (
       opened,
-      pages.shelf-says,
+      pages.shelf_says,
       (pages.marked).page_cases_lem,
       object 257 (omega arith) (omega arith),
       object 258 (omega arith) (omega arith),

@@ -159,7 +159,7 @@ shelf_seen :
     }
 unfolding seen shelf_kinds ids_of passed arranged ascend sized_of sized_by looked_of looked_by chunk_by copy_by copy_at file_of file_by file_at size_of data_end lowest_cut
     cut_of since newest_where gather bad_object bad_chunk
-shelf_seen = ap seen pages.shelf-says
+shelf_seen = ap seen pages.shelf_says
 
 changed_seen :
     seen (record_at shelf_geometry changed)

@@ -20,7 +20,7 @@ unfolding prepared_on count shelf_kinds
 shelf_room =
     let length = (pages.marked).shelf_length in
     let opened = (pages.marked).shelf_opened in
-    (rw (length, opened, pages.shelf-says), rw (length, opened, pages.shelf-says), rw (length, opened, pages.shelf-says), rw (length, opened, pages.shelf-says))
+    (rw (length, opened, pages.shelf_says), rw (length, opened, pages.shelf_says), rw (length, opened, pages.shelf_says), rw (length, opened, pages.shelf_says))
 
 -- a report that fits, and one that does not
 pub report_answers : (compared_by (written.Bytes 90) ≡ compared.Written 90) × (compared_by (written.Short 90) ≡ compared.Refused ShortBuffer 90)

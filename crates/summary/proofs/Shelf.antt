@@ -26,13 +26,13 @@ counts =
 
 objects : object_count (record_at shelf_geometry shelf) 8 ≡ 1
 unfolding object_count since gather count shelf_kinds
-objects = rw pages.shelf-says
+objects = rw pages.shelf_says
 
 live : live_count (record_at shelf_geometry shelf) 8 ≡ 1
 unfolding live_count newest_where gather count shelf_kinds
-live = rw pages.shelf-says
+live = rw pages.shelf_says
 
 pub shelf_report :
     report_of shelf 4 ≡ bytes_of "layout=512/16/0\nblock=4\npages=8\nblank=1\nforeign=0\ndamaged=0\nheaders=3\ndata=4\nobjects=1\nlive=1\n"
 unfolding report_of text_of figured_of figured_by figures_at ten_lines layout_line kind_lines line_of field_of decimal digits
-shelf_report = rw (pages.shelf-found, (pages.marked).shelf_length, counts, objects, live)
+shelf_report = rw (pages.shelf_found, (pages.marked).shelf_length, counts, objects, live)

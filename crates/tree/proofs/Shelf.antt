@@ -50,4 +50,4 @@ computed names e = rw e
 -- and so on W
 pub shelf_tree : tree_text (record_at shelf_geometry shelf) (text_in Name shelf_geometry shelf) 8 ≡ expected
 shelf_tree =
-    ap (λ (s : ℕ → Record). tree_text s (text_in Name shelf_geometry shelf) 8) pages.shelf-says ∙ computed (text_in Name shelf_geometry shelf) name
+    ap (λ (s : ℕ → Record). tree_text s (text_in Name shelf_geometry shelf) 8) pages.shelf_says ∙ computed (text_in Name shelf_geometry shelf) name

@@ -39,7 +39,7 @@ unfolding tree_on count shelf_kinds
 shelf_refusals =
     let length = (pages.marked).shelf_length in
     let opened = (pages.marked).shelf_opened in
-    (rw (length, opened), rw (length, opened, pages.shelf-says), rw (length, opened, pages.shelf-says), rw (length, opened, pages.shelf-says))
+    (rw (length, opened), rw (length, opened, pages.shelf_says), rw (length, opened, pages.shelf_says), rw (length, opened, pages.shelf_says))
 
 -- a text that fits, and one that does not
 pub text_answers : (texted_by (written.Bytes 27) ≡ texted.Written 27) × (texted_by (written.Short 27) ≡ texted.Refused ShortBuffer 27)

@@ -58,15 +58,15 @@ unfolding filed_in file_of file_by file_at bad_object since newest_where gather 
 computed = refl
 
 pub shelf_refusals : asked (record_at shelf_geometry shelf) ≡ expected
-shelf_refusals = ap asked pages.shelf-says ∙ computed
+shelf_refusals = ap asked pages.shelf_says ∙ computed
 
 -- one word less than its marks are
 pub shelf_short :
     (spans_on shelf_geometry shelf Now 257 12 ≡ spanned.Refused ShortBuffer 13) × (why_on shelf_geometry shelf Now 257 0 12 ≡ told.Refused ShortBuffer 13)
 unfolding spans_on why_on filed_in file_of file_by file_at bad_object bad_chunk marks_to cut_of since newest_where gather shelf_kinds
-shelf_short = (rw ((pages.marked).shelf_length, (pages.marked).shelf_opened, pages.shelf-says), rw ((pages.marked).shelf_length, (pages.marked).shelf_opened, pages.shelf-says))
+shelf_short = (rw ((pages.marked).shelf_length, (pages.marked).shelf_opened, pages.shelf_says), rw ((pages.marked).shelf_length, (pages.marked).shelf_opened, pages.shelf_says))
 
 -- past the end a reason holds up to the largest position
 pub shelf_until : until_of (record_at shelf_geometry shelf) 512 257 8 4 1034 ≡ 0xFFFFFFFFFFFFFFFF
 unfolding until_of size_of data_end gather shelf_kinds
-shelf_until = rw pages.shelf-says
+shelf_until = rw pages.shelf_says

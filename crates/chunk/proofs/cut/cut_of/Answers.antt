@@ -1,5 +1,4 @@
 -- The tests come in the definition's order.
-use borrow.Author.Rules.{rules}
 use borrow.Author.Tests.{eq-eqb, ne_eqb}
 use Rattle.chunk.specs.Cuts.{cut_of}
 use Rattle.chunk.proofs.cut.cut_of.Goals as goal

@@ -1,7 +1,6 @@
 -- The parent is tested first; then the newest header is looked for.
 use mathlib.Core.Option.{none}
 use mathlib.Core.Path.{◌≡◌, sym, ◌∙◌}
-use borrow.Author.Rules.{rules}
 use Rattle.page.specs.Records.{record_at}
 use Rattle.chunk.specs.Newest.{newest_header}
 use Rattle.chunk.proofs.Gathering.{in_none, in_some}

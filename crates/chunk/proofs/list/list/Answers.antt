@@ -1,6 +1,5 @@
 -- A refused dump is refused before anything else, and nothing is written.
 use mathlib.Core.Path.{refl}
-use borrow.Author.Rules.{rules}
 use Rattle.chunk.specs.Lists.{list_on, live_on, words_by}
 use Rattle.chunk.proofs.list.list.Goals as goal
 

@@ -1,6 +1,5 @@
 -- As many ids are needed as there are live pages; a refusal writes nothing.
 use mathlib.Core.Path.{refl}
-use borrow.Author.Rules.{rules}
 use borrow.Author.Tests.{lt-ltb, le-ltb}
 use Rattle.page.specs.Records.{record_at}
 use Rattle.chunk.specs.Lists.{listed_by, words_by}

@@ -1,5 +1,4 @@
 -- A refused dump is refused before anything else.
-use borrow.Author.Rules.{rules}
 use Rattle.chunk.specs.Lists.{live_count_on}
 use Rattle.chunk.proofs.list.live_count.Goals as goal
 

@@ -1,10 +1,7 @@
-use Prim.Native.Nat.{◌≤◌, ◌-◌}
 use mathlib.Core.Bool.{false}
 use mathlib.Core.Path.{◌≡◌, sym, ◌∙◌}
 use native.Mathlib.Omega.{arith}
 use borrow.Author.Rules.{rules}
-use borrow.Author.Tests.{not-true, not-false}
-use Rattle.page.specs.Search.{count}
 use Rattle.page.specs.Records.{is_header, record_at}
 use Rattle.page.proofs.Searching.{count_none}
 use Rattle.page.proofs.Sound.{else_header}

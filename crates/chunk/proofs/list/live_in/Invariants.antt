@@ -1,16 +1,9 @@
 -- The loop's invariant: the count of the live pages passed.
 use Prim.Native.Nat.{◌≤◌, ◌-◌}
-use mathlib.Core.Bool.{false}
-use mathlib.Core.Path.{◌≡◌, sym, ◌∙◌}
-use native.Mathlib.Omega.{arith}
-use borrow.Author.Rules.{rules}
-use borrow.Author.Tests.{not-true, not-false}
+use mathlib.Core.Path.{◌≡◌}
 use Rattle.page.specs.Search.{count}
-use Rattle.page.specs.Records.{is_header, record_at}
-use Rattle.page.proofs.Searching.{count_none}
-use Rattle.page.proofs.Sound.{else_header}
-use Rattle.chunk.specs.Live.{live_page, live_count}
-use Rattle.chunk.proofs.Living.{count_skip, count_take, live_other, live_header}
+use Rattle.page.specs.Records.{record_at}
+use Rattle.chunk.specs.Live.{live_page}
 use Rattle.chunk.proofs.list.live_in.Given as goal
 
 abbrev pub invariant-loop-i : goal.invariant-loop-i

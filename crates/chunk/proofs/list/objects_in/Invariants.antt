@@ -1,15 +1,9 @@
 -- The loop's invariant: the count of the first records passed.
 use Prim.Native.Nat.{◌≤◌, ◌-◌}
-use mathlib.Core.Bool.{true, false}
-use mathlib.Core.Path.{◌≡◌, sym, ◌∙◌}
-use native.Mathlib.Omega.{arith}
-use borrow.Author.Rules.{rules}
-use borrow.Author.Tests.{eq-eqb, ne_eqb}
+use mathlib.Core.Path.{◌≡◌}
 use Rattle.page.specs.Search.{count}
 use Rattle.page.specs.Records.{record_at}
-use Rattle.page.proofs.Searching.{count_none}
-use Rattle.chunk.specs.Live.{object_page, object_count}
-use Rattle.chunk.proofs.Living.{count_skip, count_take}
+use Rattle.chunk.specs.Live.{object_page}
 use Rattle.chunk.proofs.list.objects_in.Given as goal
 
 abbrev pub invariant-loop-i : goal.invariant-loop-i

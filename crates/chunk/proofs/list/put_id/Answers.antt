@@ -1,6 +1,5 @@
 -- A store past the end changes nothing.
 use mathlib.Core.Path.{sym}
-use borrow.Author.Rules.{rules}
 use lib.Seq.{set_out}
 use Rattle.chunk.proofs.list.put_id.Goals as goal
 

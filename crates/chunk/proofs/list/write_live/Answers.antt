@@ -1,15 +1,13 @@
-use Prim.Native.Nat.{◌≤◌, ◌-◌}
 use mathlib.Core.Bool.{true, false}
 use mathlib.Core.Path.{◌≡◌, sym, ap, ◌∙◌}
 use native.Mathlib.Omega.{arith}
 use borrow.Author.Rules.{rules}
-use borrow.Author.Tests.{not-true, not-false}
 use Rattle.page.specs.Records.{is_header, record_at}
 use Rattle.page.proofs.Sound.{else_header}
 use Rattle.chunk.specs.Records.{object_of}
 use Rattle.chunk.specs.Live.{object_at, live_page, live_ids, live_count}
 use Rattle.chunk.proofs.Living.{live_other, live_header}
-use Rattle.chunk.proofs.Sorting.{Listed, listed_none, listed_skip, listed_room, listed_more, listed_sorted}
+use Rattle.chunk.proofs.Sorting.{listed_none, listed_skip, listed_room, listed_more, listed_sorted}
 use Rattle.chunk.proofs.list.write_live.Goals as goal
 
 pub loop-i-init : goal.loop-i-init

@@ -1,7 +1,6 @@
 -- Past the end, no copy, or the newest copy.
 use mathlib.Core.Path.{◌≡◌, sym, ◌∙◌}
 use mathlib.Core.Option.{none}
-use borrow.Author.Rules.{rules}
 use borrow.Author.Tests.{le-leb, lt-leb}
 use Rattle.page.specs.Records.{record_at}
 use Rattle.chunk.specs.Newest.{newest_copy}

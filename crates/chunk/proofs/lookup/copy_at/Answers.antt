@@ -1,5 +1,4 @@
 -- The lowest later cut says whether the copy is hidden, and how much of it is valid.
-use borrow.Author.Rules.{rules}
 use Rattle.chunk.specs.Lookups.{copy_at}
 use Rattle.chunk.proofs.lookup.copy_at.Goals as goal
 

@@ -1,6 +1,5 @@
 -- A page that is no header is no file; of a header the tests come in the definition's order.
 use mathlib.Core.Path.{sym}
-use borrow.Author.Rules.{rules}
 use borrow.Author.Tests.{eq-eqb, ne_eqb}
 use Rattle.page.proofs.Sound.{else_header}
 use Rattle.chunk.specs.Lookups.{file_at}

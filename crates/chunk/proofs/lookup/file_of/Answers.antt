@@ -1,7 +1,6 @@
 -- No record, no header, or what the newest header says.
 use mathlib.Core.Path.{◌≡◌, sym, ◌∙◌}
 use mathlib.Core.Option.{none}
-use borrow.Author.Rules.{rules}
 use borrow.Author.Tests.{eq-eqb, ne_eqb}
 use Rattle.page.specs.Records.{record_at}
 use Rattle.chunk.specs.Newest.{newest_header}

@@ -1,5 +1,4 @@
 -- The id, the chunk number, the file, and then its chunk.
-use borrow.Author.Rules.{rules}
 use Rattle.chunk.specs.Lookups.{looked_of, looked_by}
 use Rattle.chunk.proofs.lookup.look_in.Goals as goal
 
@@ -25,6 +24,6 @@ returns-in-Header c =
       c.if-is_bad-2.false,
       ← c.file_of-f.ensures,
       c.in-Header.is,
-      ← c.type_size.ensures,
+      ← c.size_of.ensures,
     )
     c.chunk_by.ensures

@@ -1,6 +1,5 @@
 -- The smaller of a page and what the size leaves, which is no more than a page.
 use native.Mathlib.Omega.{arith}
-use borrow.Author.Rules.{rules}
 use Rattle.chunk.proofs.lookup.shown_of.Goals as goal
 
 pub returns-then-size-base : goal.returns-then-size-base

@@ -1,5 +1,4 @@
 -- A refused dump is refused before anything else.
-use borrow.Author.Rules.{rules}
 use Rattle.chunk.specs.Answers.{size_on}
 use Rattle.chunk.proofs.lookup.size.Goals as goal
 

@@ -1,5 +1,4 @@
 -- Each way through the match is a case of the definition.
-use borrow.Author.Rules.{rules}
 use Rattle.chunk.specs.Lookups.{sized_of, sized_by}
 use Rattle.chunk.proofs.lookup.size_in.Goals as goal
 
@@ -13,4 +12,4 @@ returns-in-Refused c = rw (← c.is_bad.ensures, c.if-is_bad.false, ← c.file_o
 
 pub returns-in-Header : goal.returns-in-Header
 unfolding sized_of sized_by
-returns-in-Header c = rw (← c.is_bad.ensures, c.if-is_bad.false, ← c.file_of-f.ensures, c.in-Header.is, c.type_size.ensures)
+returns-in-Header c = rw (← c.is_bad.ensures, c.if-is_bad.false, ← c.file_of-f.ensures, c.in-Header.is, c.size_of.ensures)

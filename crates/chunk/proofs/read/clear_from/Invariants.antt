@@ -1,13 +1,9 @@
 -- The loop's invariant: the buffer's front with zeros behind it is laid over the buffer up to i.
-use Prim.Native.Nat.{ℕ, ◌+◌, ◌≤◌, ◌-◌}
+use Prim.Native.Nat.{ℕ, ◌≤◌, ◌-◌}
 use mathlib.Core.List.{List, ◌++◌}
-use mathlib.Core.Path.{◌≡◌, refl, sym}
-use lib.ListN.{length, take, replicate, set, get_or, length-set, length-append, length-replicate}
-use lib.Seq.{take_all, length-take-le}
-use native.Mathlib.Nat.{le_refl}
-use native.Mathlib.Omega.{arith}
-use borrow.Author.Rules.{rules}
-use Rattle.chunk.proofs.Laying.{laid, laid_more, zero_at, front_laid}
+use mathlib.Core.Path.{◌≡◌}
+use lib.ListN.{length, take, replicate}
+use Rattle.chunk.proofs.Laying.{laid}
 use Rattle.chunk.proofs.read.clear_from.Given as goal
 
 -- what is laid: the front as it was, and zeros

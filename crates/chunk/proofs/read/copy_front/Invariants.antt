@@ -1,10 +1,8 @@
 -- The loop's invariant: the first i bytes of the part are laid over the buffer.
 use Prim.Native.Nat.{◌≤◌, ◌-◌}
 use mathlib.Core.Path.{◌≡◌}
-use lib.ListN.{length, length-set}
-use native.Mathlib.Omega.{arith}
-use borrow.Author.Rules.{rules}
-use Rattle.chunk.proofs.Laying.{laid, laid_more}
+use lib.ListN.{length}
+use Rattle.chunk.proofs.Laying.{laid}
 use Rattle.chunk.proofs.read.copy_front.Given as goal
 
 abbrev pub invariant-loop-i : goal.invariant-loop-i

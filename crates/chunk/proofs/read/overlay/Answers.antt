@@ -1,6 +1,5 @@
 -- A copied front and zeros behind it.
 use mathlib.Core.Path.{◌∙◌}
-use borrow.Author.Rules.{rules}
 use Rattle.chunk.proofs.Laying.{laid_over}
 use Rattle.chunk.proofs.read.overlay.Goals as goal
 

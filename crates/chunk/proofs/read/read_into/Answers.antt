@@ -1,6 +1,5 @@
 -- A refusal writes nothing; a hole lays zeros, and a copy its valid bytes with zeros behind them.
 use mathlib.Core.Path.{refl}
-use borrow.Author.Rules.{rules}
 use borrow.Author.Tests.{lt-ltb, le-ltb}
 use Rattle.chunk.specs.Answers.{read_by, buffer_by}
 use Rattle.chunk.proofs.read.read_into.Goals as goal
@@ -19,7 +18,7 @@ returns-in-Refused c = record { value = rw c.in-Refused.is; buffer_after = refl 
 
 pub returns-else-buffer-shown : goal.returns-else-buffer-shown
 unfolding read_by buffer_by
-returns-else-buffer-shown c = record { value = rw (c.a-in-Hole-1.given.1, le-ltb _ _ c.if-buffer-shown.false); buffer_after = c.overlay.ensures }
+returns-else-buffer-shown c = record { value = rw (c.in-Hole.is, le-ltb _ _ c.if-buffer-shown.false); buffer_after = c.overlay.ensures }
 
 pub returns-else-buffer-shown-2 : goal.returns-else-buffer-shown-2
 unfolding read_by buffer_by

@@ -1,7 +1,6 @@
 -- A word times a word fits, and leaves room for a word more.
 use Prim.Native.Nat.{◌*◌, ◌≤◌}
 use native.Mathlib.Omega.{arith}
-use borrow.Author.Rules.{rules}
 use Rattle.page.proofs.Layouts.{product_le}
 use Rattle.chunk.proofs.record.base_of.Goals as goal
 use Rattle.chunk.proofs.record.base_of.Goals.{After-chunks_before}

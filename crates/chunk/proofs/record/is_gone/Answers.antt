@@ -1,5 +1,4 @@
 -- By what the page is.
-use borrow.Author.Rules.{rules}
 use Rattle.chunk.proofs.record.is_gone.Goals as goal
 
 pub returns-in-Header : goal.returns-in-Header

@@ -1,6 +1,5 @@
 -- The match takes headers and leaves the others.
 use mathlib.Core.Path.{sym}
-use borrow.Author.Rules.{rules}
 use Rattle.page.proofs.Sound.{else_header}
 use Rattle.chunk.proofs.record.is_header.Goals as goal
 

@@ -1,6 +1,4 @@
 -- The object is compared first; then what is wanted of it.
-use borrow.Author.Rules.{rules}
-use borrow.Author.Tests.{not-true, not-false}
 use Rattle.chunk.proofs.record.is_wanted.Goals as goal
 
 pub returns-then-not-is_of : goal.returns-then-not-is_of

@@ -1,6 +1,5 @@
 -- A header of another object, or one that is not newer, changes nothing.
 use mathlib.Core.Path.{◌∙◌}
-use borrow.Author.Rules.{rules}
 use borrow.Author.Tests.{eq-eqb, ne_eqb, le-ltb, lt-ltb}
 use Rattle.chunk.specs.Cuts.{cut_of}
 use Rattle.chunk.specs.Scans.{cut_with}

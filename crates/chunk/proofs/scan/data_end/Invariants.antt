@@ -1,18 +1,9 @@
 -- The loop's invariant: the largest end of the pages passed.
 use Prim.Native.Nat.{◌≤◌, ◌-◌}
-use mathlib.Core.Bool.{false}
-use mathlib.Core.Path.{◌≡◌, sym, ◌∙◌}
-use native.Mathlib.Omega.{arith}
-use borrow.Author.Rules.{rules}
-use borrow.Author.Tests.{not-true}
-use Rattle.page.specs.Records.{is_data, record_at}
-use Rattle.page.specs.Tags.{names_at}
-use Rattle.page.proofs.Sound.{else_data}
+use mathlib.Core.Path.{◌≡◌}
+use Rattle.page.specs.Records.{record_at}
 use Rattle.chunk.specs.Takes.{seen_by}
-use Rattle.chunk.specs.Records.{is_of}
 use Rattle.chunk.specs.Sizes.{data_end}
-use Rattle.chunk.proofs.Records.{seen_unnamed}
-use Rattle.chunk.proofs.Gathering.{end_none, end_skip, end_other, end_step}
 use Rattle.chunk.proofs.scan.data_end.Given as goal
 
 abbrev pub invariant-loop-i : goal.invariant-loop-i

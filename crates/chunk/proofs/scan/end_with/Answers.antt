@@ -1,5 +1,4 @@
 -- A page of another object, or one that is not newer, changes nothing.
-use borrow.Author.Rules.{rules}
 use borrow.Author.Tests.{eq-eqb, ne_eqb, le-ltb, lt-ltb}
 use Rattle.chunk.specs.Scans.{end_with}
 use Rattle.chunk.proofs.scan.end_with.Goals as goal

@@ -1,14 +1,12 @@
-use Prim.Native.Nat.{◌≤◌, ◌<◌, ◌-◌}
+use Prim.Native.Nat.{◌≤◌, ◌<◌}
 use mathlib.Core.Bool.{true, false}
 use mathlib.Core.Path.{◌≡◌, sym, ◌∙◌}
 use native.Mathlib.Omega.{arith}
 use borrow.Author.Rules.{rules}
-use borrow.Author.Tests.{not-true, not-false}
 use Rattle.page.specs.Records.{record_at}
 use Rattle.page.specs.Tags.{names_at}
 use Rattle.chunk.specs.Takes.{seen_by}
 use Rattle.chunk.specs.Records.{age_of, is_of}
-use Rattle.chunk.specs.Newest.{since}
 use Rattle.chunk.proofs.Records.{seen_unnamed}
 use Rattle.chunk.proofs.Gathering.{since_none, since_skip, since_old, since_one, and_true}
 use Rattle.chunk.proofs.scan.records_since.Goals as goal

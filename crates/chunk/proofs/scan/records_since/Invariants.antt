@@ -1,17 +1,9 @@
 -- The loop's invariant: the count of the records passed that are not older.
-use Prim.Native.Nat.{◌≤◌, ◌<◌, ◌-◌}
-use mathlib.Core.Bool.{true, false}
-use mathlib.Core.Path.{◌≡◌, sym, ◌∙◌}
-use native.Mathlib.Omega.{arith}
-use borrow.Author.Rules.{rules}
-use borrow.Author.Tests.{not-true, not-false}
+use Prim.Native.Nat.{◌≤◌, ◌-◌}
+use mathlib.Core.Path.{◌≡◌}
 use Rattle.page.specs.Records.{record_at}
-use Rattle.page.specs.Tags.{names_at}
 use Rattle.chunk.specs.Takes.{seen_by}
-use Rattle.chunk.specs.Records.{age_of, is_of}
 use Rattle.chunk.specs.Newest.{since}
-use Rattle.chunk.proofs.Records.{seen_unnamed}
-use Rattle.chunk.proofs.Gathering.{since_none, since_skip, since_old, since_one, and_true}
 use Rattle.chunk.proofs.scan.records_since.Given as goal
 
 abbrev pub invariant-loop-i : goal.invariant-loop-i

@@ -1,5 +1,4 @@
 -- Each arm of the match is a case of the definition, and so is each way through the test of the age.
-use borrow.Author.Rules.{rules}
 use borrow.Author.Tests.{lt-ltb, le-ltb}
 use Rattle.chunk.proofs.takes.seen_at.Goals as goal
 

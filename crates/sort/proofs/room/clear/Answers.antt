@@ -1,6 +1,5 @@
 -- The two tests are those of the definition.
 use mathlib.Core.Path.{sym, ◌∙◌}
-use borrow.Author.Rules.{rules}
 use borrow.Author.Tests.{le-leb, lt-leb}
 use Rattle.sort.proofs.Clearing.{clear_inside}
 use Rattle.sort.proofs.room.clear.Goals as goal

@@ -1,10 +1,9 @@
-use Prim.Native.Nat.{ℕ, ◌-◌, ◌≤◌}
+use Prim.Native.Nat.{ℕ}
 use mathlib.Core.List.{List}
 use mathlib.Core.Path.{◌≡◌, refl, ap, ◌∙◌}
 use native.Mathlib.Omega.{arith}
-use lib.ListN.{length, set, length-set}
-use borrow.Author.Rules.{rules}
-use Rattle.sort.proofs.Clearing.{cleared_to, clear_none, clear_more, clear_all}
+use lib.ListN.{set, length-set}
+use Rattle.sort.proofs.Clearing.{clear_none, clear_more, clear_all}
 use Rattle.sort.proofs.room.zero.Goals as goal
 
 pub loop-i-preserved : goal.loop-i-preserved

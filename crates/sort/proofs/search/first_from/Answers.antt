@@ -1,9 +1,5 @@
-use Prim.Native.Nat.{◌-◌, ◌≤◌}
 use native.Mathlib.Omega.{arith}
-use borrow.Author.Rules.{rules}
-use lib.ListN.{length}
-use Rattle.sort.specs.Search.{Sorted}
-use Rattle.sort.proofs.Searching.{Sought, sought_none, sought_up, sought_down, sought_end}
+use Rattle.sort.proofs.Searching.{sought_none, sought_up, sought_down, sought_end}
 use Rattle.sort.proofs.search.first_from.Goals as goal
 
 pub loop-low-preserved-then-words-mid : goal.loop-low-preserved-then-words-mid

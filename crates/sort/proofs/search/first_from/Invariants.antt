@@ -1,10 +1,8 @@
 -- The loop's invariant: the bounds lie inside, and if the words ascend, the place lies from `low` to `high`, `Sought`.
 use Prim.Native.Nat.{◌-◌, ◌≤◌}
-use native.Mathlib.Omega.{arith}
-use borrow.Author.Rules.{rules}
 use lib.ListN.{length}
 use Rattle.sort.specs.Search.{Sorted}
-use Rattle.sort.proofs.Searching.{Sought, sought_none, sought_up, sought_down, sought_end}
+use Rattle.sort.proofs.Searching.{Sought}
 use Rattle.sort.proofs.search.first_from.Given as goal
 
 abbrev pub invariant-loop-low : goal.invariant-loop-low

@@ -1,13 +1,8 @@
 -- Byte by byte. The loop's invariant: the first i bytes of the string were copied.
-use Prim.Native.Nat.{ℕ, ◌≤◌, ◌-◌}
-use mathlib.Core.Path.{◌≡◌, sym, ◌∙◌}
-use native.Mathlib.Omega.{arith}
-use native.Mathlib.Numerals.{add-one}
-use borrow.Author.Rules.{rules}
+use Prim.Native.Nat.{◌≤◌, ◌-◌}
+use mathlib.Core.Path.{◌≡◌}
 use lib.ListN.{length, take}
-use lib.Seq.{take-suc, take_all, length-take-le}
 use Rattle.text.specs.Put.{over}
-use Rattle.text.proofs.Putting.{copy_none, copy_more, copy_length}
 use Rattle.text.proofs.put.copy.Given as goal
 
 abbrev pub invariant-loop-i : goal.invariant-loop-i

@@ -1,6 +1,5 @@
 -- The sum is as far as positions count, or above that.
 use native.Mathlib.Omega.{arith}
-use borrow.Author.Rules.{rules}
 use Rattle.text.specs.Put.{counted}
 use Rattle.text.proofs.put.past.Goals as goal
 

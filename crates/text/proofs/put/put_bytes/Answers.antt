@@ -1,10 +1,8 @@
-use Prim.Native.Nat.{ℕ, ◌≤◌, ◌-◌}
+use Prim.Native.Nat.{ℕ}
 use native.Mathlib.Omega.{arith}
 use native.Mathlib.Numerals.{add-one}
 use borrow.Author.Rules.{rules}
-use lib.ListN.{length, take}
 use lib.Seq.{take-suc, take_all}
-use Rattle.text.specs.Put.{Put}
 use Rattle.text.proofs.Putting.{nothing, also, kept}
 use Rattle.text.proofs.put.put_bytes.Goals as goal
 

@@ -1,5 +1,4 @@
 -- The key, and then the number.
-use borrow.Author.Rules.{rules}
 use Rattle.text.specs.Lines.{field_of}
 use Rattle.text.proofs.Putting.{also}
 use Rattle.text.proofs.put.put_field.Goals as goal

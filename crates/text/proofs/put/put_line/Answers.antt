@@ -1,5 +1,4 @@
 -- The key with the number, and then the end of the line.
-use borrow.Author.Rules.{rules}
 use Rattle.text.specs.Lines.{line_of}
 use Rattle.text.proofs.Putting.{also}
 use Rattle.text.proofs.put.put_line.Goals as goal

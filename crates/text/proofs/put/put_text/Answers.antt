@@ -1,6 +1,5 @@
 -- Past the end it is counted; where it fits it is copied; else it is put byte by byte.
 use native.Mathlib.Omega.{arith}
-use borrow.Author.Rules.{rules}
 use Rattle.text.proofs.Putting.{past_end, copied}
 use Rattle.text.proofs.put.put_text.Goals as goal
 

@@ -75,5 +75,5 @@ returns-else-size-x c =
     (rw c.measure-k.ensures.size_value at c.if-size-x.false) c.find-found.result (found (goal.at.returns-else-size-x c).After-clear-arg-in-Header-1)
     in
     let clear = rows_cleared (let a = c.args in spans_of (let a = c.args in seen_by c.takes-t.result (record_at a.g a.dump.now)) a.g.layout.«data» a.o.0 a.pages h) a.rows.now c.measure-k.result.marks c.if-rows-need.false _ c.fill-count.ensures.rows_after c.rows-in-Header-1.given _ c.clear-in-Header.ensures in
-    rw (c.requires, ← c.takes-t.ensures, ← c.file_in-f.ensures, c.f-in-Header-1.given.1, ← c.measure-k.ensures.marks_value, le-ltb _ _ c.if-rows-need.false)
+    rw (c.requires, ← c.takes-t.ensures, ← c.file_in-f.ensures, c.in-Header.is, ← c.measure-k.ensures.marks_value, le-ltb _ _ c.if-rows-need.false)
     record { value = rw (← p.0, ← p.1, c.of.ensures, c.byte_at.ensures); rows_after = clear }

@@ -1,5 +1,4 @@
 -- Each arm of the match is a case of the definition.
-use borrow.Author.Rules.{rules}
 use Rattle.chunk.proofs.cut.Cut.hides.Goals as goal
 
 pub returns-in-At : goal.returns-in-At

@@ -1,6 +1,5 @@
 -- A cut at or below the place leaves nothing; one behind it what lies before it.
 use native.Mathlib.Omega.{arith}
-use borrow.Author.Rules.{rules}
 use Rattle.chunk.proofs.cut.Cut.leaves.Goals as goal
 
 pub returns-then-a-place : goal.returns-then-a-place

@@ -1,5 +1,4 @@
 -- Each way through the matches is a case of the definition.
-use borrow.Author.Rules.{rules}
 use Rattle.chunk.proofs.cut.Cut.lower.Goals as goal
 
 pub returns-in-Nowhere-other : goal.returns-in-Nowhere-other

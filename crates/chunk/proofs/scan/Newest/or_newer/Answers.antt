@@ -1,5 +1,4 @@
 -- Each way through the match is a case of the definition.
-use borrow.Author.Rules.{rules}
 use borrow.Author.Tests.{le-leb, lt-leb}
 use Rattle.chunk.proofs.scan.Newest.or_newer.Goals as goal
 
