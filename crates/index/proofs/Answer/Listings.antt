@@ -14,8 +14,6 @@ use mathlib.Core.Path.{◌≡◌, refl, sym, ap, ◌∙◌}
 use native.Mathlib.Omega.{arith}
 use lib.ListN.{length}
 use lib.Dec.{eqb, ltb}
-use types.Run.{OneOf, miss}
-use denote.Enum.Declared.{tag_of}
 use borrow.Author.Tests.{eqb-true, eqb-false, eq-eqb, ne_eqb, lt-ltb, le-ltb}
 use Rattle.page.specs.Choice.{pick}
 use Rattle.page.specs.Records.{is_header}
@@ -24,7 +22,6 @@ use Rattle.page.specs.declared.record.Record.{Record}
 use Rattle.page.specs.declared.record.Record.TheVariants.{Other}
 use Rattle.page.specs.declared.refusal.Refusal.TheVariants.{ShortBuffer, ShortIndex, IndexDamaged}
 use Rattle.page.specs.declared.refusal.Refusal.{Refusal}
-use Rattle.page.proofs.Arms.{all_but}
 use Rattle.page.proofs.Searching.{clash, by_test, pick_cases}
 use Rattle.chunk.specs.Records.{age_of, is_of, header_of, is_gone}
 use Rattle.chunk.specs.Newest.{newest_header}
@@ -48,7 +45,6 @@ use Rattle.index.specs.declared.list.Ask.{Ask}
 use Rattle.index.specs.declared.list.Ask.TheVariants as ask
 use Rattle.index.specs.declared.list.Standing.{Standing}
 use Rattle.index.specs.declared.list.Standing.TheVariants as standing
-use Rattle.index.specs.contracts.list.Standing.{the_type}
 use Rattle.index.proofs.Slot.Counts.{count_nothing}
 use Rattle.index.proofs.Sorted.Order.{never}
 use Rattle.index.proofs.Chain.Links.{trace_end}
@@ -69,8 +65,8 @@ some_chain x (q ∷ L) i e = clash (cc)
 -- ---- on any cells
 
 -- what a `let .. else` on a slot that is asked for leaves: one that is not
-pub else_asked : (x : Standing) → OneOf (all_but (tag_of the_type standing.Asked) 3) (tag_of the_type x) → is_asked x ≡ false
-else_asked standing.Asked h = absurd (miss (all_but (tag_of the_type standing.Asked) 3) (tag_of the_type standing.Asked) tt h)
+pub else_asked : (x : Standing) → (x ≡ standing.Asked → ⊥) → is_asked x ≡ false
+else_asked standing.Asked h = absurd (h refl)
 else_asked standing.Damaged h = refl
 else_asked standing.Other h = refl
 

@@ -27,8 +27,9 @@ use Rattle.chunk.specs.declared.answer.Listed.TheVariants as listed
 use Rattle.chunk.proofs.Undamaged.{size_undamaged, chunk_undamaged, read_undamaged, list_undamaged}
 use Rattle.index.specs.Cells.{cells_for}
 use Rattle.index.specs.Walks.{seen_says}
-use Rattle.index.specs.Requests.{Request, start, add, size, chunk, read, part, list, Answer, addition, a_size, a_chunk, a_read, a_list, Refuses, Given, unless_refused, added_by, looked_by, live_seen, answer_by, added_after, answers_by}
+use Rattle.index.specs.Requests.{list_answer, Request, start, add, size, chunk, read, part, list, Answer, addition, a_size, a_chunk, a_read, a_list, Refuses, Given, unless_refused, added_by, size_seen, chunk_seen, looked_by, live_seen, answer_by, added_after, answers_by}
 use Rattle.index.specs.declared.additions.Added.{Added}
+use Rattle.index.specs.declared.additions.Added.TheVariants as added
 
 -- an answer that is not this refusal, by what it is made of
 size_not : (a : Sized) → ((v : ℕ) → a ≡ sized.Refused IndexDamaged v → ⊥) → Refuses IndexDamaged (a_size a) → ⊥
@@ -68,18 +69,18 @@ module _ (g : Geometry) (dump : List ℕ) (room : ℕ) where
 
     looked-undamaged : (k w o c v m : ℕ) → looked_by g dump room done k w o c ≡ looked.Refused IndexDamaged v m → ⊥
     looked-undamaged k w o c v m =
-        unless (λ (a : Looked). a ≡ looked.Refused IndexDamaged v m → ⊥) _ _ k w
-        (λ r never e. never (cc))
+        unless (λ (a : Looked). a ≡ looked.Refused IndexDamaged v m → ⊥) (λ r. looked.Refused r 0 0) (chunk_seen g dump room done o c) k w
+        (λ (r : Refusal) never (e : looked.Refused r 0 0 ≡ looked.Refused IndexDamaged v m). never (cc))
         (λ n. chunk_undamaged (seen_says (record_at g dump) done) o n g.layout.«data» c v m)
 
     -- one answer
     pub answer_undamaged : (r : Request) → Refuses IndexDamaged (answer_by g dump room done r) → ⊥
     unfolding answer_by
-    answer_undamaged (start k w seed) = unless (λ (a : Added). Refuses IndexDamaged (addition a) → ⊥) _ _ k w (λ r never. never) (λ n i. i)
+    answer_undamaged (start k w seed) = unless (λ (a : Added). Refuses IndexDamaged (addition a) → ⊥) added.Refused (λ n. added.Done) k w (λ r never. never) (λ n i. i)
     answer_undamaged (add k w p) =
-        unless (λ (a : Added). Refuses IndexDamaged (addition a) → ⊥) _ _ k w (λ r never. never) (λ n. added-undamaged p n)
+        unless (λ (a : Added). Refuses IndexDamaged (addition a) → ⊥) added.Refused (added_by g dump room done p) k w (λ r never. never) (λ n. added-undamaged p n)
     answer_undamaged (size k w o) =
-        unless (λ (a : Sized). Refuses IndexDamaged (a_size a) → ⊥) _ _ k w (λ r never. never)
+        unless (λ (a : Sized). Refuses IndexDamaged (a_size a) → ⊥) (λ r. sized.Refused r 0) (size_seen g dump room done o) k w (λ r never. never)
         (λ n. size_not _ (size_undamaged (seen_says (record_at g dump) done) o n g.layout.«data»))
     answer_undamaged (chunk k w o c) = chunk_not (looked_by g dump room done k w o c) (looked-undamaged k w o c)
     answer_undamaged (read k w o c buffer) =
@@ -87,7 +88,8 @@ module _ (g : Geometry) (dump : List ℕ) (room : ℕ) where
         read_not _ (buffer_by (in_blocks g k) dump buffer (read_by (length buffer) a)) (read_undamaged (length buffer) a (looked-undamaged k w o c))
     answer_undamaged (part k w o c) = λ i. i
     answer_undamaged (list k w buffer) =
-        unless (λ (a : Answer). Refuses IndexDamaged a → ⊥) _ _ k w (λ r never. never)
+        unless (λ (a : Answer). Refuses IndexDamaged a → ⊥) (λ r. a_list (listed.Refused r 0) buffer)
+        (λ n. list_answer buffer (live_seen g dump room done n) (listed_by (length buffer) (live_seen g dump room done n))) k w (λ r never. never)
         (λ n.
         let ids = live_seen g dump room done n in
         list_not _ (words_by ids buffer (listed_by (length buffer) ids)) (list_undamaged (length buffer) ids))

@@ -13,6 +13,7 @@ use Rattle.compare.specs.Lines.{field_lines}
 use Rattle.compare.specs.Views.{byte_of}
 use Rattle.compare.proofs.Differing.{part_shows, shown_differ}
 use Rattle.compare.proofs.fields.put_field.Goals as goal
+use Rattle.compare.proofs.fields.put_field.Goals.{After-differ}
 
 parts-differ :
     (a b p q : List ℕ) (i place n : ℕ) →
@@ -24,16 +25,22 @@ parts-differ :
 parts-differ a b p q i place n e f g h =
     rw (g, h, e, f) (shown_differ (part_shows a (place_of i) (length_of i)) (part_shows b (place_of i) (length_of i)))
 
+differs : (k : After-differ) → k.differ.result ≡ field_differs k.args.one.now k.args.other.now k.args.i
+differs k =
+    k.differ.ensures
+    ∙ parts-differ k.args.one.now k.args.other.now k.part.result.now k.part-2.result.now k.args.i _ _
+    k.place-p.ensures
+    k.length-n.ensures
+    k.part.ensures
+    k.part-2.ensures
+
 pub returns-then-differ : goal.returns-then-differ
 unfolding field_lines
-returns-then-differ c =
-    let differs : c.differ.result ≡ field_differs c.args.one.now c.args.other.now c.args.i = c.differ.ensures ∙ parts-differ c.args.one.now c.args.other.now c.part.result.now c.part-2.result.now c.args.i _ _ c.place-p.ensures c.length-n.ensures c.part.ensures c.part-2.ensures in
-    rw (← differs, c.if-differ.true, ← c.place-p.ensures) c.put_line.ensures
+returns-then-differ c = rw (← differs (goal.at.returns-then-differ c).After-differ, c.if-differ.true, ← c.place-p.ensures) c.put_line.ensures
 
 pub returns : goal.returns
 unfolding field_lines
-returns c = let differs : c.differ.result ≡ field_differs c.args.one.now c.args.other.now c.args.i = c.differ.ensures ∙ parts-differ c.args.one.now c.args.other.now c.part.result.now c.part-2.result.now c.args.i _ _ c.place-p.ensures c.length-n.ensures c.part.ensures c.part-2.ensures in
-    rw (← differs, c.if-differ.false) (nothing _ _ (omega arith) (omega arith))
+returns c = rw (← differs (goal.at.returns c).After-differ, c.if-differ.false) (nothing _ _ (omega arith) (omega arith))
 
 pub shape_of-buf-then-differ : goal.shape_of-buf-then-differ
 shape_of-buf-then-differ c = kept c.put_line.ensures

@@ -7,23 +7,23 @@ use lib.ListN.{length, take, replicate}
 use lib.Seq.{length-take-le}
 use Rattle.sort.proofs.Clearing.{cleared_all}
 use Rattle.compare.proofs.prepare.fill.Goals as goal
-use Rattle.compare.proofs.prepare.fill.Goals.{After-fill_order-arg-1}
+use Rattle.compare.proofs.prepare.fill.Goals.{Start}
 
 -- the front of the last slice has a word for each record
-front : (s : After-fill_order-arg-1) → let a = s.args in
+front : (s : Start) → let a = s.args in
     length (take (length a.order.now) a.work.now) ≡ length a.order.now
 front s = length-take-le _ s.args.work.now (omega (arith, s.requires.order_len, s.requires.work_len))
 
 pub fill_copies-requires : goal.fill_copies-requires
 fill_copies-requires c =
     let o = c.fill_order.auto.1.1.1.0 in
-    let w = c.work-1.given.1 in record { dump_value = s.requires.0; order_value = c.fill_order.ensures.rows_after; copies_len = omega (arith, s.requires.1.0, s.requires.1.1.0, o); order_in_bounds = omega (arith, s.requires.1.0, s.requires.1.1.1, o, w) }
+    let w = c.work-1.given.1 in record { dump_value = s.requires.dump_value; order_value = c.fill_order.ensures.rows_after; copies_len = omega (arith, s.requires.order_len, s.requires.copies_len, o); order_in_bounds = omega (arith, s.requires.order_len, s.requires.work_len, o, w) }
 
 pub returns : goal.returns
 returns c = let long = c.fill_copies.auto.1.1.1.1.1.0 ∙ c.work-1.given.1 in record { order_after = c.fill_order.ensures.rows_after; copies_after = c.fill_copies.ensures; work_after = c.clear.ensures ∙ cleared_all c.fill_copies.new.1.1.1.1.1.0 _ refl ∙ ap (λ (k : ℕ). replicate {A = ℕ} k 0) long }
 
 pub slice_bounds-fill_order-end-2 : goal.slice_bounds-fill_order-end-2
-slice_bounds-fill_order-end-2 c = sym (front (goal.at.slice_bounds-fill_order-end-2 c).After-fill_order-arg-1)
+slice_bounds-fill_order-end-2 c = sym (front (goal.at.slice_bounds-fill_order-end-2 c).Start)
 
 pub fill_order-requires : goal.fill_order-requires
-fill_order-requires c = record { dump_value = c.requires.dump_value; rows_len = c.requires.order_len; work_len = front (goal.at.fill_order-requires c).After-fill_order-arg-1 ∙ c.requires.order_len }
+fill_order-requires c = record { dump_value = c.requires.dump_value; rows_len = c.requires.order_len; work_len = front (goal.at.fill_order-requires c).Start ∙ c.requires.order_len }

@@ -22,28 +22,28 @@ returns-then-not-is_room c =
     (sym r.ensures ∙ c.if-not-is_room.true)
 
 enough : (w : After-work_for-room) → is_room w.count_records-records.result (length w.args.order.now) (length w.args.copies.now) (length w.args.work.now) ≡ true
-enough w = let r = w.is_room in sym r.ensures ∙ w.if-not-is_room.left
+enough w = let r = w.is_room in sym r.ensures ∙ w.if-not-is_room.false
 
 -- each slice has as many words
 has : (w : After-work_for-room) → (w.count_records-records.result ≤ length w.args.order.now) × (w.count_records-records.result ≤ length w.args.copies.now) × (w.work_for-room.result ≤ length w.args.work.now)
 has w =
-    let enough : is_room w.count_records-records.result (length w.args.order.now) (length w.args.copies.now) (length w.args.work.now) ≡ true = let r = w.is_room in sym r.ensures ∙ w.if-not-is_room.left in
+    let enough : is_room w.count_records-records.result (length w.args.order.now) (length w.args.copies.now) (length w.args.work.now) ≡ true = let r = w.is_room in sym r.ensures ∙ w.if-not-is_room.false in
     let r = room_has _ _ _ _ enough in (r.0, r.1, omega (arith, w.work_for-room.ensures, r.2))
 
 -- so that the fronts which are lent on are so long
 order-front : (w : After-work_for-room) → length (take w.count_records-records.result w.args.order.now) ≡ w.count_records-records.result
 order-front w =
-    let has : (w.count_records-records.result ≤ length w.args.order.now) × (w.count_records-records.result ≤ length w.args.copies.now) × (w.work_for-room.result ≤ length w.args.work.now) = let enough : is_room w.count_records-records.result (length w.args.order.now) (length w.args.copies.now) (length w.args.work.now) ≡ true = let r = w.is_room in sym r.ensures ∙ w.if-not-is_room.left in let r = room_has _ _ _ _ enough in (r.0, r.1, omega (arith, w.work_for-room.ensures, r.2)) in
+    let has : (w.count_records-records.result ≤ length w.args.order.now) × (w.count_records-records.result ≤ length w.args.copies.now) × (w.work_for-room.result ≤ length w.args.work.now) = let enough : is_room w.count_records-records.result (length w.args.order.now) (length w.args.copies.now) (length w.args.work.now) ≡ true = let r = w.is_room in sym r.ensures ∙ w.if-not-is_room.false in let r = room_has _ _ _ _ enough in (r.0, r.1, omega (arith, w.work_for-room.ensures, r.2)) in
     length-take-le _ w.args.order.now has.0
 
 copies-front : (w : After-work_for-room) → length (take w.count_records-records.result w.args.copies.now) ≡ w.count_records-records.result
 copies-front w =
-    let has : (w.count_records-records.result ≤ length w.args.order.now) × (w.count_records-records.result ≤ length w.args.copies.now) × (w.work_for-room.result ≤ length w.args.work.now) = let enough : is_room w.count_records-records.result (length w.args.order.now) (length w.args.copies.now) (length w.args.work.now) ≡ true = let r = w.is_room in sym r.ensures ∙ w.if-not-is_room.left in let r = room_has _ _ _ _ enough in (r.0, r.1, omega (arith, w.work_for-room.ensures, r.2)) in
+    let has : (w.count_records-records.result ≤ length w.args.order.now) × (w.count_records-records.result ≤ length w.args.copies.now) × (w.work_for-room.result ≤ length w.args.work.now) = let enough : is_room w.count_records-records.result (length w.args.order.now) (length w.args.copies.now) (length w.args.work.now) ≡ true = let r = w.is_room in sym r.ensures ∙ w.if-not-is_room.false in let r = room_has _ _ _ _ enough in (r.0, r.1, omega (arith, w.work_for-room.ensures, r.2)) in
     length-take-le _ w.args.copies.now has.1
 
 work-front : (w : After-work_for-room) → length (take w.work_for-room.result w.args.work.now) ≡ w.work_for-room.result
 work-front w =
-    let has : (w.count_records-records.result ≤ length w.args.order.now) × (w.count_records-records.result ≤ length w.args.copies.now) × (w.work_for-room.result ≤ length w.args.work.now) = let enough : is_room w.count_records-records.result (length w.args.order.now) (length w.args.copies.now) (length w.args.work.now) ≡ true = let r = w.is_room in sym r.ensures ∙ w.if-not-is_room.left in let r = room_has _ _ _ _ enough in (r.0, r.1, omega (arith, w.work_for-room.ensures, r.2)) in
+    let has : (w.count_records-records.result ≤ length w.args.order.now) × (w.count_records-records.result ≤ length w.args.copies.now) × (w.work_for-room.result ≤ length w.args.work.now) = let enough : is_room w.count_records-records.result (length w.args.order.now) (length w.args.copies.now) (length w.args.work.now) ≡ true = let r = w.is_room in sym r.ensures ∙ w.if-not-is_room.false in let r = room_has _ _ _ _ enough in (r.0, r.1, omega (arith, w.work_for-room.ensures, r.2)) in
     length-take-le _ w.args.work.now has.2
 
 pub fill-requires : goal.fill-requires

@@ -22,8 +22,8 @@ turn k =
     let q = k.loop-i in
     let s = k in
     let a = s.args in
-    turn_at a.g a.dump.now a.pages a.g.layout.«data» s.pre.0 a.order.now s.pre.1.0 q.copies q.i q.inv.1
-    k.loop-i-test.taken _ k.run_of.result k.key_of-o.ensures k.run_of.ensures
+    turn_at a.g a.dump.now a.pages a.g.layout.«data» s.requires.dump_value a.order.now s.requires.order_value q.copies q.i q.invariant.1
+    k.loop-i-test.true _ k.run_of.result k.key_of-o.ensures k.run_of.ensures
 
 pub fill_run-requires : goal.fill_run-requires
 fill_run-requires c =

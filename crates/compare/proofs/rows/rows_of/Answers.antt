@@ -22,15 +22,28 @@ use Rattle.compare.specs.Views.{size_in}
 use Rattle.compare.proofs.Filling.{room_front}
 use Rattle.compare.proofs.Heads.{head_size}
 use Rattle.compare.proofs.rows.rows_of.Goals as goal
+use Rattle.compare.proofs.rows.rows_of.Goals.{After-size-s, After-copies_along-a}
+
+found : (k : After-size-s) → size_in (size_walk (record_at k.args.g k.args.dump.now) k.args.g.layout.«data» (from_list (map value_of k.args.list.now))) ≡ size_as k.size-s.result
+found k =
+    head_size (record_at k.args.g k.args.dump.now) k.args.g.layout.«data» (map value_of k.args.list.now)
+    ∙ ap (size_by (record_at k.args.g k.args.dump.now)) (sym k.head_of.ensures)
+    ∙ sym k.size-s.ensures
+
+accepted : (c : After-copies_along-a) → let a = c.args in
+    c.copies_along-a.result ≡ Rows (length (shown_by a.g a.dump.now a.list.now c.in-Bytes.z))
+accepted c =
+    let a = c.args in
+    let p = c.requires in
+    c.copies_along-a.ensures.value
+    ∙ along_rows a.g a.dump.now a.list.now c.in-Bytes.z a.pages a.work.now p.0 p.1.0 (omega (arith, p.1.1))
 
 pub returns-in-Nothing : goal.returns-in-Nothing
 unfolding rows_in
-returns-in-Nothing c = let found : size_in (size_walk (record_at c.args.g c.args.dump.now) c.args.g.layout.«data» (from_list (map value_of c.args.list.now))) ≡ size_as c.size-s.result = head_size (record_at c.args.g c.args.dump.now) c.args.g.layout.«data» (map value_of c.args.list.now) ∙ ap (size_by (record_at c.args.g c.args.dump.now)) (sym c.head_of.ensures) ∙ sym c.size-s.ensures in
-    record { upper_bound = zero-le; work_after = rw (found, c.in-Nothing.is) refl }
+returns-in-Nothing c = record { upper_bound = zero-le; work_after = rw (found (goal.at.returns-in-Nothing c).After-size-s, c.in-Nothing.is) refl }
 
 pub returns-in-Refused : goal.returns-in-Refused
-returns-in-Refused c = let accepted : let a = c.args in c.copies_along-a.result ≡ Rows (length (shown_by a.g a.dump.now a.list.now c.in-Bytes.z)) = let a = c.args in let p = c.pre in c.copies_along-a.ensures.value ∙ along_rows a.g a.dump.now a.list.now c.in-Bytes.z a.pages a.work.now p.0 p.1.0 (omega (arith, p.1.1)) in
-    let e = accepted in let f = c.in-Refused.is in clash (cc)
+returns-in-Refused c = let e = accepted (goal.at.returns-in-Refused c).After-copies_along-a in let f = c.in-Refused.is in clash (cc)
 
 rows_same : (m n : ℕ) → Rows m ≡ Rows n → m ≡ n
 rows_same m n e = cc
@@ -38,12 +51,11 @@ rows_same m n e = cc
 pub returns-in-Rows : goal.returns-in-Rows
 unfolding rows_in
 returns-in-Rows c =
-    let found : size_in (size_walk (record_at c.args.g c.args.dump.now) c.args.g.layout.«data» (from_list (map value_of c.args.list.now))) ≡ size_as c.size-s.result = head_size (record_at c.args.g c.args.dump.now) c.args.g.layout.«data» (map value_of c.args.list.now) ∙ ap (size_by (record_at c.args.g c.args.dump.now)) (sym c.head_of.ensures) ∙ sym c.size-s.ensures in let accepted : let a = c.args in c.copies_along-a.result ≡ Rows (length (shown_by a.g a.dump.now a.list.now c.in-Bytes.z)) = let a = c.args in let p = c.pre in c.copies_along-a.ensures.value ∙ along_rows a.g a.dump.now a.list.now c.in-Bytes.z a.pages a.work.now p.0 p.1.0 (omega (arith, p.1.1)) in
     let t = c.args in
-    let p = c.pre in
+    let p = c.requires in
     let L = shown_by t.g t.dump.now t.list.now c.in-Bytes.z in
-    let m : c.in-Rows.m ≡ length L = rows_same _ _ (sym c.in-Rows.is ∙ accepted) in
-    let few = along_few (record_at c.args.g c.args.dump.now) t.g.layout.«data» c.in-Bytes.z (map value_of t.list.now) in record { upper_bound = omega (arith, m, few, length-map t.list.now value_of); work_after = rw (found, c.in-Bytes.is)
+    let m : c.in-Rows.m ≡ length L = rows_same _ _ (sym c.in-Rows.is ∙ accepted (goal.at.returns-in-Rows c).After-copies_along-a) in
+    let few = along_few (record_at c.args.g c.args.dump.now) t.g.layout.«data» c.in-Bytes.z (map value_of t.list.now) in record { upper_bound = omega (arith, m, few, length-map t.list.now value_of); work_after = rw (found (goal.at.returns-in-Rows c).After-size-s, c.in-Bytes.is)
           (ap (take c.in-Rows.m)
           (c.copies_along-a.ensures.rows_after
           ∙ along_left_lem t.g t.dump.now t.list.now c.in-Bytes.z t.pages t.work.now p.0 p.1.0 (omega (arith, p.1.1)))

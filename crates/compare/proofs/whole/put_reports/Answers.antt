@@ -5,26 +5,26 @@ use lib.ListN.{length}
 use Rattle.text.proofs.Putting.{kept}
 use Rattle.compare.proofs.Listing.{Underway, under_start, under_end, turn_by, turn_few, turn_onward}
 use Rattle.compare.proofs.whole.put_reports.Goals as goal
-use Rattle.compare.proofs.whole.put_reports.Goals.{After-struct_known-1}
+use Rattle.compare.proofs.whole.put_reports.Goals.{After-next_from-t}
 
 pub loop-i-init : goal.loop-i-init
 loop-i-init c = under_start _ _ _ _ _ _ _ _ _ _ (omega (arith, c.well-formed.1.1.1.1.1.1.1.1.0)) (omega (arith, c.ranges))
 
-there : (n : After-struct_known-1) → (n.loop-i.i + n.next_from-t.result.first ≤ length n.args.order.now)
+there : (n : After-next_from-t) → (n.loop-i.i + n.next_from-t.result.first ≤ length n.args.order.now)
     × (n.loop-i.j + n.next_from-t.result.second ≤ length n.args.order2.now)
-there n = turn_few _ _ _ _ _ _ _ _ n.loop-i.inv n.next_from-t.result n.next_from-t.ensures
+there n = turn_few _ _ _ _ _ _ _ _ n.loop-i.invariant n.next_from-t.result n.next_from-t.ensures
 
 pub overflow_add-i : goal.overflow_add-i
 overflow_add-i c = let h = c.loop-i.invariant.first in let k = c.loop-i.invariant.second in search rules
 
 pub overflow_add-e : goal.overflow_add-e
-overflow_add-e c = let h = (there c).0 in search rules
+overflow_add-e c = let h = (there (goal.at.overflow_add-e c).After-next_from-t).0 in search rules
 
 pub overflow_add-f : goal.overflow_add-f
-overflow_add-f c = let h = (there (goal.at.overflow_add-f c).After-struct_known-1).1 in search rules
+overflow_add-f c = let h = (there (goal.at.overflow_add-f c).After-next_from-t).1 in search rules
 
 pub slice_bounds-put_object-end : goal.slice_bounds-put_object-end
-slice_bounds-put_object-end c = let h = (there (goal.at.slice_bounds-put_object-end c).After-struct_known-1).0 in search rules
+slice_bounds-put_object-end c = let h = (there (goal.at.slice_bounds-put_object-end c).After-next_from-t).0 in search rules
 
 pub offset_bounds-order2-j : goal.offset_bounds-order2-j
 offset_bounds-order2-j c =
@@ -36,11 +36,11 @@ pub slice_bounds-put_object-start-in-loop-i : goal.slice_bounds-put_object-start
 slice_bounds-put_object-start-in-loop-i c = let h = c.loop-i.invariant.second in search rules
 
 pub slice_bounds-put_object-end-in-loop-i : goal.slice_bounds-put_object-end-in-loop-i
-slice_bounds-put_object-end-in-loop-i c = let h = (there (goal.at.slice_bounds-put_object-end-in-loop-i c).After-struct_known-1).1 in search rules
+slice_bounds-put_object-end-in-loop-i c = let h = (there (goal.at.slice_bounds-put_object-end-in-loop-i c).After-next_from-t).1 in search rules
 
 pub loop-i-smaller : goal.loop-i-smaller
 loop-i-smaller c =
-    let t = there (goal.at.loop-i-smaller c).After-struct_known-1 in
+    let t = there (goal.at.loop-i-smaller c).After-next_from-t in
     omega (arith, t.0, t.1, turn_onward _ _ _ _ _ _ _ _ c.loop-i.invariant c.next_from-t.result c.next_from-t.ensures c.loop-i-test.true)
 
 pub loop-i-preserved : goal.loop-i-preserved

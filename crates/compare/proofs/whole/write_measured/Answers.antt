@@ -4,19 +4,19 @@ use native.Mathlib.Omega.{arith}
 use borrow.Author.Rules.{rules}
 use Rattle.compare.proofs.Lining.{written_nothing, written_short, written_both}
 use Rattle.compare.proofs.whole.write_measured.Goals as goal
-use Rattle.compare.proofs.whole.write_measured.Goals.{After-slice_known-2-1}
+use Rattle.compare.proofs.whole.write_measured.Goals.{After-put_name-line}
 
 -- an object's number is a word
-small : (n : After-slice_known-2-1) → n.args.o.0 < 4294967296
+small : (n : After-put_name-line) → n.args.o.0 < 4294967296
 small n = omega (arith, n.good.0)
 
 pub returns-then-need-line : goal.returns-then-need-line
-returns-then-need-line c = written_nothing _ (small (goal.at.returns-then-need-line c).After-slice_known-2-1) _ c.put_name-line.ensures c.put_differences-need.ensures _ c.if-need-line.true
+returns-then-need-line c = written_nothing _ (small (goal.at.returns-then-need-line c).After-put_name-line) _ c.put_name-line.ensures c.put_differences-need.ensures _ c.if-need-line.true
 
 pub returns-then-buf-need : goal.returns-then-buf-need
-returns-then-buf-need c = written_short _ (small (goal.at.returns-then-buf-need c).After-slice_known-2-1) _ c.put_name-line.ensures c.put_differences-need.ensures _ c.if-need-line.false c.if-buf-need.true
+returns-then-buf-need c = written_short _ (small (goal.at.returns-then-buf-need c).After-put_name-line) _ c.put_name-line.ensures c.put_differences-need.ensures _ c.if-need-line.false c.if-buf-need.true
 
 pub returns : goal.returns
 returns c =
-    written_both _ (small (goal.at.returns c).After-slice_known-2-1) _ c.put_name-line.ensures c.put_differences-need.ensures _ c.if-need-line.false c.if-buf-need.false
+    written_both _ (small (goal.at.returns c).After-put_name-line) _ c.put_name-line.ensures c.put_differences-need.ensures _ c.if-need-line.false c.if-buf-need.false
     c.put_name.ensures c.put_differences.ensures

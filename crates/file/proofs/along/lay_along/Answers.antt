@@ -20,19 +20,19 @@ use Rattle.file.proofs.Listing.{along_gathered}
 use Rattle.file.proofs.Putting.{put_zero}
 use Rattle.file.proofs.Shown.{met_some}
 use Rattle.file.proofs.along.lay_along.Goals as goal
-use Rattle.file.proofs.along.lay_along.Goals.{After-slice_known-2-1, After-gather-arg-1}
+use Rattle.file.proofs.along.lay_along.Goals.{After-walk_along-n, After-sort}
 
-all : (w : After-slice_known-2-1) → length (let a = w.args in met (record_at a.g a.dump.now) a.g.layout.«data» w.chunks_in-chunks.result a.size true Nowhere (from_list (map value_of a.list.now))) ≡ w.walk_along-n.result
+all : (w : After-walk_along-n) → length (let a = w.args in met (record_at a.g a.dump.now) a.g.layout.«data» w.chunks_in-chunks.result a.size true Nowhere (from_list (map value_of a.list.now))) ≡ w.walk_along-n.result
 all w = sym w.walk_along-n.ensures.value
 
-few : (w : After-slice_known-2-1) → w.walk_along-n.result < word_values
-few w = omega (arith, w.walk_along-n.ensures.upper_bound, w.pre.1.0)
+few : (w : After-walk_along-n) → w.walk_along-n.result < word_values
+few w = omega (arith, w.walk_along-n.ensures.upper_bound, w.requires.list_len_bound)
 
-room : (w : After-slice_known-2-1) → room_for w.walk_along-n.result ≤ length w.args.rows.now
-room w = omega (arith, w.walk_along-n.ensures.upper_bound, w.pre.1.1)
+room : (w : After-walk_along-n) → room_for w.walk_along-n.result ≤ length w.args.rows.now
+room w = omega (arith, w.walk_along-n.ensures.upper_bound, w.requires.list_in_bounds)
 
 -- it leaves the words
-same : (w : After-slice_known-2-1) → w.walk_along-n.last.1.1.1.1.1.1.1.0 ≡ w.args.rows.now
+same : (w : After-walk_along-n) → w.walk_along-n.last.1.1.1.1.1.1.1.0 ≡ w.args.rows.now
 same w = w.walk_along-n.ensures.rows_after ∙ put_zero _ _ _
 
 pub walk_along-n-requires : goal.walk_along-n-requires
@@ -43,9 +43,9 @@ walk_along-n-requires c =
 pub walk_along-requires : goal.walk_along-requires
 walk_along-requires c =
     let p = c.requires in
-    record { dump_value = p.0; list_len_bound = p.1.0; chunks_lt_chunk_values = omega (arith, c.chunks_in-chunks.ensures.upper_bound); n_in_bounds = omega (arith, room (goal.at.walk_along-requires c).After-slice_known-2-1, ap length (same (goal.at.walk_along-requires c).After-slice_known-2-1)) }
+    record { dump_value = p.0; list_len_bound = p.1.0; chunks_lt_chunk_values = omega (arith, c.chunks_in-chunks.ensures.upper_bound); n_in_bounds = omega (arith, room (goal.at.walk_along-requires c).After-walk_along-n, ap length (same (goal.at.walk_along-requires c).After-walk_along-n)) }
 
-is_sorted : (k : After-gather-arg-1) → k.sort.last.0 ≡ sorted_with k.args.rows.now k.walk_along-n.result (let a = k.args in met (record_at a.g a.dump.now) a.g.layout.«data» k.chunks_in-chunks.result a.size true Nowhere (from_list (map value_of a.list.now)))
+is_sorted : (k : After-sort) → k.sort.last.0 ≡ sorted_with k.args.rows.now k.walk_along-n.result (let a = k.args in met (record_at a.g a.dump.now) a.g.layout.«data» k.chunks_in-chunks.result a.size true Nowhere (from_list (map value_of a.list.now)))
 is_sorted k =
     let same : k.walk_along-n.last.1.1.1.1.1.1.1.0 ≡ k.args.rows.now = k.walk_along-n.ensures.rows_after ∙ put_zero _ _ _ in
     k.sort.ensures
@@ -54,7 +54,7 @@ is_sorted k =
 
 pub gather-requires : goal.gather-requires
 gather-requires c =
-    let a = c.args in record { n_in_bounds = omega (arith, ap length (is_sorted c), sorted_length a.rows.now c.walk_along-n.result (let a = c.args in met (record_at a.g a.dump.now) a.g.layout.«data» c.chunks_in-chunks.result a.size true Nowhere (from_list (map value_of a.list.now))) (all (goal.at.gather-requires c).After-slice_known-2-1) (room (goal.at.gather-requires c).After-slice_known-2-1) (few (goal.at.gather-requires c).After-slice_known-2-1), room (goal.at.gather-requires c).After-slice_known-2-1); every = rw (is_sorted c) (sorted_below a.rows.now c.walk_along-n.result (let a = c.args in met (record_at a.g a.dump.now) a.g.layout.«data» c.chunks_in-chunks.result a.size true Nowhere (from_list (map value_of a.list.now))) (all (goal.at.gather-requires c).After-slice_known-2-1) (room (goal.at.gather-requires c).After-slice_known-2-1) (few (goal.at.gather-requires c).After-slice_known-2-1)) }
+    let a = c.args in record { n_in_bounds = omega (arith, ap length (is_sorted (goal.at.gather-requires c).After-sort), sorted_length a.rows.now c.walk_along-n.result (let a = c.args in met (record_at a.g a.dump.now) a.g.layout.«data» c.chunks_in-chunks.result a.size true Nowhere (from_list (map value_of a.list.now))) (all (goal.at.gather-requires c).After-walk_along-n) (room (goal.at.gather-requires c).After-walk_along-n) (few (goal.at.gather-requires c).After-walk_along-n), room (goal.at.gather-requires c).After-walk_along-n); every = rw (is_sorted (goal.at.gather-requires c).After-sort) (sorted_below a.rows.now c.walk_along-n.result (let a = c.args in met (record_at a.g a.dump.now) a.g.layout.«data» c.chunks_in-chunks.result a.size true Nowhere (from_list (map value_of a.list.now))) (all (goal.at.gather-requires c).After-walk_along-n) (room (goal.at.gather-requires c).After-walk_along-n) (few (goal.at.gather-requires c).After-walk_along-n)) }
 
 pub returns : goal.returns
 returns c =
@@ -64,8 +64,8 @@ returns c =
     let L = map value_of a.list.now in
     let m = c.chunks_in-chunks.result in
     let f =
-    sorted_filled a.rows.now c.walk_along-n.result (let a = c.args in met (record_at a.g a.dump.now) a.g.layout.«data» c.chunks_in-chunks.result a.size true Nowhere (from_list (map value_of a.list.now))) (all (goal.at.returns c).After-slice_known-2-1) (room (goal.at.returns c).After-slice_known-2-1) (few (goal.at.returns c).After-slice_known-2-1) (met_some says P m a.size (from_list L) true Nowhere)
-    _ _ _ (is_sorted (goal.at.returns c).After-gather-arg-1) c.gather.ensures.value c.gather.ensures.rows_after in
+    sorted_filled a.rows.now c.walk_along-n.result (let a = c.args in met (record_at a.g a.dump.now) a.g.layout.«data» c.chunks_in-chunks.result a.size true Nowhere (from_list (map value_of a.list.now))) (all (goal.at.returns c).After-walk_along-n) (room (goal.at.returns c).After-walk_along-n) (few (goal.at.returns c).After-walk_along-n) (met_some says P m a.size (from_list L) true Nowhere)
+    _ _ _ (is_sorted (goal.at.returns c).After-sort) c.gather.ensures.value c.gather.ensures.rows_after in
     let e = along_gathered says P a.size L m c.walk_along-n.result _ _ _ c.chunks_in-chunks.ensures.value c.walk_along-n.ensures.value f.0 f.1 in
     record { value = e.0; upper_bound = omega (arith, c.gather.ensures.upper_bound, c.walk_along-n.ensures.upper_bound); rows_after = e.1 }
 
@@ -73,4 +73,4 @@ pub chunks_in-chunks-requires : goal.chunks_in-chunks-requires
 chunks_in-chunks-requires c = data_some _ _ _ c.requires.dump_value
 
 pub overflow_cast-result : goal.overflow_cast-result
-overflow_cast-result c = omega (arith, c.gather.ensures.upper_bound, few (goal.at.overflow_cast-result c).After-slice_known-2-1)
+overflow_cast-result c = omega (arith, c.gather.ensures.upper_bound, few (goal.at.overflow_cast-result c).After-walk_along-n)

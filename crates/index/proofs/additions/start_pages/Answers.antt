@@ -11,7 +11,7 @@ pub returns-then-cells-end : goal.returns-then-cells-end
 returns-then-cells-end c = sym (start_short _ _ _ (rw c.cells_for-end.ensures at c.if-cells-end.true))
 
 pub put_seed-requires : goal.put_seed-requires
-put_seed-requires c = omega (arith, c.clear.auto.0, c.if-cells-end.false, c.cells_for-end.ensures)
+put_seed-requires c = omega (arith, c.clear.auto.words, c.if-cells-end.false, c.cells_for-end.ensures)
 
 pub returns : goal.returns
 returns c =

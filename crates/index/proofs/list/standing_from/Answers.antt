@@ -27,20 +27,20 @@ returns-in-Damaged c =
 
 pub returns-in_default : goal.returns-in_default
 returns-in_default c =
-    let here : (let q = c.loop in let a = c.args in Meets (record_at a.g a.dump.now) a.pages a.o.0 a.cells.now q.bound q.link c.in-Record.q c.in-Record.age c.in-Record.role) = stepped _ _ _ _ _ _ (Record _ _ _) (sym c.in-Record.is ∙ c.follow-step.ensures) in
+    let here : (let q = c.loop-q in let a = c.args in Meets (record_at a.g a.dump.now) a.pages a.o.0 a.cells.now q.bound q.link c.in-Record.q c.in-Record.age c.in-Record.role) = stepped _ _ _ _ _ _ (Record _ _ _) (sym c.in-Record.is ∙ c.follow-step.ensures) in
     let a = c.args in
     let says = record_at a.g a.dump.now in
     let e = role_header (says c.in-Record.q.0) here.leads.some (sym c.in_default.is ∙ here.is) in
-    c.headed_standing.ensures ∙ sym (c.loop.invariant ∙ stands_here _ says _ _ _ _ (here.onward _ refl) e)
+    c.headed_standing.ensures ∙ sym (c.loop-q.invariant ∙ stands_here _ says _ _ _ _ (here.onward _ refl) e)
 
 pub loop-q-smaller : goal.loop-q-smaller
-loop-q-smaller c = let here : (let q = c.loop in let a = c.args in Meets (record_at a.g a.dump.now) a.pages a.o.0 a.cells.now q.bound q.link c.in-Record.q c.in-Record.age c.in-Record.role) = stepped _ _ _ _ _ _ (Record _ _ _) (sym c.in-Record.is ∙ c.follow-step.ensures) in
+loop-q-smaller c = let here : (let q = c.loop-q in let a = c.args in Meets (record_at a.g a.dump.now) a.pages a.o.0 a.cells.now q.bound q.link c.in-Record.q c.in-Record.age c.in-Record.role) = stepped _ _ _ _ _ _ (Record _ _ _) (sym c.in-Record.is ∙ c.follow-step.ensures) in
     here.older
 
 pub loop-q-preserved : goal.loop-q-preserved
 loop-q-preserved c =
-    let here : (let q = c.loop in let a = c.args in Meets (record_at a.g a.dump.now) a.pages a.o.0 a.cells.now q.bound q.link c.in-Record.q c.in-Record.age c.in-Record.role) = stepped _ _ _ _ _ _ (Record _ _ _) (sym c.in-Record.is ∙ c.follow-step.ensures) in
+    let here : (let q = c.loop-q in let a = c.args in Meets (record_at a.g a.dump.now) a.pages a.o.0 a.cells.now q.bound q.link c.in-Record.q c.in-Record.age c.in-Record.role) = stepped _ _ _ _ _ _ (Record _ _ _) (sym c.in-Record.is ∙ c.follow-step.ensures) in
     let a = c.args in
     let says = record_at a.g a.dump.now in
     let e = role_data (says c.in-Record.q.0) _ (sym c.in-Data.is ∙ here.is) in
-    c.loop.invariant ∙ stands_on _ says _ _ _ _ (here.onward _ c.link_of-link.ensures) (rw e refl)
+    c.loop-q.invariant ∙ stands_on _ says _ _ _ _ (here.onward _ c.link_of-link.ensures) (rw e refl)

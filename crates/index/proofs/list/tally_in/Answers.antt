@@ -17,16 +17,16 @@ pub loop-s-init : goal.loop-s-init
 loop-s-init c = (search rules, search rules, count_none _, rw count_none)
 
 inside : (t : In-loop-s) → t.loop-s.s < slots_for t.args.pages
-inside t = omega (arith, t.loop-s-test.taken, t.slots_for-slots.ensures)
+inside t = omega (arith, t.loop-s-test.true, t.slots_for-slots.ensures)
 
 in_table : (t : In-loop-s) → InTable t.args.cells.now t.loop-s.s
 in_table t =
-    let inside : t.loop-s.s < slots_for t.args.pages = omega (arith, t.loop-s-test.taken, t.slots_for-slots.ensures) in
-    slot_in t.args.pages t.loop-s.s inside t.args.cells.now (omega (arith, t.fits.pages)) t.pre.1
+    let inside : t.loop-s.s < slots_for t.args.pages = omega (arith, t.loop-s-test.true, t.slots_for-slots.ensures) in
+    slot_in t.args.pages t.loop-s.s inside t.args.cells.now (omega (arith, t.ranges.pages)) t.requires.pages_in_bounds
 
 some-pages : (t : In-loop-s) → 0 < t.args.pages
 some-pages t =
-    let inside : t.loop-s.s < slots_for t.args.pages = omega (arith, t.loop-s-test.taken, t.slots_for-slots.ensures) in
+    let inside : t.loop-s.s < slots_for t.args.pages = omega (arith, t.loop-s-test.true, t.slots_for-slots.ensures) in
     slots_pages t.args.pages t.loop-s.s inside
 
 pub loop-s-preserved-then-o-eq0 : goal.loop-s-preserved-then-o-eq0
@@ -36,7 +36,7 @@ loop-s-preserved-then-o-eq0 c =
     (search rules, search rules, count_skip _ q.s (ap is_damaged e) ∙ q.invariant.2, q.invariant.3 ∙ sym (count_skip _ q.s (ap is_asked e)))
 
 pub standing_at-standing-requires : goal.standing_at-standing-requires
-standing_at-standing-requires c = record { pages_nonzero = some-pages (goal.at.standing_at-standing-requires c).In-loop-s; pages_in_bounds = c.requires.1; in_table = in_table (goal.at.standing_at-standing-requires c).In-loop-s; o_value = c.key_of-o.ensures; o_nonzero = omega (arith, c.if-o-eq0.false) }
+standing_at-standing-requires c = record { pages_nonzero = some-pages (goal.at.standing_at-standing-requires c).In-loop-s; pages_in_bounds = c.requires.pages_in_bounds; in_table = in_table (goal.at.standing_at-standing-requires c).In-loop-s; o_value = c.key_of-o.ensures; o_nonzero = omega (arith, c.if-o-eq0.false) }
 
 pub loop-s-preserved : goal.loop-s-preserved
 loop-s-preserved c =

@@ -17,16 +17,16 @@ pub loop-s-init : goal.loop-s-init
 loop-s-init c = (search rules, listed_none _ _ _)
 
 inside : (t : In-loop-s) → t.loop-s.s < slots_for t.args.pages
-inside t = omega (arith, t.loop-s-test.taken, t.slots_for-slots.ensures)
+inside t = omega (arith, t.loop-s-test.true, t.slots_for-slots.ensures)
 
 in_table : (t : In-loop-s) → InTable t.args.cells.now t.loop-s.s
 in_table t =
-    let inside : t.loop-s.s < slots_for t.args.pages = omega (arith, t.loop-s-test.taken, t.slots_for-slots.ensures) in
-    slot_in t.args.pages t.loop-s.s inside t.args.cells.now (omega (arith, t.fits.pages)) t.pre.0
+    let inside : t.loop-s.s < slots_for t.args.pages = omega (arith, t.loop-s-test.true, t.slots_for-slots.ensures) in
+    slot_in t.args.pages t.loop-s.s inside t.args.cells.now (omega (arith, t.ranges.pages)) t.requires.pages_in_bounds
 
 some-pages : (t : In-loop-s) → 0 < t.args.pages
 some-pages t =
-    let inside : t.loop-s.s < slots_for t.args.pages = omega (arith, t.loop-s-test.taken, t.slots_for-slots.ensures) in
+    let inside : t.loop-s.s < slots_for t.args.pages = omega (arith, t.loop-s-test.true, t.slots_for-slots.ensures) in
     slots_pages t.args.pages t.loop-s.s inside
 
 pub loop-s-preserved-then-o-eq0 : goal.loop-s-preserved-then-o-eq0
@@ -36,12 +36,12 @@ loop-s-preserved-then-o-eq0 c =
     (search rules, listed_skip q.invariant.1 t)
 
 pub standing_at-standing-requires : goal.standing_at-standing-requires
-standing_at-standing-requires c = record { pages_nonzero = some-pages (goal.at.standing_at-standing-requires c).In-loop-s; pages_in_bounds = c.requires.0; in_table = in_table (goal.at.standing_at-standing-requires c).In-loop-s; o_value = c.key_of-o.ensures; o_nonzero = omega (arith, c.if-o-eq0.false) }
+standing_at-standing-requires c = record { pages_nonzero = some-pages (goal.at.standing_at-standing-requires c).In-loop-s; pages_in_bounds = c.requires.pages_in_bounds; in_table = in_table (goal.at.standing_at-standing-requires c).In-loop-s; o_value = c.key_of-o.ensures; o_nonzero = omega (arith, c.if-o-eq0.false) }
 
 pub loop-s-preserved-in_default : goal.loop-s-preserved-in_default
 loop-s-preserved-in_default c =
     let q = c.loop-s in
-    let t = ap is_asked (sym c.standing_at-standing.ensures) ∙ else_asked c.standing_at-standing.result c.in_default.keys2 in
+    let t = ap is_asked (sym c.standing_at-standing.ensures) ∙ else_asked c.standing_at-standing.result c.in_default.not-Asked in
     (search rules, listed_skip q.invariant.1 t)
 
 pub loop-s-preserved : goal.loop-s-preserved

@@ -32,11 +32,11 @@ returns-in-Damaged c =
     let k = stepped _ _ _ _ _ _ Damaged (sym c.in-Damaged.is ∙ c.follow-step.ensures) in
     sym (q.invariant.1 ∙ tally_broken _ _ k)
 
-here : (c : In-Record) → (let q = c.loop in let a = c.args in Meets (record_at a.g a.dump.now) a.pages a.o.0 a.cells.now q.bound q.link c.in-Record.q c.in-Record.age c.in-Record.field-2)
+here : (c : In-Record) → (let q = c.loop-q in let a = c.args in Meets (record_at a.g a.dump.now) a.pages a.o.0 a.cells.now q.bound q.link c.in-Record.q c.in-Record.age c.in-Record.field-2)
 here c = stepped _ _ _ _ _ _ (Record _ _ _) (sym c.in-Record.is ∙ c.follow-step.ensures)
 
 pub overflow_add-count : goal.overflow_add-count
-overflow_add-count c = omega (arith, c.loop.invariant.0, count_on _ _ _ ((here c).onward _ refl))
+overflow_add-count c = omega (arith, c.loop-q.invariant.0, count_on _ _ _ ((here c).onward _ refl))
 
 pub loop-q-smaller : goal.loop-q-smaller
 loop-q-smaller c = (here (goal.at.loop-q-smaller c).In-Record).older
@@ -44,4 +44,4 @@ loop-q-smaller c = (here (goal.at.loop-q-smaller c).In-Record).older
 pub loop-q-preserved : goal.loop-q-preserved
 loop-q-preserved c =
     let e = (here (goal.at.loop-q-preserved c).In-Record).onward _ c.link_of-link.ensures in
-    (omega (arith, c.loop.invariant.0, count_on _ _ _ e), c.loop.invariant.1 ∙ tally_on _ _ _ _ e)
+    (omega (arith, c.loop-q.invariant.0, count_on _ _ _ e), c.loop-q.invariant.1 ∙ tally_on _ _ _ _ e)

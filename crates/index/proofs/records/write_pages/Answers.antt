@@ -35,25 +35,25 @@ returns-in-Damaged c =
     let k = stepped _ _ _ _ _ _ Damaged (sym c.in-Damaged.is ∙ c.follow-step.ensures) in
     q.invariant.2 ∙ ap (λ (L : List ℕ). in_front L c.args.words.now) (all_taken (pages_of (under (record_at c.args.g c.args.dump.now) c.args.pages c.args.cells.now c.args.o.0 top c.args.first)) q.count (q.invariant.1 ∙ pages_broken _ k))
 
-here : (c : In-Record) → (let q = c.loop in let c c.args in Meets (record_at a.g a.dump.now) a.pages a.o.0 a.cells.now q.bound q.link c.in-Record.q c.in-Record.age c.in-Record.field-2)
+here : (c : In-Record) → (let q = c.loop-q in let a = c.args in Meets (record_at a.g a.dump.now) a.pages a.o.0 a.cells.now q.bound q.link c.in-Record.q c.in-Record.age c.in-Record.field-2)
 here c = stepped _ _ _ _ _ _ (Record _ _ _) (sym c.in-Record.is ∙ c.follow-step.ensures)
 
-next : (c : In-Record) → (link : ℕ) → link ≡ word c.args.cells.now (link_at c.in-Record.q.0) → Next (pages_of (under (record_at c.args.g c.args.dump.now) c.args.pages c.args.cells.now c.args.o.0 top c.args.first)) c.loop.count c.in-Record.q.0
+next : (c : In-Record) → (link : ℕ) → link ≡ word c.args.cells.now (link_at c.in-Record.q.0) → Next (pages_of (under (record_at c.args.g c.args.dump.now) c.args.pages c.args.cells.now c.args.o.0 top c.args.first)) c.loop-q.count c.in-Record.q.0
     (pages_of (under (record_at c.args.g c.args.dump.now) c.args.pages c.args.cells.now c.args.o.0 c.in-Record.age link))
 next c link e =
-    let here : (let q = c.loop in let c c.args in Meets (record_at a.g a.dump.now) a.pages a.o.0 a.cells.now q.bound q.link c.in-Record.q c.in-Record.age c.in-Record.field-2) = stepped _ _ _ _ _ _ (Record _ _ _) (sym c.in-Record.is ∙ c.follow-step.ensures) in
-    next_of (pages_of (under (record_at c.args.g c.args.dump.now) c.args.pages c.args.cells.now c.args.o.0 top c.args.first)) _ _ _ (c.loop.invariant.1 ∙ pages_on _ _ _ (here.onward link e))
+    let here : (let q = c.loop-q in let a = c.args in Meets (record_at a.g a.dump.now) a.pages a.o.0 a.cells.now q.bound q.link c.in-Record.q c.in-Record.age c.in-Record.field-2) = stepped _ _ _ _ _ _ (Record _ _ _) (sym c.in-Record.is ∙ c.follow-step.ensures) in
+    next_of (pages_of (under (record_at c.args.g c.args.dump.now) c.args.pages c.args.cells.now c.args.o.0 top c.args.first)) _ _ _ (c.loop-q.invariant.1 ∙ pages_on _ _ _ (here.onward link e))
 
-room : (c : In-Record) → (c.loop.count < length c.args.words.now) × (c.loop.count < c.args.pages)
+room : (c : In-Record) → (c.loop-q.count < length c.args.words.now) × (c.loop-q.count < c.args.pages)
 room c =
     let says = record_at c.args.g c.args.dump.now in
     let inside = ((next c) _ refl).3 in (
-      omega (arith, inside, pages_length (under (record_at c.args.g c.args.dump.now) c.args.pages c.args.cells.now c.args.o.0 top c.args.first), c.pre),
+      omega (arith, inside, pages_length (under (record_at c.args.g c.args.dump.now) c.args.pages c.args.cells.now c.args.o.0 top c.args.first), c.requires),
       omega (arith, inside, pages_length (under (record_at c.args.g c.args.dump.now) c.args.pages c.args.cells.now c.args.o.0 top c.args.first), few c.args.pages (objects says) (age_of says) c.args.cells.now c.args.o.0 top c.args.first),
     )
 
 pub bounds-words-count : goal.bounds-words-count
-bounds-words-count c = omega (arith, (room c).0, c.loop.invariant.0)
+bounds-words-count c = omega (arith, (room c).0, c.loop-q.invariant.0)
 
 pub overflow_add-count : goal.overflow_add-count
 overflow_add-count c = omega (arith, (room c).1)
@@ -63,14 +63,14 @@ loop-q-smaller c = (here (goal.at.loop-q-smaller c).In-Record).older
 
 pub loop-q-preserved : goal.loop-q-preserved
 loop-q-preserved c =
-    let q = c.loop in
+    let q = c.loop-q in
     let w = c.args.words.now in
     let ids = take q.count (pages_of (under (record_at c.args.g c.args.dump.now) c.args.pages c.args.cells.now c.args.o.0 top c.args.first)) in
     let p = c.in-Record.q.0 in
     let n = next (goal.at.loop-q-preserved c).In-Record _ c.link_of-link.ensures in (
-      simp length-set q.inv.0,
+      simp length-set q.invariant.0,
       n.1,
-      ap (λ (W : List ℕ). set W q.count p) q.inv.2
+      ap (λ (W : List ℕ). set W q.count p) q.invariant.2
           ∙ ap (λ (k : ℕ). set (in_front ids w) k p) (sym n.2)
           ∙ put_front ids w p (omega (arith, n.2, (room (goal.at.loop-q-preserved c).In-Record).0))
           ∙ ap (λ (L : List ℕ). in_front L w) (sym n.0),

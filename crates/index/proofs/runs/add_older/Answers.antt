@@ -18,7 +18,7 @@ use Rattle.index.proofs.runs.add_older.Goals.{In-Pages}
 
 pub run_pages-requires : goal.run_pages-requires
 run_pages-requires c =
-    let c c.args in
+    let a = c.args in
     omega (arith, opened_most a.g (length a.dump.now) _ (sym c.opened-o.ensures ∙ c.in-Pages.is))
 
 pages-are : (k : In-Pages) → opened_of k.args.g (length k.args.dump.now) ≡ opened.Pages k.in-Pages.pages

@@ -26,11 +26,11 @@ returns-in-Damaged c =
     let k = stepped _ _ _ _ _ _ Damaged (sym c.in-Damaged.is ∙ c.follow-step.ensures) in
     sym (c.loop-q.invariant.1 ∙ seek_broken _ _ _ _ _ _ _ k)
 
-here : (c : In-Record) → (let q = c.loop in let a = c.args in Meets (record_at a.g a.dump.now) a.pages a.o.0 a.cells.now q.bound q.link c.in-Record.q c.in-Record.older c.in-Record.role)
+here : (c : In-Record) → (let q = c.loop-q in let a = c.args in Meets (record_at a.g a.dump.now) a.pages a.o.0 a.cells.now q.bound q.link c.in-Record.q c.in-Record.older c.in-Record.role)
 here c = stepped _ _ _ _ _ _ (Record _ _ _) (sym c.in-Record.is ∙ c.follow-step.ensures)
 
 pub overflow_add-visits : goal.overflow_add-visits
-overflow_add-visits c = omega (arith, c.loop.invariant.0, count_on _ _ _ ((here c).onward _ refl))
+overflow_add-visits c = omega (arith, c.loop-q.invariant.0, count_on _ _ _ ((here c).onward _ refl))
 
 pub loop-q-smaller-in_default : goal.loop-q-smaller-in_default
 loop-q-smaller-in_default c = (here (goal.at.loop-q-smaller-in_default c).In-Record).older
@@ -38,28 +38,28 @@ loop-q-smaller-in_default c = (here (goal.at.loop-q-smaller-in_default c).In-Rec
 -- a header is no copy, and cuts
 pub loop-q-preserved-in_default : goal.loop-q-preserved-in_default
 loop-q-preserved-in_default c =
-    let q = c.loop in
+    let q = c.loop-q in
     let a = c.args in
     let says = record_at a.g a.dump.now in
     let e = role_header (says c.in-Record.q.0) (here (goal.at.loop-q-preserved-in_default c).In-Record).leads.some (sym c.in_default.is ∙ (here (goal.at.loop-q-preserved-in_default c).In-Record).is) in
     let on = (here (goal.at.loop-q-preserved-in_default c).In-Record).onward _ c.link_of-link.ensures in (
-      omega (arith, q.inv.0, count_on _ _ _ on),
-      q.inv.1 ∙ seek_on says _ _ _ _ _ _ _ _ on (rw (no_copy_lem a.c.0 (says c.in-Record.q.0) e) refl) ∙ rw c.cut_past-cut.ensures,
+      omega (arith, q.invariant.0, count_on _ _ _ on),
+      q.invariant.1 ∙ seek_on says _ _ _ _ _ _ _ _ on (rw (no_copy_lem a.c.0 (says c.in-Record.q.0) e) refl) ∙ rw c.cut_past-cut.ensures,
     )
 
 pub returns-then-is_shown : goal.returns-then-is_shown
 returns-then-is_shown c =
-    let q = c.loop in
-    let b = c.before.base-of in
+    let q = c.loop-q in
+    let b = c.before.base_of-base in
     let a = c.args in
     let says = record_at a.g a.dump.now in
     let e = role_data (says c.in-Record.q.0) _ (sym c.in-Data.is ∙ (here (goal.at.returns-then-is_shown c).In-Record).is) in
     let shown : is_shown says a.g.layout.«data» a.c.0 q.cut c.in-Record.q.0 ≡ true =
-    rw (e, ← b.ensures.0) (sym c.is_shown.ensures ∙ c.if-is_shown.true) in
+    rw (e, ← b.ensures.value) (sym c.is_shown.ensures ∙ c.if-is_shown.true) in
     let valid : valid_of a.g.layout.«data» a.c.0 (says c.in-Record.q.0) a.shown q.cut ≡ c.valid_of.result =
-    rw (e, ← b.ensures.0) (sym c.valid_of.ensures) in
+    rw (e, ← b.ensures.value) (sym c.valid_of.ensures) in
     sym
-    (q.inv.1
+    (q.invariant.1
     ∙ seek_here says _ _ _ _ _ _ _ _ ((here (goal.at.returns-then-is_shown c).In-Record).onward _ refl) shown
     ∙ rw valid)
 
@@ -69,14 +69,14 @@ loop-q-smaller c = (here (goal.at.loop-q-smaller c).In-Record).older
 -- a copy that is hidden, or another page of data
 pub loop-q-preserved : goal.loop-q-preserved
 loop-q-preserved c =
-    let q = c.loop in
-    let b = c.before.base-of in
+    let q = c.loop-q in
+    let b = c.before.base_of-base in
     let a = c.args in
     let says = record_at a.g a.dump.now in
     let e = role_data (says c.in-Record.q.0) _ (sym c.in-Data.is ∙ (here (goal.at.loop-q-preserved c).In-Record).is) in
     let hidden : is_shown says a.g.layout.«data» a.c.0 q.cut c.in-Record.q.0 ≡ false =
-    rw (e, ← b.ensures.0) (sym c.is_shown.ensures ∙ c.if-is_shown.false) in
+    rw (e, ← b.ensures.value) (sym c.is_shown.ensures ∙ c.if-is_shown.false) in
     let on = (here (goal.at.loop-q-preserved c).In-Record).onward _ c.link_of-link.ensures in (
-      omega (arith, q.inv.0, count_on _ _ _ on),
-      q.inv.1 ∙ seek_on says _ _ _ _ _ _ _ _ on hidden ∙ rw e,
+      omega (arith, q.invariant.0, count_on _ _ _ on),
+      q.invariant.1 ∙ seek_on says _ _ _ _ _ _ _ _ on hidden ∙ rw e,
     )

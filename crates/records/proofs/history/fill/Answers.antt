@@ -11,25 +11,25 @@ use Rattle.records.proofs.Accepted.{opened_few, written_good}
 use Rattle.records.proofs.Following.{follow_turn}
 use Rattle.records.proofs.Histories.{Recounted, recounted_none, next_age, recounted_more, recounted_all}
 use Rattle.records.proofs.history.fill.Goals as goal
-use Rattle.records.proofs.history.fill.Goals.{After-slice_known-3-1, After-value_of}
+use Rattle.records.proofs.history.fill.Goals.{After-fill_ages, After-value_of}
 
-long : (f : After-slice_known-3-1) → length f.fill_ages.last.1.1.1.1.1.0 ≡ length f.args.sizes.now
-long f = f.fill_ages.kept.1.1.1.1.1.0 ∙ f.pre.1.0 ∙ sym f.pre.1.1
+long : (f : After-fill_ages) → length f.fill_ages.last.1.1.1.1.1.0 ≡ length f.args.sizes.now
+long f = f.fill_ages.kept.1.1.1.1.1.0 ∙ f.requires.rows_len ∙ sym f.requires.sizes_len
 
 inside : (v : After-value_of) → v.loop-i.i < length v.fill_ages.last.1.1.1.1.1.0
-inside v = let q = v.loop-i in omega (arith, v.loop-i-test.taken, q.inv.rows_long)
+inside v = let q = v.loop-i in omega (arith, v.loop-i-test.taken, q.invariant.rows_long)
 
 page : (v : After-value_of) → v.value_of.result ≡ page_of (get_or v.fill_ages.last.1.1.1.1.1.0 v.loop-i.i 0)
 page v =
-    let inside : v.loop-i.i < length v.fill_ages.last.1.1.1.1.1.0 = let q = v.loop-i in omega (arith, v.loop-i-test.taken, q.inv.rows_long) in
-    v.value_of.ensures ∙ ap page_of (next_age v.loop-i.inv v.args.o.0 v.fill-ages.ensures inside)
+    let inside : v.loop-i.i < length v.fill_ages.last.1.1.1.1.1.0 = let q = v.loop-i in omega (arith, v.loop-i-test.taken, q.invariant.rows_long) in
+    v.value_of.ensures ∙ ap page_of (next_age v.loop-i.invariant v.args.o.0 v.fill-ages.ensures inside)
 
 pub loop-i-preserved : goal.loop-i-preserved
 loop-i-preserved c =
     let q = c.loop-i in
     let a = c.args in
-    let few = opened_few a.g a.dump.now a.pages c.pre.0 in
-    recounted_more q.invariant few (λ o h. written_good a.g a.dump.now a.t o a.pages q.i few h) (inside (goal.at.loop-i-preserved c).After-value_of) (omega (arith, inside (goal.at.loop-i-preserved c).After-value_of, long (goal.at.loop-i-preserved c).After-slice_known-3-1))
+    let few = opened_few a.g a.dump.now a.pages c.requires.dump_value in
+    recounted_more q.invariant few (λ o h. written_good a.g a.dump.now a.t o a.pages q.i few h) (inside (goal.at.loop-i-preserved c).After-value_of) (omega (arith, inside (goal.at.loop-i-preserved c).After-value_of, long (goal.at.loop-i-preserved c).After-fill_ages))
     (follow_turn (seen_by a.t (record_at a.g a.dump.now)) a.g.layout.«data» c.fill_ages.last.1.1.1.1.1.0 q.after c.with-after.result q.i
     c.value_of.result c.seen_at.result q.invariant.file (page (goal.at.loop-i-preserved c).After-value_of) c.seen_at.ensures c.with-after.ensures)
     (c.pack.ensures ∙ rw (page (goal.at.loop-i-preserved c).After-value_of, c.refusal.ensures)) c.size.ensures
@@ -38,7 +38,7 @@ pub returns : goal.returns
 returns c =
     let q = c.loop-i in
     let h : length c.fill_ages.last.1.1.1.1.1.0 ≤ q.i = omega (arith, c.loop-i-test.false, q.invariant.rows_long) in
-    recounted_all q.invariant c.args.o.0 c.fill_ages.ensures h (omega (arith, h, long (goal.at.returns c).After-slice_known-3-1))
+    recounted_all q.invariant c.args.o.0 c.fill_ages.ensures h (omega (arith, h, long (goal.at.returns c).After-fill_ages))
 
 pub fill_ages-requires : goal.fill_ages-requires
 fill_ages-requires c = c.requires.rows_len
@@ -50,7 +50,7 @@ pub bounds-rows-i-in-loop-i : goal.bounds-rows-i-in-loop-i
 bounds-rows-i-in-loop-i c = c.loop-i-test.true
 
 pub bounds-sizes-i : goal.bounds-sizes-i
-bounds-sizes-i c = omega (arith, inside (goal.at.bounds-sizes-i c).After-value_of, long (goal.at.bounds-sizes-i c).After-slice_known-3-1, c.loop-i.invariant.sizes_long)
+bounds-sizes-i c = omega (arith, inside (goal.at.bounds-sizes-i c).After-value_of, long (goal.at.bounds-sizes-i c).After-fill_ages, c.loop-i.invariant.sizes_long)
 
 pub loop-i-smaller : goal.loop-i-smaller
 loop-i-smaller c = omega (arith, inside (goal.at.loop-i-smaller c).After-value_of)

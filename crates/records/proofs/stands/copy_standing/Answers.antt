@@ -18,10 +18,10 @@ use Rattle.records.specs.Written.{written}
 use Rattle.records.proofs.InSight.{NewestAt, first_there, first_word, words_sorted, stands_held, Hidden, stands_cut}
 use Rattle.records.proofs.Accepted.{seen_within}
 use Rattle.records.proofs.stands.copy_standing.Goals as goal
-use Rattle.records.proofs.stands.copy_standing.Goals.{After-shared_slice_known-then-base-lows-1, After-chunk-1, After-first_from-k}
+use Rattle.records.proofs.stands.copy_standing.Goals.{After-base_of-base, Start, After-first_from-k}
 
 -- the copy, whose chunk has a number and ends before the last word
-copy : (b : After-shared_slice_known-then-base-lows-1) → let a = b.args in NewestAt (seen_by b.args.t (record_at b.args.g b.args.dump.now)) a.g.layout.«data» a.o.0 a.pages a.i a.d
+copy : (b : After-base_of-base) → let a = b.args in NewestAt (seen_by b.args.t (record_at b.args.g b.args.dump.now)) a.g.layout.«data» a.o.0 a.pages a.i a.d
 copy b =
     let b = b in
     let a = b.args in
@@ -41,12 +41,12 @@ copy b =
           );
     }
 
-word-there : (s : After-chunk-1) → 0 < length s.args.lows.now
+word-there : (s : Start) → 0 < length s.args.lows.now
 word-there s =
     let lows : s.args.lows.now ≡ drop s.args.i (lows_of (seen_by s.args.t (record_at s.args.g s.args.dump.now)) (written (seen_by s.args.t (record_at s.args.g s.args.dump.now)) s.args.o.0 s.args.pages)) = s.requires.lows_value in
     first_there (seen_by s.args.t (record_at s.args.g s.args.dump.now)) (written (seen_by s.args.t (record_at s.args.g s.args.dump.now)) s.args.o.0 s.args.pages) s.args.i s.requires.i_in_bounds s.args.lows.now lows
 
-word-is : (s : After-chunk-1) → get_or s.args.lows.now 0 0 ≡ cut_word (low_of (seen_by s.args.t (record_at s.args.g s.args.dump.now)) (drop s.args.i (written (seen_by s.args.t (record_at s.args.g s.args.dump.now)) s.args.o.0 s.args.pages)))
+word-is : (s : Start) → get_or s.args.lows.now 0 0 ≡ cut_word (low_of (seen_by s.args.t (record_at s.args.g s.args.dump.now)) (drop s.args.i (written (seen_by s.args.t (record_at s.args.g s.args.dump.now)) s.args.o.0 s.args.pages)))
 word-is s =
     let lows : s.args.lows.now ≡ drop s.args.i (lows_of (seen_by s.args.t (record_at s.args.g s.args.dump.now)) (written (seen_by s.args.t (record_at s.args.g s.args.dump.now)) s.args.o.0 s.args.pages)) = s.requires.lows_value in
     first_word (seen_by s.args.t (record_at s.args.g s.args.dump.now)) (written (seen_by s.args.t (record_at s.args.g s.args.dump.now)) s.args.o.0 s.args.pages) s.args.i s.requires.i_in_bounds s.args.lows.now lows
@@ -54,7 +54,7 @@ word-is s =
 pub returns-then-base-lows : goal.returns-then-base-lows
 returns-then-base-lows c =
     c.held.ensures
-    ∙ stands_held (copy (goal.at.returns-then-base-lows c).After-shared_slice_known-then-base-lows-1) c.requires.1.1.1.1.0 (word-is (goal.at.returns-then-base-lows c).After-chunk-1) (omega (arith, c.base_of-base.ensures.value, c.if-base-lows.true))
+    ∙ stands_held (copy (goal.at.returns-then-base-lows c).After-base_of-base) c.requires.after_value (word-is (goal.at.returns-then-base-lows c).Start) (omega (arith, c.base_of-base.ensures.value, c.if-base-lows.true))
 
 -- where the copy is hidden
 hidden : (f : After-first_from-k) → let f = f in
@@ -72,10 +72,10 @@ returns c =
     rw (c.value_of.ensures, c.requires.ages_value, get_or-drop c.args.i (written (seen_by c.args.t (record_at c.args.g c.args.dump.now)) c.args.o.0 c.args.pages) (c.first_from-k.result - 1) 0) (hidden (goal.at.returns c).After-first_from-k).is_cut
 
 pub bounds-lows-0 : goal.bounds-lows-0
-bounds-lows-0 c = word-there (goal.at.bounds-lows-0 c).After-chunk-1
+bounds-lows-0 c = word-there (goal.at.bounds-lows-0 c).Start
 
 pub bounds-lows-0-then-base-lows : goal.bounds-lows-0-then-base-lows
-bounds-lows-0-then-base-lows c = word-there (goal.at.bounds-lows-0-then-base-lows c).After-chunk-1
+bounds-lows-0-then-base-lows c = word-there (goal.at.bounds-lows-0-then-base-lows c).Start
 
 pub overflow_sub-k : goal.overflow_sub-k
 overflow_sub-k c = omega (arith, (hidden c).some_words)

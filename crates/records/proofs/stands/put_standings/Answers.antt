@@ -26,32 +26,32 @@ ages s = written (says s) s.args.o.0 s.args.pages
 
 -- the rows are the ages, and there are as many second words
 own : (s : Start) → s.args.rows.now ≡ ages s
-own s = s.requires.1.1.1.0
+own s = s.requires.rows_value
 
 long : (s : Start) → length s.args.details.now ≡ length (ages s)
-long s = ap length s.requires.1.1.1.1 ∙ lows_length (says s) (ages s)
+long s = ap length s.requires.details_value ∙ lows_length (says s) (ages s)
 
 few : (s : Start) → length s.args.rows.now < 0xFFFFFFFF
 few s =
     let a = s.args in
     rw (own s)
-    (written_few (says s) a.o.0 a.pages (opened_pages a.g (length a.dump.now) a.pages s.requires.0))
+    (written_few (says s) a.o.0 a.pages (opened_pages a.g (length a.dump.now) a.pages s.requires.dump_value))
 
 pub loop-i-init : goal.loop-i-init
 loop-i-init c = record { inside (goal.at.loop-i-init c).In-loop-i search rules; rows_long = refl; details_long = long c ∙ ap length (sym (own c)); rows_laid = refl; details_laid = refl }
 
 inside : (t : In-loop-i) → t.loop-i.i < length t.args.rows.now
-inside t = omega (arith, t.loop-i-test.taken, t.loop-i.inv.rows_long)
+inside t = omega (arith, t.loop-i-test.true, t.loop-i.invariant.rows_long)
 
 of-record : (t : In-loop-i) → t.loop-i.i < length (ages t)
 of-record t =
-    let inside : t.loop-i.i < length t.args.rows.now = omega (arith, t.loop-i-test.taken, t.loop-i.inv.rows_long) in
+    let inside : t.loop-i.i < length t.args.rows.now = omega (arith, t.loop-i-test.true, t.loop-i.invariant.rows_long) in
     omega (arith, inside, ap length (own t))
 
 pub standing_at-s-requires : goal.standing_at-s-requires
 standing_at-s-requires c =
     let q = c.loop-i in
-    let s = c in record { dump_value = s.pre.0; i_in_bounds = of-record (goal.at.standing_at-s-requires c).In-loop-i; ages_value = rest_rows q.invariant (own s) (long s); lows_value = rest_details q.invariant (own s) (long s) ∙ ap (drop q.i) s.pre.1.1.1.1; places_value = s.pre.1.1.0; after_value = s.pre.1.0 (omega (arith, inside (goal.at.standing_at-s-requires c).In-loop-i)) }
+    let s = c in record { dump_value = s.requires.dump_value; i_in_bounds = of-record (goal.at.standing_at-s-requires c).In-loop-i; ages_value = rest_rows q.invariant (own s) (long s); lows_value = rest_details q.invariant (own s) (long s) ∙ ap (drop q.i) s.requires.details_value; places_value = s.requires.places_value; after_value = s.requires.after_value (omega (arith, inside (goal.at.standing_at-s-requires c).In-loop-i)) }
 
 pub loop-i-preserved : goal.loop-i-preserved
 loop-i-preserved c =
@@ -68,7 +68,7 @@ pub offset_bounds-details-i-in-loop-i : goal.offset_bounds-details-i-in-loop-i
 offset_bounds-details-i-in-loop-i c = let c = c in omega (arith, inside (goal.at.offset_bounds-details-i-in-loop-i c).In-loop-i, few c)
 
 pub bounds-details-i : goal.bounds-details-i
-bounds-details-i c = let c = c in omega (arith, inside (goal.at.bounds-details-i c).In-loop-i, c.loop-i.inv.details_long)
+bounds-details-i c = let c = c in omega (arith, inside (goal.at.bounds-details-i c).In-loop-i, c.loop-i.invariant.details_long)
 
 pub overflow_add-i : goal.overflow_add-i
 overflow_add-i c = let c = c in omega (arith, inside (goal.at.overflow_add-i c).In-loop-i, few c)

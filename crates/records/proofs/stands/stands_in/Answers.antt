@@ -15,7 +15,15 @@ use Rattle.records.specs.Answers.{standing_left, details_left}
 use Rattle.records.specs.Rows.{standing_rows, standing_details}
 use Rattle.records.proofs.Answering.{Front, Counted, recorded_on_lem, left_refused, worked_refused, told_count, told_front, left_told, worked_told}
 use Rattle.records.proofs.stands.stands_in.Goals as goal
-use Rattle.records.proofs.stands.stands_in.Goals.{In-Records}
+use Rattle.records.proofs.stands.stands_in.Goals.{After-count_in-r, In-Records}
+
+-- what is counted is the answer
+counted : (n : After-count_in-r) → let a = n.args in Counted a.g a.dump.now a.m a.o.0 (min (length n.args.rows.now) (min (length n.args.details.now) (length n.args.work.now))) a.pages n.count_in-r.result
+counted n =
+    record {
+      accepted = n.requires;
+      is = rw (← n.takes-t.ensures, ← n.least.ensures, ← n.least-room.ensures) n.count_in-r.ensures;
+    }
 
 rows : (c : In-Records) → Front c.in-Records.count c.args.rows.now
 rows c =
@@ -45,21 +53,19 @@ fill-requires c = record { dump_value = c.requires; rows_len = (rows (goal.at.fi
 pub returns-in-Refused : goal.returns-in-Refused
 unfolding standing_left details_left
 returns-in-Refused c =
-    let counted : let a = c.args in Counted a.g a.dump.now a.m a.o.0 (min (length c.args.rows.now) (min (length c.args.details.now) (length c.args.work.now))) a.pages c.count_in-r.result = record { accepted = c.requires; is = rw (← c.takes-t.ensures, ← c.least.ensures, ← c.least-room.ensures) c.count_in-r.ensures; } in
     let a = c.args in
     let P = a.g.layout.«data» in
-    let t = c.in-Refused.is in record { value = sym t ∙ recorded_on_lem counted; rows_after = left_refused counted t (λ i. standing_rows (says_at c.args.g c.args.dump.now c.args.m c.args.o.0) P a.o.0 i) a.rows.now; details_after = left_refused counted t (λ i. standing_details (says_at c.args.g c.args.dump.now c.args.m c.args.o.0) P a.o.0 i) a.details.now; work_after = worked_refused counted t a.work.now }
+    let t = c.in-Refused.is in record { value = sym t ∙ recorded_on_lem (counted (goal.at.returns-in-Refused c).After-count_in-r); rows_after = left_refused (counted (goal.at.returns-in-Refused c).After-count_in-r) t (λ i. standing_rows (says_at c.args.g c.args.dump.now c.args.m c.args.o.0) P a.o.0 i) a.rows.now; details_after = left_refused (counted (goal.at.returns-in-Refused c).After-count_in-r) t (λ i. standing_details (says_at c.args.g c.args.dump.now c.args.m c.args.o.0) P a.o.0 i) a.details.now; work_after = worked_refused (counted (goal.at.returns-in-Refused c).After-count_in-r) t a.work.now }
 
 pub returns-in-Records : goal.returns-in-Records
 unfolding standing_left details_left
 returns-in-Records c =
-    let counted : let a = c.args in Counted a.g a.dump.now a.m a.o.0 (min (length c.args.rows.now) (min (length c.args.details.now) (length c.args.work.now))) a.pages c.count_in-r.result = record { accepted = c.requires; is = rw (← c.takes-t.ensures, ← c.least.ensures, ← c.least-room.ensures) c.count_in-r.ensures; } in
     let a = c.args in
     let P = a.g.layout.«data» in
     let t = c.in-Records.is in
-    let takes = c.takes-t.ensures in record { value = sym t ∙ recorded_on_lem counted; rows_after = left_told counted t (λ i. standing_rows (says_at c.args.g c.args.dump.now c.args.m c.args.o.0) P a.o.0 i) a.rows.now
-            (rw takes at c.fill.ensures.rows_after) (c.fill.auto.1.1.1.1.1.0 ∙ (rows (goal.at.returns-in-Records c).In-Records).long); details_after = left_told counted t (λ i. standing_details (says_at c.args.g c.args.dump.now c.args.m c.args.o.0) P a.o.0 i) a.details.now
-              (rw takes at c.fill.ensures.details_after) (c.fill.auto.1.1.1.1.1.1.0 ∙ (details (goal.at.returns-in-Records c).In-Records).long); work_after = worked_told counted t a.work.now (c.fill.ensures.work_after ∙ ap (λ (k : ℕ). replicate c.in-Records.count) (work (goal.at.returns-in-Records c).In-Records).long) }
+    let takes = c.takes-t.ensures in record { value = sym t ∙ recorded_on_lem (counted (goal.at.returns-in-Records c).After-count_in-r); rows_after = left_told (counted (goal.at.returns-in-Records c).After-count_in-r) t (λ i. standing_rows (says_at c.args.g c.args.dump.now c.args.m c.args.o.0) P a.o.0 i) a.rows.now
+            (rw takes at c.fill.ensures.rows_after) (c.fill.auto.1.1.1.1.1.0 ∙ (rows (goal.at.returns-in-Records c).In-Records).long); details_after = left_told (counted (goal.at.returns-in-Records c).After-count_in-r) t (λ i. standing_details (says_at c.args.g c.args.dump.now c.args.m c.args.o.0) P a.o.0 i) a.details.now
+              (rw takes at c.fill.ensures.details_after) (c.fill.auto.1.1.1.1.1.1.0 ∙ (details (goal.at.returns-in-Records c).In-Records).long); work_after = worked_told (counted (goal.at.returns-in-Records c).After-count_in-r) t a.work.now (c.fill.ensures.work_after ∙ ap (λ (k : ℕ). replicate c.in-Records.count) (work (goal.at.returns-in-Records c).In-Records).long) }
 
 pub slice_bounds-fill-end : goal.slice_bounds-fill-end
 slice_bounds-fill-end c = (rows c).inside

@@ -36,7 +36,7 @@ loop-i-preserved-in_default c =
     let a = c.args in
     let says = says_by a.g a.dump.now a.t in
     let t = page_no_child says a.heads.now q.i (rw said (else_header c.seen_at-r.result c.in_default.not-Header)) in
-    (search rules, rw (passed_skip (is_child says a.heads.now) (child_row says a.heads.now) q.i t) q.inv.1)
+    (search rules, rw (passed_skip (is_child says a.heads.now) (child_row says a.heads.now) q.i t) q.invariant.1)
 
 pub loop-i-preserved-then-gone_under : goal.loop-i-preserved-then-gone_under
 loop-i-preserved-then-gone_under c =
@@ -47,7 +47,7 @@ loop-i-preserved-then-gone_under c =
     let e : is_gone (said_at says a.heads.now q.i) ≡ true =
     ap is_gone (said ∙ c.in-Header.is) ∙ sym c.gone_under.ensures ∙ c.if-gone_under.true in
     let t = deleted_no_child says a.heads.now q.i e in
-    (search rules, rw (passed_skip (is_child says a.heads.now) (child_row says a.heads.now) q.i t) q.inv.1)
+    (search rules, rw (passed_skip (is_child says a.heads.now) (child_row says a.heads.now) q.i t) q.invariant.1)
 
 pub loop-i-preserved : goal.loop-i-preserved
 loop-i-preserved c =
@@ -61,14 +61,14 @@ loop-i-preserved c =
     let r : c.pack.result ≡ child_row says a.heads.now q.i =
     c.pack.ensures ∙ sym (child_row_lem says a.heads.now q.i _ e) in
     let more = passed_take (is_child says a.heads.now) (child_row says a.heads.now) q.i t in
-    (search rules, rw (more, ← r) (also q.inv.1 c.put_row-at.ensures))
+    (search rules, rw (more, ← r) (also q.invariant.1 c.put_row-at.ensures))
 
 -- were put
 put_all : (l : After-sort-arg-1) → Put (let says = says_by l.args.g l.args.dump.now l.args.t in passed (is_child says l.args.heads.now) (child_row says l.args.heads.now) (length l.args.heads.now)) l.args.rows.now 0 l.loop-i.rows l.loop-i.at
 put_all l =
     let q = l.loop-i in
-    let e : q.i ≡ length l.args.heads.now = omega (arith, l.loop-i-test.left, q.inv.0) in
-    rw e at q.inv.1
+    let e : q.i ≡ length l.args.heads.now = omega (arith, l.loop-i-test.left, q.invariant.0) in
+    rw e at q.invariant.1
 
 -- and are no more than the heads
 fits : (l : After-slice_known-1) → length (let says = says_by l.args.g l.args.dump.now l.args.t in passed (is_child says l.args.heads.now) (child_row says l.args.heads.now) (length l.args.heads.now)) ≤ length l.args.rows.now

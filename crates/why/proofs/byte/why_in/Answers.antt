@@ -17,7 +17,7 @@ use Rattle.why.specs.Answers.{found_in, why_on, why_left}
 use Rattle.why.proofs.Filling.{opened_sized, rows_inside, rows_front, rows_cleared, found_tells, past_tells}
 use Rattle.why.proofs.Finding.{found_below}
 use Rattle.why.proofs.byte.why_in.Goals as goal
-use Rattle.why.proofs.byte.why_in.Goals.{After-clear-arg-in-Header-1}
+use Rattle.why.proofs.byte.why_in.Goals.{After-find-found}
 
 pub measure-k-requires : goal.measure-k-requires
 measure-k-requires c =
@@ -48,7 +48,7 @@ find-found-requires c =
     (rows_inside (let a = c.args in spans_of (let a = c.args in seen_by c.takes-t.result (record_at a.g a.dump.now)) a.g.layout.«data» a.o.0 a.pages c.f-in-Header-1.given.0.0.0) c.args.rows.now c.measure-k.result.marks c.if-rows-need.false _ c.fill-count.ensures.rows_after c.rows-in-Header-1.given)
 
 -- what is found is found in them
-found : (c : After-clear-arg-in-Header-1) → let h = c.f-in-Header-1.given.0.0.0 in
+found : (c : After-find-found) → let h = c.f-in-Header-1.given.0.0.0 in
     let a = c.args in
     c.find-found.result ≡ found_in a.x (size_of (let a = c.args in seen_by c.takes-t.result (record_at a.g a.dump.now)) a.g.layout.«data» a.o.0 h a.pages) 0 (let a = c.args in spans_of (let a = c.args in seen_by c.takes-t.result (record_at a.g a.dump.now)) a.g.layout.«data» a.o.0 a.pages h)
 found c =
@@ -72,7 +72,7 @@ returns-else-size-x c =
     let h = c.f-in-Header-1.given.0.0.0 in
     let p =
     found_tells (let a = c.args in seen_by c.takes-t.result (record_at a.g a.dump.now)) a.g.layout.«data» a.o.0 a.pages h a.x (opened_sized a.g (length a.dump.now) a.pages c.requires)
-    (rw c.measure-k.ensures.size_value at c.if-size-x.false) c.find-found.result (found (goal.at.returns-else-size-x c).After-clear-arg-in-Header-1)
+    (rw c.measure-k.ensures.size_value at c.if-size-x.false) c.find-found.result (found (goal.at.returns-else-size-x c).After-find-found)
     in
     let clear = rows_cleared (let a = c.args in spans_of (let a = c.args in seen_by c.takes-t.result (record_at a.g a.dump.now)) a.g.layout.«data» a.o.0 a.pages h) a.rows.now c.measure-k.result.marks c.if-rows-need.false _ c.fill-count.ensures.rows_after c.rows-in-Header-1.given _ c.clear-in-Header.ensures in
     rw (c.requires, ← c.takes-t.ensures, ← c.file_in-f.ensures, c.in-Header.is, ← c.measure-k.ensures.marks_value, le-ltb _ _ c.if-rows-need.false)

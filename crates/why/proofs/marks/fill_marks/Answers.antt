@@ -12,7 +12,7 @@ use Rattle.why.specs.Marks.{marks_in, marks_of, marks_to}
 use Rattle.chunk.proofs.Records.{seen_unnamed}
 use Rattle.why.proofs.Putting.{Filled, marks_some, fill_none, fill_skip, fill_room, fill_more, fill_end}
 use Rattle.why.proofs.marks.fill_marks.Goals as goal
-use Rattle.why.proofs.marks.fill_marks.Goals.{After-mark, After-put-arg-1}
+use Rattle.why.proofs.marks.fill_marks.Goals.{After-mark, After-marks_of-made}
 
 pub bounds-rows-0 : goal.bounds-rows-0
 bounds-rows-0 c =
@@ -38,16 +38,16 @@ room : (c : After-mark) → let a = c.args in
     length (marks_to (seen_by a.t (record_at a.g a.dump.now)) a.g.layout.«data» a.o.0 a.h.0 a.pages) ≤ length (set a.rows.now 0 c.mark.result)
 room c = rw (length-set c.args.rows.now 0 c.mark.result) c.requires.pages_in_bounds
 
-made : (c : After-put-arg-1) → let q = c.loop-i in
+made : (c : After-marks_of-made) → let q = c.loop-i in
     let a = c.args in
     marks_in c.marks_of-made.result ≡ marks_of a.g.layout.«data» a.o.0 a.h.0 q.i (seen_by a.t (record_at a.g a.dump.now) q.i)
 made c = rw (← c.seen_at.ensures) c.marks_of-made.ensures
 
 pub put-at-requires : goal.put-at-requires
-put-at-requires c = fill_room c.loop-i.invariant (room (goal.at.put-at-requires c).After-mark) c.loop-i-test.true (made c)
+put-at-requires c = fill_room c.loop-i.invariant (room (goal.at.put-at-requires c).After-mark) c.loop-i-test.true (made (goal.at.put-at-requires c).After-marks_of-made)
 
 pub loop-i-preserved : goal.loop-i-preserved
-loop-i-preserved c = rw (c.put-at.ensures.rows_after, c.put-at.ensures.value) (fill_more c.loop-i.invariant (room (goal.at.loop-i-preserved c).After-mark) c.loop-i-test.true (made (goal.at.loop-i-preserved c).After-put-arg-1))
+loop-i-preserved c = rw (c.put-at.ensures.rows_after, c.put-at.ensures.value) (fill_more c.loop-i.invariant (room (goal.at.loop-i-preserved c).After-mark) c.loop-i-test.true (made (goal.at.loop-i-preserved c).After-marks_of-made))
 
 pub shape_of-rows : goal.shape_of-rows
 shape_of-rows c = c.loop-i.invariant.long ∙ length-set c.args.rows.now 0 c.mark.result

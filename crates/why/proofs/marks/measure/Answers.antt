@@ -53,7 +53,7 @@ pub overflow_add-marks : goal.overflow_add-marks
 overflow_add-marks c =
     let a = c.args in
     let few = marks_few (seen_by c.args.t (record_at c.args.g c.args.dump.now)) a.g.layout.«data» a.o.0 a.h.0 (c.loop-i.i + 1) in
-    record { fits = omega (arith, counted c, few, c.loop-i-test.true, c.requires.0) }
+    record { fits = omega (arith, counted c, few, c.loop-i-test.true, c.requires.pages_lt_page_values) }
 
 pub loop-i-preserved : goal.loop-i-preserved
 loop-i-preserved c =

@@ -11,7 +11,7 @@ use Rattle.why.specs.Sweeps.{reason_seen}
 use Rattle.sort.proofs.Clearing.{clear_inside}
 use Rattle.why.proofs.InPlace.{Swept, SeenBelow, taken_below, sweep_none, mark_inside, code_below, sweep_goes, sweep_past, sweep_same, sweep_row, sweep_end}
 use Rattle.why.proofs.sweep.sweep.Goals as goal
-use Rattle.why.proofs.sweep.sweep.Goals.{After-place_of-x}
+use Rattle.why.proofs.sweep.sweep.Goals.{After-place_of-x, After-code-code}
 
 pub bounds-rows-j : goal.bounds-rows-j
 bounds-rows-j c = omega (arith, c.loop-j.invariant.long, c.requires.count_in_bounds, c.loop-j-test.true)
@@ -26,36 +26,38 @@ inside c =
 pub loop-j-preserved-then-goes_on : goal.loop-j-preserved-then-goes_on
 loop-j-preserved-then-goes_on c =
     let q = c.loop-j in
-    sweep_goes s.requires.0 q.invariant c.loop-j-test.true c.taking-seen.ensures c.place_of-x.ensures (sym c.goes_on.ensures ∙ c.if-goes_on.true)
+    sweep_goes s.requires.count_in_bounds q.invariant c.loop-j-test.true c.taking-seen.ensures c.place_of-x.ensures (sym c.goes_on.ensures ∙ c.if-goes_on.true)
 
 pub loop-j-preserved-then-size-x : goal.loop-j-preserved-then-size-x
 loop-j-preserved-then-size-x c =
     let q = c.loop-j in
-    sweep_past s.requires.0 q.invariant c.loop-j-test.true c.taking-seen.ensures c.place_of-x.ensures (sym c.goes_on.ensures ∙ c.if-goes_on.false) c.if-size-x.true
+    sweep_past s.requires.count_in_bounds q.invariant c.loop-j-test.true c.taking-seen.ensures c.place_of-x.ensures (sym c.goes_on.ensures ∙ c.if-goes_on.false) c.if-size-x.true
 
 pub reason-requires : goal.reason-requires
 reason-requires c = record { data_nonzero = c.requires.data_nonzero; x_lt_places = inside (goal.at.reason-requires c).After-place_of-x }
 
+-- the code is that of the reason at the place
+coded : (c : After-code-code) → let a = c.args in
+    c.code-code.result ≡ code_of (reason_seen (seen_by a.t (record_at a.g a.dump.now)) a.g.layout.«data» c.taking-seen.result c.place_of-x.result)
+coded c = rw (← c.reason.ensures) c.code-code.ensures
+
 pub loop-j-preserved-then-code-last : goal.loop-j-preserved-then-code-last
 loop-j-preserved-then-code-last c =
-    let coded : let a = c.args in c.code-code.result ≡ code_of (reason_seen (seen_by a.t (record_at a.g a.dump.now)) a.g.layout.«data» c.taking-seen.result c.place_of-x.result) = rw (← c.reason.ensures) c.code-code.ensures in
     let q = c.loop-j in
-    sweep_same s.requires.0 q.invariant c.loop-j-test.true c.taking-seen.ensures c.place_of-x.ensures (sym c.goes_on.ensures ∙ c.if-goes_on.false) c.if-size-x.false coded c.if-code-last.true
+    sweep_same s.requires.count_in_bounds q.invariant c.loop-j-test.true c.taking-seen.ensures c.place_of-x.ensures (sym c.goes_on.ensures ∙ c.if-goes_on.false) c.if-size-x.false (coded (goal.at.loop-j-preserved-then-code-last c).After-code-code) c.if-code-last.true
 
 pub row-requires : goal.row-requires
 row-requires c =
-    let coded : let a = c.args in c.code-code.result ≡ code_of (reason_seen (seen_by a.t (record_at a.g a.dump.now)) a.g.layout.«data» c.taking-seen.result c.place_of-x.result) = rw (← c.reason.ensures) c.code-code.ensures in
     let q = c.loop-j in
     let a = c.args in
     let says = seen_by a.t (record_at a.g a.dump.now) in
     let b : SeenBelow c.taking-seen.result = rw c.taking-seen.ensures (taken_below says q.seen (get_or q.rows q.j 0) q.invariant.below) in
-    record { place_lt_places = inside (goal.at.row-requires c).After-place_of-x; code_lt_code_values = rw coded (code_below says a.g.layout.«data» c.taking-seen.result c.place_of-x.result b) }
+    record { place_lt_places = inside (goal.at.row-requires c).After-place_of-x; code_lt_code_values = rw (coded (goal.at.row-requires c).After-code-code) (code_below says a.g.layout.«data» c.taking-seen.result c.place_of-x.result b) }
 
 pub loop-j-preserved : goal.loop-j-preserved
 loop-j-preserved c =
-    let coded : let a = c.args in c.code-code.result ≡ code_of (reason_seen (seen_by a.t (record_at a.g a.dump.now)) a.g.layout.«data» c.taking-seen.result c.place_of-x.result) = rw (← c.reason.ensures) c.code-code.ensures in
     let q = c.loop-j in
-    sweep_row s.requires.0 q.invariant c.loop-j-test.true c.taking-seen.ensures c.place_of-x.ensures (sym c.goes_on.ensures ∙ c.if-goes_on.false) c.if-size-x.false coded c.if-code-last.false c.row.ensures
+    sweep_row s.requires.count_in_bounds q.invariant c.loop-j-test.true c.taking-seen.ensures c.place_of-x.ensures (sym c.goes_on.ensures ∙ c.if-goes_on.false) c.if-size-x.false (coded (goal.at.loop-j-preserved c).After-code-code) c.if-code-last.false c.row.ensures
 
 pub bounds-rows-at : goal.bounds-rows-at
 bounds-rows-at c =
