@@ -16,11 +16,11 @@ front s = length-take-le _ s.args.work.now (omega (arith, s.requires.order_len, 
 
 pub fill_copies-requires : goal.fill_copies-requires
 fill_copies-requires c =
-    let o = c.fill_order.auto.1.1.1.0 in
+    let o = c.fill_order.auto.rows in
     let w = c.work-1.given.1 in record { dump_value = s.requires.dump_value; order_value = c.fill_order.ensures.rows_after; copies_len = omega (arith, s.requires.order_len, s.requires.copies_len, o); order_in_bounds = omega (arith, s.requires.order_len, s.requires.work_len, o, w) }
 
 pub returns : goal.returns
-returns c = let long = c.fill_copies.auto.1.1.1.1.1.0 ∙ c.work-1.given.1 in record { order_after = c.fill_order.ensures.rows_after; copies_after = c.fill_copies.ensures; work_after = c.clear.ensures ∙ cleared_all c.fill_copies.new.1.1.1.1.1.0 _ refl ∙ ap (λ (k : ℕ). replicate {A = ℕ} k 0) long }
+returns c = let long = c.fill_copies.auto.work ∙ c.work-1.given.1 in record { order_after = c.fill_order.ensures.rows_after; copies_after = c.fill_copies.ensures; work_after = c.clear.ensures ∙ cleared_all c.fill_copies.new.1.1.1.1.1.0 _ refl ∙ ap (λ (k : ℕ). replicate {A = ℕ} k 0) long }
 
 pub slice_bounds-fill_order-end-2 : goal.slice_bounds-fill_order-end-2
 slice_bounds-fill_order-end-2 c = sym (front (goal.at.slice_bounds-fill_order-end-2 c).Start)

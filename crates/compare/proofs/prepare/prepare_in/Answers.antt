@@ -58,7 +58,7 @@ returns c =
     rw c.work_for-room.ensures
     (room_enough a.g a.dump.now a.order.now a.copies.now a.work.now a.pages c.requires c.count_records-records.result
     c.count_records-records.ensures (enough (goal.at.returns c).After-work_for-room) _ _ _
-    e.0 (c.fill.auto.1.1.1.0 ∙ order-front (goal.at.returns c).After-work_for-room) e.1.0 (c.fill.auto.1.1.1.1.0 ∙ copies-front (goal.at.returns c).After-work_for-room)
+    e.0 (c.fill.auto.order ∙ order-front (goal.at.returns c).After-work_for-room) e.1.0 (c.fill.auto.copies ∙ copies-front (goal.at.returns c).After-work_for-room)
     (e.1.1 ∙ ap (λ (j : ℕ). replicate {A = ℕ} j 0) (work-front (goal.at.returns c).After-work_for-room ∙ c.work_for-room.ensures)))
 
 pub slice_bounds-fill-end : goal.slice_bounds-fill-end

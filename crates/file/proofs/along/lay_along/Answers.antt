@@ -32,7 +32,7 @@ room : (w : After-walk_along-n) → room_for w.walk_along-n.result ≤ length w.
 room w = omega (arith, w.walk_along-n.ensures.upper_bound, w.requires.list_in_bounds)
 
 -- it leaves the words
-same : (w : After-walk_along-n) → w.walk_along-n.last.1.1.1.1.1.1.1.0 ≡ w.args.rows.now
+same : (w : After-walk_along-n) → w.walk_along-n.new.rows ≡ w.args.rows.now
 same w = w.walk_along-n.ensures.rows_after ∙ put_zero _ _ _
 
 pub walk_along-n-requires : goal.walk_along-n-requires
@@ -45,9 +45,9 @@ walk_along-requires c =
     let p = c.requires in
     record { dump_value = p.0; list_len_bound = p.1.0; chunks_lt_chunk_values = omega (arith, c.chunks_in-chunks.ensures.upper_bound); n_in_bounds = omega (arith, room (goal.at.walk_along-requires c).After-walk_along-n, ap length (same (goal.at.walk_along-requires c).After-walk_along-n)) }
 
-is_sorted : (k : After-sort) → k.sort.last.0 ≡ sorted_with k.args.rows.now k.walk_along-n.result (let a = k.args in met (record_at a.g a.dump.now) a.g.layout.«data» k.chunks_in-chunks.result a.size true Nowhere (from_list (map value_of a.list.now)))
+is_sorted : (k : After-sort) → k.sort.new.words ≡ sorted_with k.args.rows.now k.walk_along-n.result (let a = k.args in met (record_at a.g a.dump.now) a.g.layout.«data» k.chunks_in-chunks.result a.size true Nowhere (from_list (map value_of a.list.now)))
 is_sorted k =
-    let same : k.walk_along-n.last.1.1.1.1.1.1.1.0 ≡ k.args.rows.now = k.walk_along-n.ensures.rows_after ∙ put_zero _ _ _ in
+    let same : k.walk_along-n.new.rows ≡ k.args.rows.now = k.walk_along-n.ensures.rows_after ∙ put_zero _ _ _ in
     k.sort.ensures
     ∙ ap (λ (r : List ℕ). arranged (take k.walk_along-n.result r) ++ drop k.walk_along-n.result r)
     (k.walk_along.ensures.rows_after ∙ ap (λ (r : List ℕ). put_from k.walk_along-n.result r 0 (let a = k.args in met (record_at a.g a.dump.now) a.g.layout.«data» k.chunks_in-chunks.result a.size true Nowhere (from_list (map value_of a.list.now)))) same)

@@ -16,21 +16,21 @@ use Rattle.file.proofs.Chunks.{data_some}
 use Rattle.file.proofs.Putting.{put_zero}
 use Rattle.file.proofs.Copying.{opened_data, copies_short, copies_rows, copies_filled}
 use Rattle.file.proofs.copies.copies_in.Goals as goal
-use Rattle.file.proofs.copies.copies_in.Goals.{In-Size-2, After-walk-w}
+use Rattle.file.proofs.copies.copies_in.Goals.{In-Size, After-walk-w}
 
-given-size : (g : In-Size-2) → (let a = g.args in size_from a.g a.dump.now a.cells.now a.o.0 ≡ sized.Size g.in-Size.bytes g.in-Size.field-1)
+given-size : (g : In-Size) → (let a = g.args in size_from a.g a.dump.now a.cells.now a.o.0 ≡ sized.Size g.in-Size.bytes g.in-Size.field-1)
 given-size g = sym g.size-s.ensures ∙ g.in-Size.is
 
 pub walk-w-requires : goal.walk-w-requires
-walk-w-requires c = let c = c in record { pages_lt_page_values = opened_pages _ _ _ c.requires; pages_in_bounds = (is_sized _ _ _ _ _ _ _ c.requires (given-size (goal.at.walk-w-requires c).In-Size-2)).room; chunks_lt_chunk_values = omega (arith, c.chunks_in-chunks.ensures.upper_bound); data_bound = opened_data _ _ _ c.requires; n_in_bounds = omega arith }
+walk-w-requires c = let c = c in record { pages_lt_page_values = opened_pages _ _ _ c.requires; pages_in_bounds = (is_sized _ _ _ _ _ _ _ c.requires (given-size (goal.at.walk-w-requires c).In-Size)).room; chunks_lt_chunk_values = omega (arith, c.chunks_in-chunks.ensures.upper_bound); data_bound = opened_data _ _ _ c.requires; n_in_bounds = omega arith }
 
-same : (w : After-walk-w) → w.walk-w.last.1.1.1.1.1.1.1.1.1.0 ≡ w.args.rows.now
+same : (w : After-walk-w) → w.walk-w.new.rows ≡ w.args.rows.now
 same w = w.walk-w.ensures.rows_after ∙ put_zero _ _ _
 
 pub returns-then-rows-room : goal.returns-then-rows-room
 unfolding rows_from rows_by
 returns-then-rows-room c =
-    let c = c in record { value = copies_short _ _ _ _ _ _ _ c.requires (given-size (goal.at.returns-then-rows-room c).In-Size-2) _ _ _ c.first_link-first.ensures c.chunks_in-chunks.ensures.value c.walk-w.ensures.copies_value c.args.rows.now
+    let c = c in record { value = copies_short _ _ _ _ _ _ _ c.requires (given-size (goal.at.returns-then-rows-room c).In-Size) _ _ _ c.first_link-first.ensures c.chunks_in-chunks.ensures.value c.walk-w.ensures.copies_value c.args.rows.now
           _ c.room_for-room.ensures (omega (arith, c.if-rows-room.true, ap length (same (goal.at.returns-then-rows-room c).After-walk-w))); rows_after = same (goal.at.returns-then-rows-room c).After-walk-w }
 
 -- they are no more than the pages
@@ -39,7 +39,7 @@ few w = omega (arith, w.walk-w.ensures.copies_le_pages, opened_pages _ _ _ w.req
 
 pub fill-m-requires : goal.fill-m-requires
 fill-m-requires c =
-    let c = c in record { pages_lt_page_values = opened_pages _ _ _ c.requires; pages_in_bounds = (is_sized _ _ _ _ _ _ _ c.requires (given-size (goal.at.fill-m-requires c).In-Size-2)).room; chunks_lt_chunk_values = omega (arith, c.chunks_in-chunks.ensures.upper_bound); data_bound = opened_data _ _ _ c.requires; n_in_bounds = omega (arith, c.if-rows-room.false, c.room_for-room.ensures); n_value = c.walk-w.ensures.copies_value }
+    let c = c in record { pages_lt_page_values = opened_pages _ _ _ c.requires; pages_in_bounds = (is_sized _ _ _ _ _ _ _ c.requires (given-size (goal.at.fill-m-requires c).In-Size)).room; chunks_lt_chunk_values = omega (arith, c.chunks_in-chunks.ensures.upper_bound); data_bound = opened_data _ _ _ c.requires; n_in_bounds = omega (arith, c.if-rows-room.false, c.room_for-room.ensures); n_value = c.walk-w.ensures.copies_value }
 
 pub returns-in-Refused : goal.returns-in-Refused
 unfolding copied_from copied_by rows_from rows_by
@@ -47,8 +47,8 @@ returns-in-Refused c = record { value = rw (← c.size-s.ensures, c.in-Refused.i
 
 pub returns-else-rows-room : goal.returns-else-rows-room
 returns-else-rows-room c =
-    let c = c in record { value = copies_rows _ _ _ _ _ _ _ c.requires (given-size (goal.at.returns-else-rows-room c).In-Size-2) _ _ _ c.first_link-first.ensures c.chunks_in-chunks.ensures.value c.walk-w.ensures.copies_value c.args.rows.now
-          (omega (arith, c.if-rows-room.false, c.room_for-room.ensures, ap length (same (goal.at.returns-else-rows-room c).After-walk-w))) _ _ _ c.fill-m.ensures.value c.walk-w.ensures.broken_value c.is_damaged.ensures; rows_after = copies_filled _ _ _ _ _ _ _ c.requires (given-size (goal.at.returns-else-rows-room c).In-Size-2) _ _ _ c.first_link-first.ensures c.chunks_in-chunks.ensures.value c.walk-w.ensures.copies_value c.args.rows.now
+    let c = c in record { value = copies_rows _ _ _ _ _ _ _ c.requires (given-size (goal.at.returns-else-rows-room c).In-Size) _ _ _ c.first_link-first.ensures c.chunks_in-chunks.ensures.value c.walk-w.ensures.copies_value c.args.rows.now
+          (omega (arith, c.if-rows-room.false, c.room_for-room.ensures, ap length (same (goal.at.returns-else-rows-room c).After-walk-w))) _ _ _ c.fill-m.ensures.value c.walk-w.ensures.broken_value c.is_damaged.ensures; rows_after = copies_filled _ _ _ _ _ _ _ c.requires (given-size (goal.at.returns-else-rows-room c).In-Size) _ _ _ c.first_link-first.ensures c.chunks_in-chunks.ensures.value c.walk-w.ensures.copies_value c.args.rows.now
           _ _ _ _ (same (goal.at.returns-else-rows-room c).After-walk-w) c.fill-m.ensures.rows_after }
 
 pub chunks_in-chunks-requires : goal.chunks_in-chunks-requires

@@ -30,7 +30,7 @@ few k =
     let all : length (let a = k.args in let says = record_at a.g a.dump.now in met says a.g.layout.«data» a.chunks a.size true Nowhere (under says a.pages a.cells.now a.o.0 top a.first)) ≡ k.args.n = sym k.requires.n_value in
     omega (arith, all, k.walk.ensures.copies_value, k.walk.ensures.copies_le_pages, k.requires.pages_lt_page_values)
 
-is_sorted : (k : After-sort) → k.sort.last.0 ≡ sorted_with k.args.rows.now k.args.n (let a = k.args in let says = record_at a.g a.dump.now in met says a.g.layout.«data» a.chunks a.size true Nowhere (under says a.pages a.cells.now a.o.0 top a.first))
+is_sorted : (k : After-sort) → k.sort.new.words ≡ sorted_with k.args.rows.now k.args.n (let a = k.args in let says = record_at a.g a.dump.now in met says a.g.layout.«data» a.chunks a.size true Nowhere (under says a.pages a.cells.now a.o.0 top a.first))
 is_sorted k = k.sort.ensures ∙ ap (λ (r : List ℕ). arranged (take k.args.n r) ++ drop k.args.n r) k.walk.ensures.rows_after
 
 pub gather-requires : goal.gather-requires

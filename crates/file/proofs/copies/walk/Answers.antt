@@ -11,7 +11,7 @@ use Rattle.index.proofs.Chain.Links.{Meets, stepped, role_data, role_header}
 use Rattle.index.proofs.Chain.Turns.{count_on, few}
 use Rattle.file.proofs.Meeting.{Underway, under_start, under_header, under_data, under_clean, under_broken}
 use Rattle.file.proofs.copies.walk.Goals as goal
-use Rattle.file.proofs.copies.walk.Goals.{In-Record-2}
+use Rattle.file.proofs.copies.walk.Goals.{In-Record}
 
 pub loop-q-init : goal.loop-q-init
 loop-q-init c =
@@ -33,17 +33,17 @@ returns-in-Damaged c =
     let d = under_broken _ _ _ _ _ _ _ _ _ _ _ _ _ q.invariant e in
     record { copies_value = d.0; broken_value = d.2; copies_le_pages = omega (arith, q.invariant.few); rows_after = d.1 }
 
-here : (c : In-Record-2) → (let q = c.loop-q in let a = c.args in Meets (record_at a.g a.dump.now) a.pages a.o.0 a.cells.now q.bound q.link c.in-Record.q c.in-Record.age c.in-Record.role)
+here : (c : In-Record) → (let q = c.loop-q in let a = c.args in Meets (record_at a.g a.dump.now) a.pages a.o.0 a.cells.now q.bound q.link c.in-Record.q c.in-Record.age c.in-Record.role)
 here c = stepped _ _ _ _ _ _ (Record _ _ _) (sym c.in-Record.is ∙ c.follow-step.ensures)
 
 pub offset_bounds-cells-i : goal.offset_bounds-cells-i
-offset_bounds-cells-i c = omega (arith, (here (goal.at.offset_bounds-cells-i c).In-Record-2).leads.inside, c.link_at-i.ensures, c.requires.pages_lt_page_values)
+offset_bounds-cells-i c = omega (arith, (here (goal.at.offset_bounds-cells-i c).In-Record).leads.inside, c.link_at-i.ensures, c.requires.pages_lt_page_values)
 
 pub bounds-cells-i : goal.bounds-cells-i
-bounds-cells-i c = omega (arith, (here (goal.at.bounds-cells-i c).In-Record-2).leads.inside, c.link_at-i.ensures, c.requires.pages_in_bounds)
+bounds-cells-i c = omega (arith, (here (goal.at.bounds-cells-i c).In-Record).leads.inside, c.link_at-i.ensures, c.requires.pages_in_bounds)
 
 pub loop-q-smaller-in_default : goal.loop-q-smaller-in_default
-loop-q-smaller-in_default c = (here (goal.at.loop-q-smaller-in_default c).In-Record-2).older
+loop-q-smaller-in_default c = (here (goal.at.loop-q-smaller-in_default c).In-Record).older
 
 -- a header is not met as a copy, and cuts
 pub loop-q-preserved-in_default : goal.loop-q-preserved-in_default
@@ -51,18 +51,18 @@ loop-q-preserved-in_default c =
     let q = c.loop-q in
     let a = c.args in
     let says = record_at a.g a.dump.now in
-    let e = role_header (says c.in-Record.q.0) (here (goal.at.loop-q-preserved-in_default c).In-Record-2).leads.some (sym c.in_default.is ∙ (here (goal.at.loop-q-preserved-in_default c).In-Record-2).is) in
-    let on = (here (goal.at.loop-q-preserved-in_default c).In-Record-2).onward _ (ap (word a.cells.now) c.link_at-i.ensures) in
+    let e = role_header (says c.in-Record.q.0) (here (goal.at.loop-q-preserved-in_default c).In-Record).leads.some (sym c.in_default.is ∙ (here (goal.at.loop-q-preserved-in_default c).In-Record).is) in
+    let on = (here (goal.at.loop-q-preserved-in_default c).In-Record).onward _ (ap (word a.cells.now) c.link_at-i.ensures) in
     rw c.cut_past-cut.ensures
     (under_header says a.g.layout.«data» a.chunks a.size a.n a.pages _ _ q.rows q.newest q.cut q.copies _ q.invariant c.in-Record.q.0 _ on e)
 
 pub meet-copies-requires : goal.meet-copies-requires
 meet-copies-requires c =
     let q = c.loop-q in
-    let p = c.requires in record { n_in_bounds = omega (arith, q.invariant.long, p.1.1.1.1); i_lt_page_values = omega (arith, q.invariant.few, count_on _ _ _ ((here (goal.at.meet-copies-requires c).In-Record-2).onward _ refl), p.0); chunks_lt_chunk_values = p.1.1.0; data_lt_valid_values = p.1.1.1.0; q_lt_page_values = omega (arith, (here (goal.at.meet-copies-requires c).In-Record-2).leads.inside, p.0) }
+    let p = c.requires in record { n_in_bounds = omega (arith, q.invariant.long, p.1.1.1.1); i_lt_page_values = omega (arith, q.invariant.few, count_on _ _ _ ((here (goal.at.meet-copies-requires c).In-Record).onward _ refl), p.0); chunks_lt_chunk_values = p.1.1.0; data_lt_valid_values = p.1.1.1.0; q_lt_page_values = omega (arith, (here (goal.at.meet-copies-requires c).In-Record).leads.inside, p.0) }
 
 pub loop-q-smaller : goal.loop-q-smaller
-loop-q-smaller c = (here (goal.at.loop-q-smaller c).In-Record-2).older
+loop-q-smaller c = (here (goal.at.loop-q-smaller c).In-Record).older
 
 -- data is met, or not
 pub loop-q-preserved : goal.loop-q-preserved
@@ -71,8 +71,8 @@ loop-q-preserved c =
     let a = c.args in
     let says = record_at a.g a.dump.now in
     let d = c.in-Data.d in
-    let e = role_data (says c.in-Record.q.0) d (sym c.in-Data.is ∙ (here (goal.at.loop-q-preserved c).In-Record-2).is) in
-    let on = (here (goal.at.loop-q-preserved c).In-Record-2).onward _ (ap (word a.cells.now) c.link_at-i.ensures) in
+    let e = role_data (says c.in-Record.q.0) d (sym c.in-Data.is ∙ (here (goal.at.loop-q-preserved c).In-Record).is) in
+    let on = (here (goal.at.loop-q-preserved c).In-Record).onward _ (ap (word a.cells.now) c.link_at-i.ensures) in
     under_data says a.g.layout.«data» a.chunks a.size a.n a.pages _ _ q.rows q.newest q.cut q.copies _ q.invariant c.in-Record.q.0 _ on d e _ _
     c.meet-copies.ensures.rows_after c.meet-copies.ensures.value
 

@@ -15,27 +15,27 @@ use Rattle.index.proofs.Walk.Ahead.{ahead_end, ahead_broken}
 use Rattle.file.specs.Table.{words_of, all_ahead}
 use Rattle.file.proofs.Rows.{Row, free, noted_length, noted_rest, header_row, noted_row, row_end_lem, row_broken, clear_length, clear_rest, cleared, table_is}
 use Rattle.file.proofs.table.fill.Goals as goal
-use Rattle.file.proofs.table.fill.Goals.{After-clear, At-loop-table, In-Record-2}
+use Rattle.file.proofs.table.fill.Goals.{After-clear, At-loop-table, In-Record}
 
-front : (k : After-clear) → (let t = k.args.table.now in let n = words_of k.args.count in k.clear.last.0 ≡ replicate (min n (length t)) 0 ++ drop (min n (length t)) t)
+front : (k : After-clear) → (let t = k.args.table.now in let n = words_of k.args.count in k.clear.new.words ≡ replicate (min n (length t)) 0 ++ drop (min n (length t)) t)
 front k = rw (← k.words_of.ensures) k.clear.ensures
 
-same_length : (k : After-clear) → length k.clear.last.0 ≡ length k.args.table.now
+same_length : (k : After-clear) → length k.clear.new.words ≡ length k.args.table.now
 same_length k =
-    let front : (let t = k.args.table.now in let n = words_of k.args.count in k.clear.last.0 ≡ replicate (min n (length t)) 0 ++ drop (min n (length t)) t) = rw (← k.words_of.ensures) k.clear.ensures in
-    clear_length k.args.table.now k.clear.last.0 k.args.count k.requires.count_in_bounds front
+    let front : (let t = k.args.table.now in let n = words_of k.args.count in k.clear.new.words ≡ replicate (min n (length t)) 0 ++ drop (min n (length t)) t) = rw (← k.words_of.ensures) k.clear.ensures in
+    clear_length k.args.table.now k.clear.new.words k.args.count k.requires.count_in_bounds front
 
 pub loop-table-init : goal.loop-table-init
-loop-table-init c = (refl, refl, λ x h i. free (cleared c.args.table.now c.clear.last.0 c.args.count c.requires.count_in_bounds (front (goal.at.loop-table-init c).After-clear) x h i) refl)
+loop-table-init c = (refl, refl, λ x h i. free (cleared c.args.table.now c.clear.new.words c.args.count c.requires.count_in_bounds (front (goal.at.loop-table-init c).After-clear) x h i) refl)
 
 room : (q : At-loop-table) → (Room q) q.loop-table.table
 room q =
-    let same_length : length q.clear.last.0 ≡ length q.args.table.now = let front : (let t = q.args.table.now in let n = words_of q.args.count in q.clear.last.0 ≡ replicate (min n (length t)) 0 ++ drop (min n (length t)) t) = rw (← q.words_of.ensures) q.clear.ensures in clear_length q.args.table.now q.clear.last.0 q.args.count q.requires.count_in_bounds front in
+    let same_length : length q.clear.new.words ≡ length q.args.table.now = let front : (let t = q.args.table.now in let n = words_of q.args.count in q.clear.new.words ≡ replicate (min n (length t)) 0 ++ drop (min n (length t)) t) = rw (← q.words_of.ensures) q.clear.ensures in clear_length q.args.table.now q.clear.new.words q.args.count q.requires.count_in_bounds front in
     omega (arith, q.loop-table.invariant.0, same_length, q.requires.count_in_bounds)
 
 rest : (q : At-loop-table) → (Rest q) q.loop-table.table
 rest q =
-    let same_rest : drop (words_of q.args.count) q.clear.last.0 ≡ drop (words_of q.args.count) q.args.table.now = let front : (let t = q.args.table.now in let n = words_of q.args.count in q.clear.last.0 ≡ replicate (min n (length t)) 0 ++ drop (min n (length t)) t) = rw (← q.words_of.ensures) q.clear.ensures in clear_rest q.args.table.now q.clear.last.0 q.args.count q.requires.count_in_bounds front in
+    let same_rest : drop (words_of q.args.count) q.clear.new.words ≡ drop (words_of q.args.count) q.args.table.now = let front : (let t = q.args.table.now in let n = words_of q.args.count in q.clear.new.words ≡ replicate (min n (length t)) 0 ++ drop (min n (length t)) t) = rw (← q.words_of.ensures) q.clear.ensures in clear_rest q.args.table.now q.clear.new.words q.args.count q.requires.count_in_bounds front in
     q.loop-table.invariant.1 ∙ same_rest
 
 pub returns-in-End : goal.returns-in-End
@@ -53,17 +53,17 @@ returns-in-Damaged c =
 pub shape_of-table-in-Damaged : goal.shape_of-table-in-Damaged
 shape_of-table-in-Damaged c = c.mark_damaged.ensures.long ∙ c.loop-table.invariant.0 ∙ same_length (goal.at.shape_of-table-in-Damaged c).After-clear
 
-here : (c : In-Record-2) → (let q = c.loop-table in let a = c.args in Meets (record_at a.g a.dump.now) a.pages a.o.0 a.cells.now q.bound q.link c.in-Record.q c.in-Record.age c.in-Record.role)
+here : (c : In-Record) → (let q = c.loop-table in let a = c.args in Meets (record_at a.g a.dump.now) a.pages a.o.0 a.cells.now q.bound q.link c.in-Record.q c.in-Record.age c.in-Record.role)
 here c = stepped _ _ _ _ _ _ (Record _ _ _) (sym c.in-Record.is ∙ c.follow-step.ensures)
 
 pub offset_bounds-cells-i : goal.offset_bounds-cells-i
-offset_bounds-cells-i c = omega (arith, (here (goal.at.offset_bounds-cells-i c).In-Record-2).leads.inside, c.link_at-i.ensures, c.requires.pages_bound)
+offset_bounds-cells-i c = omega (arith, (here (goal.at.offset_bounds-cells-i c).In-Record).leads.inside, c.link_at-i.ensures, c.requires.pages_bound)
 
 pub bounds-cells-i : goal.bounds-cells-i
-bounds-cells-i c = omega (arith, (here (goal.at.bounds-cells-i c).In-Record-2).leads.inside, c.link_at-i.ensures, c.requires.pages_in_bounds)
+bounds-cells-i c = omega (arith, (here (goal.at.bounds-cells-i c).In-Record).leads.inside, c.link_at-i.ensures, c.requires.pages_in_bounds)
 
 pub loop-table-smaller-in_default : goal.loop-table-smaller-in_default
-loop-table-smaller-in_default c = (here (goal.at.loop-table-smaller-in_default c).In-Record-2).older
+loop-table-smaller-in_default c = (here (goal.at.loop-table-smaller-in_default c).In-Record).older
 
 -- a header writes no row, and cuts
 pub loop-table-preserved-in_default : goal.loop-table-preserved-in_default
@@ -71,8 +71,8 @@ loop-table-preserved-in_default c =
     let q = c.loop-table in
     let a = c.args in
     let says = record_at a.g a.dump.now in
-    let e = role_header (says c.in-Record.q.0) (here (goal.at.loop-table-preserved-in_default c).In-Record-2).leads.some (sym c.in_default.is ∙ (here (goal.at.loop-table-preserved-in_default c).In-Record-2).is) in
-    let on = (here (goal.at.loop-table-preserved-in_default c).In-Record-2).onward _ (ap (word a.cells.now) c.link_at-i.ensures) in (
+    let e = role_header (says c.in-Record.q.0) (here (goal.at.loop-table-preserved-in_default c).In-Record).leads.some (sym c.in_default.is ∙ (here (goal.at.loop-table-preserved-in_default c).In-Record).is) in
+    let on = (here (goal.at.loop-table-preserved-in_default c).In-Record).onward _ (ap (word a.cells.now) c.link_at-i.ensures) in (
       q.invariant.0,
       q.invariant.1,
       λ x h i.
@@ -82,10 +82,10 @@ loop-table-preserved-in_default c =
 
 pub note-requires : goal.note-requires
 note-requires c =
-    record { count_in_bounds = room (goal.at.note-requires c).At-loop-table; q_bound = omega (arith, (here (goal.at.note-requires c).In-Record-2).leads.inside, c.requires.pages_bound) }
+    record { count_in_bounds = room (goal.at.note-requires c).At-loop-table; q_bound = omega (arith, (here (goal.at.note-requires c).In-Record).leads.inside, c.requires.pages_bound) }
 
 pub loop-table-smaller : goal.loop-table-smaller
-loop-table-smaller c = (here (goal.at.loop-table-smaller c).In-Record-2).older
+loop-table-smaller c = (here (goal.at.loop-table-smaller c).In-Record).older
 
 -- data is noted in its row
 pub loop-table-preserved : goal.loop-table-preserved
@@ -94,8 +94,8 @@ loop-table-preserved c =
     let a = c.args in
     let says = record_at a.g a.dump.now in
     let d = c.in-Data.d in
-    let e = role_data (says c.in-Record.q.0) d (sym c.in-Data.is ∙ (here (goal.at.loop-table-preserved c).In-Record-2).is) in
-    let on = (here (goal.at.loop-table-preserved c).In-Record-2).onward _ (ap (word a.cells.now) c.link_at-i.ensures) in (
+    let e = role_data (says c.in-Record.q.0) d (sym c.in-Data.is ∙ (here (goal.at.loop-table-preserved c).In-Record).is) in
+    let on = (here (goal.at.loop-table-preserved c).In-Record).onward _ (ap (word a.cells.now) c.link_at-i.ensures) in (
       rw c.note.ensures (noted_length q.table a.count a.g.layout.«data» a.size q.cut c.in-Record.q.0 d.chunk.0 d.count ∙ q.invariant.0),
       rw c.note.ensures (noted_rest q.table a.count a.g.layout.«data» a.size q.cut c.in-Record.q.0 d.chunk.0 d.count ∙ q.invariant.1),
       λ x h i.

@@ -13,7 +13,7 @@ use Rattle.records.proofs.Histories.{Recounted, recounted_none, next_age, recoun
 use Rattle.records.proofs.history.fill.Goals as goal
 use Rattle.records.proofs.history.fill.Goals.{After-fill_ages, After-value_of}
 
-long : (f : After-fill_ages) → length f.fill_ages.last.1.1.1.1.1.0 ≡ length f.args.sizes.now
+long : (f : After-fill_ages) → length f.fill_ages.new.words ≡ length f.args.sizes.now
 long f = f.fill_ages.kept.1.1.1.1.1.0 ∙ f.requires.rows_len ∙ sym f.requires.sizes_len
 
 inside : (v : After-value_of) → v.loop-i.i < length v.fill_ages.last.1.1.1.1.1.0
@@ -30,14 +30,14 @@ loop-i-preserved c =
     let a = c.args in
     let few = opened_few a.g a.dump.now a.pages c.requires.dump_value in
     recounted_more q.invariant few (λ o h. written_good a.g a.dump.now a.t o a.pages q.i few h) (inside (goal.at.loop-i-preserved c).After-value_of) (omega (arith, inside (goal.at.loop-i-preserved c).After-value_of, long (goal.at.loop-i-preserved c).After-fill_ages))
-    (follow_turn (seen_by a.t (record_at a.g a.dump.now)) a.g.layout.«data» c.fill_ages.last.1.1.1.1.1.0 q.after c.with-after.result q.i
+    (follow_turn (seen_by a.t (record_at a.g a.dump.now)) a.g.layout.«data» c.fill_ages.new.words q.after c.with-after.result q.i
     c.value_of.result c.seen_at.result q.invariant.file (page (goal.at.loop-i-preserved c).After-value_of) c.seen_at.ensures c.with-after.ensures)
     (c.pack.ensures ∙ rw (page (goal.at.loop-i-preserved c).After-value_of, c.refusal.ensures)) c.size.ensures
 
 pub returns : goal.returns
 returns c =
     let q = c.loop-i in
-    let h : length c.fill_ages.last.1.1.1.1.1.0 ≤ q.i = omega (arith, c.loop-i-test.false, q.invariant.rows_long) in
+    let h : length c.fill_ages.new.words ≤ q.i = omega (arith, c.loop-i-test.false, q.invariant.rows_long) in
     recounted_all q.invariant c.args.o.0 c.fill_ages.ensures h (omega (arith, h, long (goal.at.returns c).After-fill_ages))
 
 pub fill_ages-requires : goal.fill_ages-requires

@@ -55,8 +55,8 @@ returns-in-Records c =
     let P = a.g.layout.«data» in
     let t = c.in-Records.is in
     let takes = c.takes-t.ensures in record { value = sym t ∙ recorded_on_lem (counted (goal.at.returns-in-Records c).After-count_in-r); rows_after = left_told (counted (goal.at.returns-in-Records c).After-count_in-r) t (λ i. history_rows (says_at c.args.g c.args.dump.now c.args.m c.args.o.0) P a.o.0 i) a.rows.now
-            (rw takes at c.fill.ensures.rows_after) (c.fill.auto.1.1.1.1.1.0 ∙ (rows (goal.at.returns-in-Records c).In-Records).long); sizes_after = left_told (counted (goal.at.returns-in-Records c).After-count_in-r) t (λ i. history_sizes (says_at c.args.g c.args.dump.now c.args.m c.args.o.0) P a.o.0 i) a.sizes.now
-            (rw takes at c.fill.ensures.sizes_after) (c.fill.auto.1.1.1.1.1.1.0 ∙ (sizes (goal.at.returns-in-Records c).In-Records).long) }
+            (rw takes at c.fill.ensures.rows_after) (c.fill.auto.rows ∙ (rows (goal.at.returns-in-Records c).In-Records).long); sizes_after = left_told (counted (goal.at.returns-in-Records c).After-count_in-r) t (λ i. history_sizes (says_at c.args.g c.args.dump.now c.args.m c.args.o.0) P a.o.0 i) a.sizes.now
+            (rw takes at c.fill.ensures.sizes_after) (c.fill.auto.sizes ∙ (sizes (goal.at.returns-in-Records c).In-Records).long) }
 
 pub slice_bounds-fill-end : goal.slice_bounds-fill-end
 slice_bounds-fill-end c = (rows c).inside

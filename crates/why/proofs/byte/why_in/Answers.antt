@@ -45,15 +45,15 @@ fill-count-requires c = record { dump_value = c.requires; size_value = c.measure
 pub find-found-requires : goal.find-found-requires
 find-found-requires c =
     rw c.fill-count.ensures.value
-    (rows_inside (let a = c.args in spans_of (let a = c.args in seen_by c.takes-t.result (record_at a.g a.dump.now)) a.g.layout.«data» a.o.0 a.pages c.f-in-Header-1.given.0.0.0) c.args.rows.now c.measure-k.result.marks c.if-rows-need.false _ c.fill-count.ensures.rows_after c.rows-in-Header-1.given)
+    (rows_inside (let a = c.args in spans_of (let a = c.args in seen_by c.takes-t.result (record_at a.g a.dump.now)) a.g.layout.«data» a.o.0 a.pages c.in-Header.h.0) c.args.rows.now c.measure-k.result.marks c.if-rows-need.false _ c.fill-count.ensures.rows_after c.rows-in-Header-1.given)
 
 -- what is found is found in them
-found : (c : After-find-found) → let h = c.f-in-Header-1.given.0.0.0 in
+found : (c : After-find-found) → let h = c.in-Header.h.0 in
     let a = c.args in
     c.find-found.result ≡ found_in a.x (size_of (let a = c.args in seen_by c.takes-t.result (record_at a.g a.dump.now)) a.g.layout.«data» a.o.0 h a.pages) 0 (let a = c.args in spans_of (let a = c.args in seen_by c.takes-t.result (record_at a.g a.dump.now)) a.g.layout.«data» a.o.0 a.pages h)
 found c =
     let front =
-    rows_front (let a = c.args in spans_of (let a = c.args in seen_by c.takes-t.result (record_at a.g a.dump.now)) a.g.layout.«data» a.o.0 a.pages c.f-in-Header-1.given.0.0.0) c.args.rows.now c.measure-k.result.marks c.if-rows-need.false _ c.fill-count.ensures.rows_after c.rows-in-Header-1.given
+    rows_front (let a = c.args in spans_of (let a = c.args in seen_by c.takes-t.result (record_at a.g a.dump.now)) a.g.layout.«data» a.o.0 a.pages c.in-Header.h.0) c.args.rows.now c.measure-k.result.marks c.if-rows-need.false _ c.fill-count.ensures.rows_after c.rows-in-Header-1.given
     in
     c.find-found.ensures ∙ rw (c.fill-count.ensures.value, front, c.measure-k.ensures.size_value)
 
@@ -69,7 +69,7 @@ pub returns-else-size-x : goal.returns-else-size-x
 unfolding why_on why_left
 returns-else-size-x c =
     let a = c.args in
-    let h = c.f-in-Header-1.given.0.0.0 in
+    let h = c.in-Header.h.0 in
     let p =
     found_tells (let a = c.args in seen_by c.takes-t.result (record_at a.g a.dump.now)) a.g.layout.«data» a.o.0 a.pages h a.x (opened_sized a.g (length a.dump.now) a.pages c.requires)
     (rw c.measure-k.ensures.size_value at c.if-size-x.false) c.find-found.result (found (goal.at.returns-else-size-x c).After-find-found)

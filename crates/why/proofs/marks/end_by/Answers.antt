@@ -20,8 +20,8 @@ returns-in-Other c = rw c.in-Other.is
 pub returns-in-Header : goal.returns-in-Header
 returns-in-Header c =
     let a = c.args in
-    let h = c.enum_told-in-Header-1.given in
-    rw h.1 (header-ends a.end a.«data» a.o.0 a.age a.p.0 h.0.0)
+    let h = c.in-Header in
+    rw h.is (header-ends a.end a.«data» a.o.0 a.age a.p.0 h.field-0)
 
 pub returns-in-Data : goal.returns-in-Data
 returns-in-Data c = rw c.in-Data.is c.end_with.ensures

@@ -22,20 +22,20 @@ use Rattle.why.proofs.marks.measure.Goals.{After-count-marks}
 pub loop-i-init : goal.loop-i-init
 loop-i-init c =
     let a = c.args in
-    let (seen_by c.args.t (record_at c.args.g c.args.dump.now)) seen_by a.t (record_at a.g a.dump.now) in
-    (search rules, (sym (count_none (seen_by c.args.t (record_at c.args.g c.args.dump.now)) a.o.0 a.h.0), rw end_none))
+    let says = seen_by a.t (record_at a.g a.dump.now) in
+    (search rules, (sym (count_none says a.g.layout.«data» a.o.0 a.h.0), rw end_none))
 
 pub loop-i-preserved-then-not-names_object : goal.loop-i-preserved-then-not-names_object
 loop-i-preserved-then-not-names_object c =
     let q = c.loop-i in
     let a = c.args in
-    let (seen_by c.args.t (record_at c.args.g c.args.dump.now)) seen_by a.t (record_at a.g a.dump.now) in
+    let says = seen_by a.t (record_at a.g a.dump.now) in
     let u : names_at a.g a.dump.now q.i a.o.0 ≡ false = rw (← c.names_object.ensures) c.if-not-names_object.true in
-    let t : is_of a.o.0 (seen_by c.args.t (record_at c.args.g c.args.dump.now)) ≡ false = seen_unnamed a.g a.dump.now q.i a.o.0 u a.t in (
+    let t : is_of a.o.0 (says q.i) ≡ false = seen_unnamed a.g a.dump.now q.i a.o.0 u a.t in (
       search rules,
       (
-        q.invariant.1.0 ∙ ap length (sym (marks_same (seen_by c.args.t (record_at c.args.g c.args.dump.now)) a.o.0 a.h.0 q.i t)),
-        q.invariant.1.1 ∙ sym (end_other (seen_by c.args.t (record_at c.args.g c.args.dump.now)) a.o.0 c.order_of-age.result q.i t),
+        q.invariant.1.0 ∙ ap length (sym (marks_same says a.g.layout.«data» a.o.0 a.h.0 q.i t)),
+        q.invariant.1.1 ∙ sym (end_other says a.g.layout.«data» a.o.0 c.order_of-age.result q.i t),
       ),
     )
 
@@ -59,11 +59,11 @@ pub loop-i-preserved : goal.loop-i-preserved
 loop-i-preserved c =
     let q = c.loop-i in
     let a = c.args in
-    let (seen_by c.args.t (record_at c.args.g c.args.dump.now)) seen_by a.t (record_at a.g a.dump.now) in (
+    let says = seen_by a.t (record_at a.g a.dump.now) in (
       search rules,
       (
         counted c,
-        c.end_by-end.ensures ∙ rw (q.invariant.1.1, c.seen_at-r.ensures) (sym (end_step (seen_by c.args.t (record_at c.args.g c.args.dump.now)) a.o.0 c.order_of-age.result q.i)),
+        c.end_by-end.ensures ∙ rw (q.invariant.1.1, c.seen_at-r.ensures) (sym (end_step says a.g.layout.«data» a.o.0 c.order_of-age.result q.i)),
       ),
     )
 

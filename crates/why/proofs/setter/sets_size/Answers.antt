@@ -33,7 +33,8 @@ returns-in-Other c = rw (other (goal.at.returns-in-Other c).Joined-p-h, c.in-Oth
 pub returns-in-Header : goal.returns-in-Header
 returns-in-Header c =
     let a = c.args in
-    let h = c.in-Header in ?
+    let h = c.in-Header in
+    rw h.is (header_sets a.«data» a.o.0 a.h.0 a.age a.size a.p.0 h.field-0 (rw h.is at (other (goal.at.returns-in-Header c).Joined-p-h)))
 
 pub returns-else-order_of-age : goal.returns-else-order_of-age
 returns-else-order_of-age c =

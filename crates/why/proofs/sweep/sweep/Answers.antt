@@ -26,12 +26,12 @@ inside c =
 pub loop-j-preserved-then-goes_on : goal.loop-j-preserved-then-goes_on
 loop-j-preserved-then-goes_on c =
     let q = c.loop-j in
-    sweep_goes s.requires.count_in_bounds q.invariant c.loop-j-test.true c.taking-seen.ensures c.place_of-x.ensures (sym c.goes_on.ensures ∙ c.if-goes_on.true)
+    sweep_goes c.requires.count_in_bounds q.invariant c.loop-j-test.true c.taking-seen.ensures c.place_of-x.ensures (sym c.goes_on.ensures ∙ c.if-goes_on.true)
 
 pub loop-j-preserved-then-size-x : goal.loop-j-preserved-then-size-x
 loop-j-preserved-then-size-x c =
     let q = c.loop-j in
-    sweep_past s.requires.count_in_bounds q.invariant c.loop-j-test.true c.taking-seen.ensures c.place_of-x.ensures (sym c.goes_on.ensures ∙ c.if-goes_on.false) c.if-size-x.true
+    sweep_past c.requires.count_in_bounds q.invariant c.loop-j-test.true c.taking-seen.ensures c.place_of-x.ensures (sym c.goes_on.ensures ∙ c.if-goes_on.false) c.if-size-x.true
 
 pub reason-requires : goal.reason-requires
 reason-requires c = record { data_nonzero = c.requires.data_nonzero; x_lt_places = inside (goal.at.reason-requires c).After-place_of-x }
@@ -44,7 +44,7 @@ coded c = rw (← c.reason.ensures) c.code-code.ensures
 pub loop-j-preserved-then-code-last : goal.loop-j-preserved-then-code-last
 loop-j-preserved-then-code-last c =
     let q = c.loop-j in
-    sweep_same s.requires.count_in_bounds q.invariant c.loop-j-test.true c.taking-seen.ensures c.place_of-x.ensures (sym c.goes_on.ensures ∙ c.if-goes_on.false) c.if-size-x.false (coded (goal.at.loop-j-preserved-then-code-last c).After-code-code) c.if-code-last.true
+    sweep_same c.requires.count_in_bounds q.invariant c.loop-j-test.true c.taking-seen.ensures c.place_of-x.ensures (sym c.goes_on.ensures ∙ c.if-goes_on.false) c.if-size-x.false (coded (goal.at.loop-j-preserved-then-code-last c).After-code-code) c.if-code-last.true
 
 pub row-requires : goal.row-requires
 row-requires c =
@@ -57,7 +57,7 @@ row-requires c =
 pub loop-j-preserved : goal.loop-j-preserved
 loop-j-preserved c =
     let q = c.loop-j in
-    sweep_row s.requires.count_in_bounds q.invariant c.loop-j-test.true c.taking-seen.ensures c.place_of-x.ensures (sym c.goes_on.ensures ∙ c.if-goes_on.false) c.if-size-x.false (coded (goal.at.loop-j-preserved c).After-code-code) c.if-code-last.false c.row.ensures
+    sweep_row c.requires.count_in_bounds q.invariant c.loop-j-test.true c.taking-seen.ensures c.place_of-x.ensures (sym c.goes_on.ensures ∙ c.if-goes_on.false) c.if-size-x.false (coded (goal.at.loop-j-preserved c).After-code-code) c.if-code-last.false c.row.ensures
 
 pub bounds-rows-at : goal.bounds-rows-at
 bounds-rows-at c =
@@ -72,10 +72,13 @@ overflow_cast-result c =
 pub returns : goal.returns
 returns c =
     let q = c.loop-j in
+    let told =
     sweep_end c.requires.count_in_bounds q.invariant
     (c.clear.ensures
     ∙ clear_inside q.at c.args.count q.rows (omega (arith, q.invariant.order, q.invariant.inside)) (omega (arith, q.invariant.long, c.requires.count_in_bounds)))
     c.loop-j-test.false
+    in
+    record { value = told.0; rows_after = told.1 }
 
 pub loop-j-init : goal.loop-j-init
 loop-j-init c = sweep_none _ _ _ _ _
