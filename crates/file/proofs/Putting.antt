@@ -88,7 +88,7 @@ module _ (n : ℕ) where
   rows_put w i (x ∷ L) e =
       let t = lt-ltb i n (omega arith) in
       rw t
-      (rows_put _ (suc i) L (omega arith)
+      (rows_put (set (set w (n - 1 - i) (packed x.chunk i)) (n + i) (packed_copy x)) (suc i) L (omega arith)
       ∙ rw (drop-set-add n (set w (n - 1 - i) (packed x.chunk i)) i (packed_copy x), drop-set-lt n w (n - 1 - i) (packed x.chunk i) (omega arith)))
 
   module _ (w : List ℕ) (L : List Copy) (all : length L ≡ n) (room : room_for n ≤ length w) where

@@ -87,7 +87,7 @@ impl Standing {
 
     // Where the bytes begin that it holds, with so many data bytes to a page; 0 where it holds none.
     pub fn from(self, data: u32) -> u64
-        ensures { result ≡ rows.fromOf «data» self }
+        ensures { result ≡ rows.from_of «data» self }
     {
         let Standing::Holds(c, _) = self else {
             return 0;
@@ -97,7 +97,7 @@ impl Standing {
 
     // Where they end.
     pub fn until(self, data: u32) -> u64
-        ensures { result ≡ rows.untilOf «data» self }
+        ensures { result ≡ rows.until_of «data» self }
     {
         let Standing::Holds(c, valid) = self else {
             return 0;

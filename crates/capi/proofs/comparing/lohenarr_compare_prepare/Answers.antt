@@ -6,4 +6,4 @@ pub returns : goal.returns
 returns c =
     let l = c.geometry_at.ensures in
     let e = c.prepare_dump.ensures in
-    record { value = rw (c.prepared_answer.ensures, e.0, l); order_after = rw (← l) e.1.0; copies_after = rw (← l) e.1.1.0; work_after = rw (← l) e.1.1.1 }
+    record { value = rw (c.prepared_answer.ensures, e.value, l); order_after = rw (← l) e.order_after; copies_after = rw (← l) e.copies_after; work_after = rw (← l) e.work_after }

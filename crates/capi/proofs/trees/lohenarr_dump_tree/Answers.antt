@@ -7,4 +7,4 @@ returns c =
     let l = c.geometry_at.ensures in
     let k = c.moment_at.ensures in
     let e = c.tree.ensures in
-    record { value = rw (c.tree_answer.ensures, e.0, l, k); rows_after = rw (← l, ← k) e.1.0; heads_after = rw (← l, ← k) e.1.1.0; work_after = rw (← l, ← k) e.1.1.1 }
+    record { value = rw (c.tree_answer.ensures, e.value, l, k); rows_after = rw (← l, ← k) e.rows_after; heads_after = rw (← l, ← k) e.heads_after; work_after = rw (← l, ← k) e.work_after }

@@ -58,8 +58,8 @@ returns c =
     rw c.work_for-room.ensures
     (room_enough a.g a.dump.now a.order.now a.copies.now a.work.now a.pages c.requires c.count_records-records.result
     c.count_records-records.ensures (enough (goal.at.returns c).After-work_for-room) _ _ _
-    e.0 (c.fill.auto.order ∙ order-front (goal.at.returns c).After-work_for-room) e.1.0 (c.fill.auto.copies ∙ copies-front (goal.at.returns c).After-work_for-room)
-    (e.1.1 ∙ ap (λ (j : ℕ). replicate {A = ℕ} j 0) (work-front (goal.at.returns c).After-work_for-room ∙ c.work_for-room.ensures)))
+    e.order_after (c.fill.auto.order ∙ order-front (goal.at.returns c).After-work_for-room) e.copies_after (c.fill.auto.copies ∙ copies-front (goal.at.returns c).After-work_for-room)
+    (e.work_after ∙ ap (λ (j : ℕ). replicate {A = ℕ} j 0) (work-front (goal.at.returns c).After-work_for-room ∙ c.work_for-room.ensures)))
 
 pub slice_bounds-fill-end : goal.slice_bounds-fill-end
 slice_bounds-fill-end c = (has c).0

@@ -7,14 +7,14 @@ use Rattle.compare.proofs.Filling.{laid_padded}
 use Rattle.compare.proofs.rows.fill_run.Goals as goal
 
 pub rows_of-m-requires : goal.rows_of-m-requires
-rows_of-m-requires c = let p = c.requires in record { dump_value = p.0; list_len_bound = p.1.0; list_in_bounds = p.1.1.1 }
+rows_of-m-requires c = let p = c.requires in record { dump_value = p.dump_value; list_len_bound = p.list_len_bound; list_in_bounds = p.list_in_bounds }
 
 pub lay-requires : goal.lay-requires
-lay-requires c = let p = c.requires in record { count_in_bounds = omega (arith, c.rows_of-m.ensures.upper_bound, p.1.1.0); count_in_bounds_2 = omega (arith, c.rows_of-m.ensures.upper_bound, c.work-1.given, p.1.1.1) }
+lay-requires c = let p = c.requires in record { count_in_bounds = omega (arith, c.rows_of-m.ensures.upper_bound, p.rows_len); count_in_bounds_2 = omega (arith, c.rows_of-m.ensures.upper_bound, c.work-1.given, p.list_in_bounds) }
 
 pub returns : goal.returns
 returns c =
     let p = s.requires in
     c.lay.ensures
-    ∙ rw p.1.1.0
-    (laid_padded _ _ c.rows_of-m.result (length s.args.list.now) (omega (arith, c.rows_of-m.ensures.upper_bound, c.work-1.given, p.1.1.1)) c.rows_of-m.ensures.work_after)
+    ∙ rw p.rows_len
+    (laid_padded _ _ c.rows_of-m.result (length s.args.list.now) (omega (arith, c.rows_of-m.ensures.upper_bound, c.work-1.given, p.list_in_bounds)) c.rows_of-m.ensures.work_after)

@@ -36,7 +36,7 @@ accepted c =
     let a = c.args in
     let p = c.requires in
     c.copies_along-a.ensures.value
-    ∙ along_rows a.g a.dump.now a.list.now c.in-Bytes.z a.pages a.work.now p.0 p.1.0 (omega (arith, p.1.1))
+    ∙ along_rows a.g a.dump.now a.list.now c.in-Bytes.z a.pages a.work.now p.dump_value p.list_len_bound (omega (arith, p.list_in_bounds))
 
 pub returns-in-Nothing : goal.returns-in-Nothing
 unfolding rows_in
@@ -58,5 +58,5 @@ returns-in-Rows c =
     let few = along_few (record_at c.args.g c.args.dump.now) t.g.layout.«data» c.in-Bytes.z (map value_of t.list.now) in record { upper_bound = omega (arith, m, few, length-map t.list.now value_of); work_after = rw (found (goal.at.returns-in-Rows c).After-size-s, c.in-Bytes.is)
           (ap (take c.in-Rows.m)
           (c.copies_along-a.ensures.rows_after
-          ∙ along_left_lem t.g t.dump.now t.list.now c.in-Bytes.z t.pages t.work.now p.0 p.1.0 (omega (arith, p.1.1)))
+          ∙ along_left_lem t.g t.dump.now t.list.now c.in-Bytes.z t.pages t.work.now p.dump_value p.list_len_bound (omega (arith, p.list_in_bounds)))
           ∙ room_front (map packed_copy L) _ _ _ (m ∙ sym (length-map L packed_copy))) }

@@ -13,8 +13,8 @@ write_straight-requires c =
     (sides_most a.o.0 (omega (arith, c.well-formed.0)) a.g a.dump.now a.order.now a.rows.now a.g2 a.dump2.now a.order2.now a.rows2.now
     c.head_of.result c.head_of-2.result c.size-one.result c.size-other.result
     c.head_of.ensures c.head_of-2.ensures c.size-one.ensures c.size-other.ensures
-    facts.1)
-    (rw (← facts.0) c.if-most_bytes-buf.true)
+    facts.small)
+    (rw (← facts.value) c.if-most_bytes-buf.true)
 
 pub returns-then-most_bytes-buf : goal.returns-then-most_bytes-buf
 returns-then-most_bytes-buf c = c.write_straight.ensures

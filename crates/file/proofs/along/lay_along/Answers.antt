@@ -38,12 +38,12 @@ same w = w.walk_along-n.ensures.rows_after ∙ put_zero _ _ _
 pub walk_along-n-requires : goal.walk_along-n-requires
 walk_along-n-requires c =
     let p = c.requires in
-    record { dump_value = p.0; list_len_bound = p.1.0; chunks_lt_chunk_values = omega (arith, c.chunks_in-chunks.ensures.upper_bound); n_in_bounds = omega arith }
+    record { dump_value = p.dump_value; list_len_bound = p.list_len_bound; chunks_lt_chunk_values = omega (arith, c.chunks_in-chunks.ensures.upper_bound); n_in_bounds = omega arith }
 
 pub walk_along-requires : goal.walk_along-requires
 walk_along-requires c =
     let p = c.requires in
-    record { dump_value = p.0; list_len_bound = p.1.0; chunks_lt_chunk_values = omega (arith, c.chunks_in-chunks.ensures.upper_bound); n_in_bounds = omega (arith, room (goal.at.walk_along-requires c).After-walk_along-n, ap length (same (goal.at.walk_along-requires c).After-walk_along-n)) }
+    record { dump_value = p.dump_value; list_len_bound = p.list_len_bound; chunks_lt_chunk_values = omega (arith, c.chunks_in-chunks.ensures.upper_bound); n_in_bounds = omega (arith, room (goal.at.walk_along-requires c).After-walk_along-n, ap length (same (goal.at.walk_along-requires c).After-walk_along-n)) }
 
 is_sorted : (k : After-sort) → k.sort.new.words ≡ sorted_with k.args.rows.now k.walk_along-n.result (let a = k.args in met (record_at a.g a.dump.now) a.g.layout.«data» k.chunks_in-chunks.result a.size true Nowhere (from_list (map value_of a.list.now)))
 is_sorted k =

@@ -20,7 +20,7 @@ use Rattle.file.proofs.copies.fill.Goals as goal
 use Rattle.file.proofs.copies.fill.Goals.{After-sort}
 
 pub walk-requires : goal.walk-requires
-walk-requires c = let p = c.requires in record { pages_lt_page_values = p.0; pages_in_bounds = p.1.0; chunks_lt_chunk_values = p.1.1.0; data_bound = p.1.1.1.0; n_in_bounds = p.1.1.1.1.0 }
+walk-requires c = let p = c.requires in record { pages_lt_page_values = p.pages_lt_page_values; pages_in_bounds = p.pages_in_bounds; chunks_lt_chunk_values = p.chunks_lt_chunk_values; data_bound = p.data_bound; n_in_bounds = p.n_in_bounds }
 
 all : (k : After-sort) → length (let a = k.args in let says = record_at a.g a.dump.now in met says a.g.layout.«data» a.chunks a.size true Nowhere (under says a.pages a.cells.now a.o.0 top a.first)) ≡ k.args.n
 all k = sym k.requires.n_value
@@ -47,7 +47,7 @@ returns c =
     let f =
     sorted_filled a.rows.now a.n (let a = c.args in let says = record_at a.g a.dump.now in met says a.g.layout.«data» a.chunks a.size true Nowhere (under says a.pages a.cells.now a.o.0 top a.first)) (all (goal.at.returns c).After-sort) c.requires.n_in_bounds (few (goal.at.returns c).After-sort) (met_some says P a.chunks a.size t true Nowhere)
     _ _ _ (is_sorted (goal.at.returns c).After-sort) c.gather.ensures.value c.gather.ensures.rows_after in
-    rw (← met_shown says P a.chunks a.size t true Nowhere) f
+    rw (← met_shown says P a.chunks a.size t true Nowhere) (record { value = f.0; rows_after = f.1 })
 
 pub overflow_cast-result : goal.overflow_cast-result
 overflow_cast-result c = omega (arith, c.gather.ensures.upper_bound, few (goal.at.overflow_cast-result c).After-sort)

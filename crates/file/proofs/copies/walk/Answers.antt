@@ -59,7 +59,7 @@ loop-q-preserved-in_default c =
 pub meet-copies-requires : goal.meet-copies-requires
 meet-copies-requires c =
     let q = c.loop-q in
-    let p = c.requires in record { n_in_bounds = omega (arith, q.invariant.long, p.1.1.1.1); i_lt_page_values = omega (arith, q.invariant.few, count_on _ _ _ ((here (goal.at.meet-copies-requires c).In-Record).onward _ refl), p.0); chunks_lt_chunk_values = p.1.1.0; data_lt_valid_values = p.1.1.1.0; q_lt_page_values = omega (arith, (here (goal.at.meet-copies-requires c).In-Record).leads.inside, p.0) }
+    let p = c.requires in record { n_in_bounds = omega (arith, q.invariant.long, p.n_in_bounds); i_lt_page_values = omega (arith, q.invariant.few, count_on _ _ _ ((here (goal.at.meet-copies-requires c).In-Record).onward _ refl), p.pages_lt_page_values); chunks_lt_chunk_values = p.chunks_lt_chunk_values; data_lt_valid_values = p.data_bound; q_lt_page_values = omega (arith, (here (goal.at.meet-copies-requires c).In-Record).leads.inside, p.pages_lt_page_values) }
 
 pub loop-q-smaller : goal.loop-q-smaller
 loop-q-smaller c = (here (goal.at.loop-q-smaller c).In-Record).older

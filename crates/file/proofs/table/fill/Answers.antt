@@ -28,15 +28,17 @@ same_length k =
 pub loop-table-init : goal.loop-table-init
 loop-table-init c = (refl, refl, λ x h i. free (cleared c.args.table.now c.clear.new.words c.args.count c.requires.count_in_bounds (front (goal.at.loop-table-init c).After-clear) x h i) refl)
 
-room : (q : At-loop-table) → (Room q) q.loop-table.table
+-- the words behind the rows on the way
+room : (q : At-loop-table) → words_of q.args.count ≤ length q.loop-table.table
 room q =
-    let same_length : length q.clear.new.words ≡ length q.args.table.now = let front : (let t = q.args.table.now in let n = words_of q.args.count in q.clear.new.words ≡ replicate (min n (length t)) 0 ++ drop (min n (length t)) t) = rw (← q.words_of.ensures) q.clear.ensures in clear_length q.args.table.now q.clear.new.words q.args.count q.requires.count_in_bounds front in
-    omega (arith, q.loop-table.invariant.0, same_length, q.requires.count_in_bounds)
+    let front : (let t = q.args.table.now in let n = words_of q.args.count in q.clear.new.words ≡ replicate (min n (length t)) 0 ++ drop (min n (length t)) t) = rw (← q.words_of.ensures) q.clear.ensures in
+    let same = clear_length q.args.table.now q.clear.new.words q.args.count q.requires.count_in_bounds front in
+    omega (arith, q.loop-table.invariant.0, same, q.requires.count_in_bounds)
 
-rest : (q : At-loop-table) → (Rest q) q.loop-table.table
+rest : (q : At-loop-table) → drop (words_of q.args.count) q.loop-table.table ≡ drop (words_of q.args.count) q.args.table.now
 rest q =
-    let same_rest : drop (words_of q.args.count) q.clear.new.words ≡ drop (words_of q.args.count) q.args.table.now = let front : (let t = q.args.table.now in let n = words_of q.args.count in q.clear.new.words ≡ replicate (min n (length t)) 0 ++ drop (min n (length t)) t) = rw (← q.words_of.ensures) q.clear.ensures in clear_rest q.args.table.now q.clear.new.words q.args.count q.requires.count_in_bounds front in
-    q.loop-table.invariant.1 ∙ same_rest
+    let front : (let t = q.args.table.now in let n = words_of q.args.count in q.clear.new.words ≡ replicate (min n (length t)) 0 ++ drop (min n (length t)) t) = rw (← q.words_of.ensures) q.clear.ensures in
+    q.loop-table.invariant.1 ∙ clear_rest q.args.table.now q.clear.new.words q.args.count q.requires.count_in_bounds front
 
 pub returns-in-End : goal.returns-in-End
 returns-in-End c =

@@ -14,15 +14,15 @@ use Rattle.records.proofs.history.fill.Goals as goal
 use Rattle.records.proofs.history.fill.Goals.{After-fill_ages, After-value_of}
 
 long : (f : After-fill_ages) → length f.fill_ages.new.words ≡ length f.args.sizes.now
-long f = f.fill_ages.kept.1.1.1.1.1.0 ∙ f.requires.rows_len ∙ sym f.requires.sizes_len
+long f = f.fill_ages.auto.words ∙ f.requires.rows_len ∙ sym f.requires.sizes_len
 
-inside : (v : After-value_of) → v.loop-i.i < length v.fill_ages.last.1.1.1.1.1.0
-inside v = let q = v.loop-i in omega (arith, v.loop-i-test.taken, q.invariant.rows_long)
+inside : (v : After-value_of) → v.loop-i.i < length v.fill_ages.new.words
+inside v = let q = v.loop-i in omega (arith, v.loop-i-test.true, q.invariant.rows_long)
 
-page : (v : After-value_of) → v.value_of.result ≡ page_of (get_or v.fill_ages.last.1.1.1.1.1.0 v.loop-i.i 0)
+page : (v : After-value_of) → v.value_of.result ≡ page_of (get_or v.fill_ages.new.words v.loop-i.i 0)
 page v =
-    let inside : v.loop-i.i < length v.fill_ages.last.1.1.1.1.1.0 = let q = v.loop-i in omega (arith, v.loop-i-test.taken, q.invariant.rows_long) in
-    v.value_of.ensures ∙ ap page_of (next_age v.loop-i.invariant v.args.o.0 v.fill-ages.ensures inside)
+    let inside : v.loop-i.i < length v.fill_ages.new.words = let q = v.loop-i in omega (arith, v.loop-i-test.true, q.invariant.rows_long) in
+    v.value_of.ensures ∙ ap page_of (next_age v.loop-i.invariant v.args.o.0 v.fill_ages.ensures inside)
 
 pub loop-i-preserved : goal.loop-i-preserved
 loop-i-preserved c =
@@ -38,7 +38,8 @@ pub returns : goal.returns
 returns c =
     let q = c.loop-i in
     let h : length c.fill_ages.new.words ≤ q.i = omega (arith, c.loop-i-test.false, q.invariant.rows_long) in
-    recounted_all q.invariant c.args.o.0 c.fill_ages.ensures h (omega (arith, h, long (goal.at.returns c).After-fill_ages))
+    let told = recounted_all q.invariant c.args.o.0 c.fill_ages.ensures h (omega (arith, h, long (goal.at.returns c).After-fill_ages)) in
+    record { rows_after = told.0; sizes_after = told.1 }
 
 pub fill_ages-requires : goal.fill_ages-requires
 fill_ages-requires c = c.requires.rows_len

@@ -31,12 +31,12 @@ sizes c =
     let counted : let a = c.args in Counted a.g a.dump.now a.m a.o.0 (min (length c.args.rows.now) (length c.args.sizes.now)) a.pages c.count_in-r.result = record { accepted = c.requires; is = rw (← c.takes-t.ensures, ← c.least.ensures) c.count_in-r.ensures } in
     told_front counted c.in-Records.is c.args.sizes.now (omega arith)
 
-all : (c : In-Records) → let a = c.args in c.in-Records.count ≡ records (seen_by c.before.before.takes.result (record_at a.g a.dump.now)) a.o.0 a.pages
+all : (c : In-Records) → let a = c.args in c.in-Records.count ≡ records (seen_by c.takes-t.result (record_at a.g a.dump.now)) a.o.0 a.pages
 all c =
     let counted : let a = c.args in Counted a.g a.dump.now a.m a.o.0 (min (length c.args.rows.now) (length c.args.sizes.now)) a.pages c.count_in-r.result = record { accepted = c.requires; is = rw (← c.takes-t.ensures, ← c.least.ensures) c.count_in-r.ensures } in
     let a = c.args in
     told_count counted c.in-Records.is
-    ∙ ap (λ (t : Takes). records (seen_by t (record_at a.g a.dump.now)) a.o.0 a.pages) (sym c.before.before.takes.ensures)
+    ∙ ap (λ (t : Takes). records (seen_by t (record_at a.g a.dump.now)) a.o.0 a.pages) (sym c.takes-t.ensures)
 
 pub fill-requires : goal.fill-requires
 fill-requires c = record { dump_value = c.requires; rows_len = (rows (goal.at.fill-requires c).In-Records).long ∙ all (goal.at.fill-requires c).In-Records; sizes_len = (sizes (goal.at.fill-requires c).In-Records).long ∙ all (goal.at.fill-requires c).In-Records }

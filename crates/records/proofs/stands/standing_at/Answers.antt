@@ -19,12 +19,6 @@ use Rattle.records.proofs.Accepted.{seen_chunk}
 use Rattle.records.proofs.stands.standing_at.Goals as goal
 use Rattle.records.proofs.stands.standing_at.Goals.{Start, After-seen_at-r, After-last_place-q}
 
-few : (s : Start) → s.args.pages < page_values
-few s = opened_pages s.args.g (length s.args.dump.now) s.args.pages s.requires.dump_value
-
-chunked : (s : tie.Start) (p : ℕ) → is_data (says s p) ≡ true → chunk_of (says s p) ≡ 0 → ⊥
-chunked s = seen_chunk s.args.g s.args.dump.now s.args.t
-
 rest : (s : Start) → s.args.ages.now ≡ drop s.args.i (written (seen_by s.args.t (record_at s.args.g s.args.dump.now)) s.args.o.0 s.args.pages)
 rest s = s.requires.ages_value
 
@@ -40,13 +34,13 @@ said c =
 pub last_place-q-requires : goal.last_place-q-requires
 last_place-q-requires c =
     rw (c.requires.places_value, c.chunk_of.ensures, said (goal.at.last_place-q-requires c).After-seen_at-r)
-    (has_its (seen_by c.args.t (record_at c.args.g c.args.dump.now)) c.args.o.0 c.args.pages (few (goal.at.last_place-q-requires c).Start) (chunked c) c.args.i c.requires.i_in_bounds)
+    (has_its (seen_by c.args.t (record_at c.args.g c.args.dump.now)) c.args.o.0 c.args.pages (opened_pages c.args.g (length c.args.dump.now) c.args.pages c.requires.dump_value) (seen_chunk c.args.g c.args.dump.now c.args.t) c.args.i c.requires.i_in_bounds)
 
 -- and the last place of its chunk says how it stands
-by-its-last : (c : After-last_place-q) → ByLast (seen_by c.args.t (record_at c.args.g c.args.dump.now)) c.args.o.0 c.args.pages few (chunked c) c.args.g.layout.«data» c.args.i c.seen_at-r.result c.last_place-q.result
+by-its-last : (c : After-last_place-q) → ByLast (seen_by c.args.t (record_at c.args.g c.args.dump.now)) c.args.o.0 c.args.pages (opened_pages c.args.g (length c.args.dump.now) c.args.pages c.requires.dump_value) (seen_chunk c.args.g c.args.dump.now c.args.t) c.args.g.layout.«data» c.args.i c.seen_at-r.result c.last_place-q.result
 by-its-last c =
-    let few : c.args.pages < page_values = opened_pages c.args.g (length c.args.dump.now) c.args.pages c.requires.dump_value in let said : c.seen_at-r.result ≡ (seen_by c.args.t (record_at c.args.g c.args.dump.now)) (page_at (seen_by c.args.t (record_at c.args.g c.args.dump.now)) c.args.o.0 c.args.pages c.args.i) = let rest : c.args.ages.now ≡ drop c.args.i (written (seen_by c.args.t (record_at c.args.g c.args.dump.now)) c.args.o.0 c.args.pages) = c.requires.ages_value in rw (c.seen_at-r.ensures, c.value_of.ensures, rest_first (written (seen_by c.args.t (record_at c.args.g c.args.dump.now)) c.args.o.0 c.args.pages) c.args.ages.now c.args.i rest) in
-    by_last (seen_by c.args.t (record_at c.args.g c.args.dump.now)) c.args.o.0 c.args.pages few (chunked c) c.args.g.layout.«data» c.args.i c.requires.i_in_bounds
+    let said : c.seen_at-r.result ≡ (seen_by c.args.t (record_at c.args.g c.args.dump.now)) (page_at (seen_by c.args.t (record_at c.args.g c.args.dump.now)) c.args.o.0 c.args.pages c.args.i) = let rest : c.args.ages.now ≡ drop c.args.i (written (seen_by c.args.t (record_at c.args.g c.args.dump.now)) c.args.o.0 c.args.pages) = c.requires.ages_value in rw (c.seen_at-r.ensures, c.value_of.ensures, rest_first (written (seen_by c.args.t (record_at c.args.g c.args.dump.now)) c.args.o.0 c.args.pages) c.args.ages.now c.args.i rest) in
+    by_last (seen_by c.args.t (record_at c.args.g c.args.dump.now)) c.args.o.0 c.args.pages (opened_pages c.args.g (length c.args.dump.now) c.args.pages c.requires.dump_value) (seen_chunk c.args.g c.args.dump.now c.args.t) c.args.g.layout.«data» c.args.i c.requires.i_in_bounds
     c.seen_at-r.result c.last_place-q.result said
     (rw (← c.chunk_of.ensures, ← c.requires.places_value) c.last_place-q.ensures)
 
@@ -67,7 +61,7 @@ pub overflow_sub-q : goal.overflow_sub-q
 overflow_sub-q c = omega (arith, ((by-its-last (goal.at.overflow_sub-q c).After-last_place-q).behind c.if-q-i-2.false).0)
 
 pub offset_bounds-ages-q : goal.offset_bounds-ages-q
-offset_bounds-ages-q c = omega (arith, ((by-its-last (goal.at.offset_bounds-ages-q c).After-last_place-q).behind c.if-q-i-2.false).1, written_few (seen_by c.args.t (record_at c.args.g c.args.dump.now)) c.args.o.0 c.args.pages (few (goal.at.offset_bounds-ages-q c).Start))
+offset_bounds-ages-q c = omega (arith, ((by-its-last (goal.at.offset_bounds-ages-q c).After-last_place-q).behind c.if-q-i-2.false).1, written_few (seen_by c.args.t (record_at c.args.g c.args.dump.now)) c.args.o.0 c.args.pages (opened_pages c.args.g (length c.args.dump.now) c.args.pages c.requires.dump_value))
 
 pub bounds-ages-q : goal.bounds-ages-q
 bounds-ages-q c =
