@@ -1,6 +1,6 @@
 -- Words of which the front is put. A text that is put at position 0 and has room is what the words begin with, so that sorting as many words sorts
 -- the text.
-use Prim.Native.Nat.{ℕ, ◌-◌, ◌≤◌}
+use Prim.Native.Nat.{ℕ, ◌≤◌}
 use mathlib.Core.List.{List, ◌++◌, append-nil}
 use mathlib.Core.Path.{◌≡◌, sym, ap, ◌∙◌}
 use native.Mathlib.Nat.{zero-add}

@@ -1,6 +1,5 @@
-use Prim.Native.Nat.{ℕ, ◌≤◌, ◌-◌}
+use Prim.Native.Nat.{◌≤◌}
 use mathlib.Core.Bool.{true, false}
-use mathlib.Core.List.{List}
 use mathlib.Core.Path.{◌≡◌, sym, ap, ◌∙◌}
 use native.Mathlib.Omega.{arith}
 use borrow.Author.Rules.{rules}
@@ -19,7 +18,7 @@ use Rattle.tree.specs.Objects.{says_by}
 use Rattle.tree.proofs.Entries.{root_no_child, page_no_child, deleted_no_child, is_child_lem, child_row_lem}
 use Rattle.tree.proofs.Fronts.{put_length, put_sorted}
 use Rattle.tree.proofs.children.fill_children.Goals as goal
-use Rattle.tree.proofs.children.fill_children.Goals.{After-sort-arg-1, After-slice_known-1}
+use Rattle.tree.proofs.children.fill_children.Goals.{After-seen_at-r, After-sort}
 
 pub loop-i-preserved-then-key_of-eq-ROOT : goal.loop-i-preserved-then-key_of-eq-ROOT
 loop-i-preserved-then-key_of-eq-ROOT c =
@@ -29,10 +28,14 @@ loop-i-preserved-then-key_of-eq-ROOT c =
     let t = root_no_child says a.heads.now q.i (sym c.key_of.ensures ∙ c.if-key_of-eq-ROOT.true) in
     (search rules, rw (passed_skip (is_child says a.heads.now) (child_row says a.heads.now) q.i t) q.invariant.1)
 
+-- the header that a row names is the newest of its object
+names : (k : After-seen_at-r) → said_at (says_by k.args.g k.args.dump.now k.args.t) k.args.heads.now k.loop-i.i ≡ k.seen_at-r.result
+names k = sym (k.seen_at-r.ensures ∙ ap (says_by k.args.g k.args.dump.now k.args.t) k.value_of.ensures)
+
 pub loop-i-preserved-in_default : goal.loop-i-preserved-in_default
 loop-i-preserved-in_default c =
-    let said : said_at (says_by c.args.g c.args.dump.now c.args.t) c.args.heads.now c.loop.i ≡ c.seen_at-r.result = sym (c.seen_at-r.ensures ∙ ap (says_by c.args.g c.args.dump.now c.args.t) c.value_of.ensures) in
-    let q = c.loop in
+    let said = names (goal.at.loop-i-preserved-in_default c).After-seen_at-r in
+    let q = c.loop-i in
     let a = c.args in
     let says = says_by a.g a.dump.now a.t in
     let t = page_no_child says a.heads.now q.i (rw said (else_header c.seen_at-r.result c.in_default.not-Header)) in
@@ -40,8 +43,8 @@ loop-i-preserved-in_default c =
 
 pub loop-i-preserved-then-gone_under : goal.loop-i-preserved-then-gone_under
 loop-i-preserved-then-gone_under c =
-    let said : said_at (says_by c.args.g c.args.dump.now c.args.t) c.args.heads.now c.loop.i ≡ c.seen_at-r.result = sym (c.seen_at-r.ensures ∙ ap (says_by c.args.g c.args.dump.now c.args.t) c.value_of.ensures) in
-    let q = c.loop in
+    let said = names (goal.at.loop-i-preserved-then-gone_under c).After-seen_at-r in
+    let q = c.loop-i in
     let a = c.args in
     let says = says_by a.g a.dump.now a.t in
     let e : is_gone (said_at says a.heads.now q.i) ≡ true =
@@ -51,8 +54,8 @@ loop-i-preserved-then-gone_under c =
 
 pub loop-i-preserved : goal.loop-i-preserved
 loop-i-preserved c =
-    let said : said_at (says_by c.args.g c.args.dump.now c.args.t) c.args.heads.now c.loop.i ≡ c.seen_at-r.result = sym (c.seen_at-r.ensures ∙ ap (says_by c.args.g c.args.dump.now c.args.t) c.value_of.ensures) in
-    let q = c.loop in
+    let said = names (goal.at.loop-i-preserved c).After-seen_at-r in
+    let q = c.loop-i in
     let a = c.args in
     let says = says_by a.g a.dump.now a.t in
     let e = said ∙ c.in-Header.is in
@@ -63,30 +66,39 @@ loop-i-preserved c =
     let more = passed_take (is_child says a.heads.now) (child_row says a.heads.now) q.i t in
     (search rules, rw (more, ← r) (also q.invariant.1 c.put_row-at.ensures))
 
--- were put
-put_all : (l : After-sort-arg-1) → Put (let says = says_by l.args.g l.args.dump.now l.args.t in passed (is_child says l.args.heads.now) (child_row says l.args.heads.now) (length l.args.heads.now)) l.args.rows.now 0 l.loop-i.rows l.loop-i.at
+-- once all heads are passed, the rows of all children were put
+put_all : (l : After-sort) →
+    let says = says_by l.args.g l.args.dump.now l.args.t in
+    Put (passed (is_child says l.args.heads.now) (child_row says l.args.heads.now) (length l.args.heads.now)) l.args.rows.now 0 l.loop-i.rows l.loop-i.at
 put_all l =
     let q = l.loop-i in
-    let e : q.i ≡ length l.args.heads.now = omega (arith, l.loop-i-test.left, q.invariant.0) in
+    let e : q.i ≡ length l.args.heads.now = omega (arith, l.loop-i-test.false, q.invariant.0) in
     rw e at q.invariant.1
 
 -- and are no more than the heads
-fits : (l : After-slice_known-1) → length (let says = says_by l.args.g l.args.dump.now l.args.t in passed (is_child says l.args.heads.now) (child_row says l.args.heads.now) (length l.args.heads.now)) ≤ length l.args.rows.now
+fits : (l : After-sort) →
+    let says = says_by l.args.g l.args.dump.now l.args.t in
+    length (passed (is_child says l.args.heads.now) (child_row says l.args.heads.now) (length l.args.heads.now)) ≤ length l.args.rows.now
 fits l =
     let says = says_by l.args.g l.args.dump.now l.args.t in
     let heads = l.args.heads.now in
     let test = is_child says heads in
-    omega (arith, l.pre.1, passed_length test (child_row says heads) (length heads), count_le test (length heads))
+    omega (arith, l.requires.heads_in_bounds, passed_length test (child_row says heads) (length heads), count_le test (length heads))
 
 pub returns : goal.returns
 unfolding child_rows ids_of
-returns c = record { upper_bound = omega (arith, put_length (put_all (goal.at.returns c).After-sort-arg-1) (fits (goal.at.returns c).After-slice_known-1), fits (goal.at.returns c).After-slice_known-1); rows_after = put_sorted (put_all (goal.at.returns c).After-sort-arg-1) _ (fits (goal.at.returns c).After-slice_known-1) c.sort.ensures }
+returns c =
+    let l = (goal.at.returns c).After-sort in
+    record {
+      upper_bound = omega (arith, put_length (put_all l) (fits l), fits l);
+      rows_after = put_sorted (put_all l) _ (fits l) c.sort.ensures;
+    }
 
 pub loop-i-init : goal.loop-i-init
 loop-i-init c = (search rules, rw passed_none (nothing _ _ (omega arith) (omega arith)))
 
 pub overflow_cast-place : goal.overflow_cast-place
-overflow_cast-place c = record { fits (goal.at.overflow_cast-place c).After-slice_known-1 omega (arith, c.loop-i-test.true, c.requires.heads_len_bound) }
+overflow_cast-place c = record { fits = omega (arith, c.loop-i-test.true, c.requires.heads_len_bound) }
 
 pub shape_of-rows : goal.shape_of-rows
-shape_of-rows c = c.sort.auto.0 ∙ kept c.loop-i.invariant.1
+shape_of-rows c = c.sort.auto.words ∙ kept c.loop-i.invariant.1

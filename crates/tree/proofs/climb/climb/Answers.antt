@@ -1,8 +1,4 @@
-use Prim.Native.Nat.{◌-◌}
-use mathlib.Core.Path.{◌≡◌, refl, ◌∙◌}
-use borrow.Author.Rules.{rules}
-use lib.ListN.{length}
-use Rattle.tree.specs.Climbs.{Raised}
+use mathlib.Core.Path.{refl, ◌∙◌}
 use Rattle.tree.proofs.Climbing.{raised_some, raised_doubled, raised_enough}
 use Rattle.tree.proofs.climb.climb.Goals as goal
 
@@ -14,7 +10,7 @@ double-requires c =
 pub loop-steps-preserved : goal.loop-steps-preserved
 loop-steps-preserved c =
     let q = c.loop-steps in
-    (c.ways-1.given ∙ q.invariant.0, raised_doubled q.steps _ q.ways _ q.invariant.1 c.double.ensures)
+    (c.double.auto.ways ∙ q.invariant.0, raised_doubled q.steps _ q.ways _ q.invariant.1 c.double.ensures)
 
 pub returns : goal.returns
 returns c = let q = c.loop-steps in raised_enough _ q.steps _ q.ways q.invariant.1 c.loop-steps-test.false

@@ -1,10 +1,8 @@
 -- The loop's invariant: the words have gone more than so many steps, or have ended. A round makes of s steps more than 2 s + 1.
 use Prim.Native.Nat.{◌-◌}
-use mathlib.Core.Path.{◌≡◌, refl, ◌∙◌}
-use borrow.Author.Rules.{rules}
+use mathlib.Core.Path.{◌≡◌}
 use lib.ListN.{length}
 use Rattle.tree.specs.Climbs.{Raised}
-use Rattle.tree.proofs.Climbing.{raised_some, raised_doubled, raised_enough}
 use Rattle.tree.proofs.climb.climb.Given as goal
 
 abbrev pub invariant-loop-steps : goal.invariant-loop-steps

@@ -1,9 +1,8 @@
 -- The root has its own code, and so has an object of which the search finds no row; where it finds one, the code is of its place and its header's
 -- kind.
-use Prim.Native.Nat.{ℕ, ◌<◌}
+use Prim.Native.Nat.{◌<◌}
 use mathlib.Core.Path.{◌≡◌}
 use native.Mathlib.Omega.{arith}
-use borrow.Author.Rules.{rules}
 use lib.ListN.{length, get_or}
 use Rattle.sort.specs.Packed.{key_of}
 use Rattle.tree.proofs.Climbing.{header_kind, leads_root, leads_none, leads_row}
@@ -17,15 +16,15 @@ pub returns-then-o-eq-ROOT : goal.returns-then-o-eq-ROOT
 returns-then-o-eq-ROOT c n w = leads_root _ n _ _ c.if-o-eq-ROOT.true
 
 pub overflow_cast-result : goal.overflow_cast-result
-overflow_cast-result c = record { fits = omega (arith, (found (goal.at.overflow_cast-result c).In-At).0, c.requires.1) }
+overflow_cast-result c = record { fits = omega (arith, (found (goal.at.overflow_cast-result c).In-At).0, c.requires.heads_len_bound) }
 
 pub overflow_mul-result : goal.overflow_mul-result
-overflow_mul-result c = record { fits = omega (arith, (found (goal.at.overflow_mul-result c).In-At).0, c.requires.1) }
+overflow_mul-result c = record { fits = omega (arith, (found (goal.at.overflow_mul-result c).In-At).0, c.requires.heads_len_bound) }
 
 pub overflow_add-result : goal.overflow_add-result
 overflow_add-result c =
     let b : c.kind_of.result < 3 = rw c.kind_of.ensures (header_kind c.seen_at.result) in
-    record { fits = omega (arith, (found (goal.at.overflow_add-result c).In-At).0, c.requires.1) }
+    record { fits = omega (arith, (found (goal.at.overflow_add-result c).In-At).0, c.requires.heads_len_bound) }
 
 pub returns-in-Nowhere : goal.returns-in-Nowhere
 returns-in-Nowhere c n w = leads_none _ n _ w _ c.if-o-eq-ROOT.false (rw c.in-Nowhere.is at c.find.ensures)

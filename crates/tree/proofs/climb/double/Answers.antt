@@ -1,8 +1,7 @@
-use Prim.Native.Nat.{◌-◌, ◌/◌, ◌<◌}
+use Prim.Native.Nat.{◌/◌, ◌<◌}
 use native.Mathlib.Omega.{arith}
-use borrow.Author.Rules.{rules}
 use lib.ListN.{length}
-use Rattle.tree.proofs.Climbing.{Doubling, doubling_inside, doubling_none, doubling_ended, doubling_more, doubling_all}
+use Rattle.tree.proofs.Climbing.{doubling_inside, doubling_none, doubling_ended, doubling_more, doubling_all}
 use Rattle.tree.proofs.climb.double.Goals as goal
 use Rattle.tree.proofs.climb.double.Goals.{Else-jump-ne-GOES_ON}
 

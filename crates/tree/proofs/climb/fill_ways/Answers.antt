@@ -1,10 +1,6 @@
-use Prim.Native.Nat.{◌-◌}
 use mathlib.Core.Path.{sym, ◌∙◌}
 use native.Mathlib.Omega.{arith}
-use borrow.Author.Rules.{rules}
-use lib.ListN.{length}
-use Rattle.tree.specs.Objects.{says_by}
-use Rattle.tree.proofs.Climbing.{Filled, filled_none, filled_more, filled_all}
+use Rattle.tree.proofs.Climbing.{filled_none, filled_more, filled_all}
 use Rattle.tree.proofs.climb.fill_ways.Goals as goal
 
 pub loop-i-init : goal.loop-i-init

@@ -1,9 +1,7 @@
-use Prim.Native.Nat.{◌-◌, ◌/◌, ◌<◌}
+use Prim.Native.Nat.{◌/◌, ◌<◌}
 use native.Mathlib.Omega.{arith}
-use borrow.Author.Rules.{rules}
 use lib.ListN.{length}
-use Rattle.tree.specs.Paths.{most_depth}
-use Rattle.tree.proofs.Settled.{Tracked, tracked_first, tracked_inside, tracked_more, tracked_deep, tracked_end}
+use Rattle.tree.proofs.Settled.{tracked_first, tracked_inside, tracked_more, tracked_deep, tracked_end}
 use Rattle.tree.proofs.climb.is_listed.Goals as goal
 use Rattle.tree.proofs.climb.is_listed.Goals.{Else-steps-eq-MOST_DEPTH}
 

@@ -1,11 +1,8 @@
 -- The way goes up parent by parent, at most 32 steps. The loop's invariant is `Tracked`: the way of the row's object has gone so many steps, and come
 -- to the code. It is in the first list exactly if the way comes to the root by then.
-use Prim.Native.Nat.{◌-◌, ◌/◌, ◌<◌}
-use native.Mathlib.Omega.{arith}
-use borrow.Author.Rules.{rules}
-use lib.ListN.{length}
+use Prim.Native.Nat.{◌-◌}
 use Rattle.tree.specs.Paths.{most_depth}
-use Rattle.tree.proofs.Settled.{Tracked, tracked_first, tracked_inside, tracked_more, tracked_deep, tracked_end}
+use Rattle.tree.proofs.Settled.{Tracked}
 use Rattle.tree.proofs.climb.is_listed.Given as goal
 
 abbrev pub invariant-loop-code : goal.invariant-loop-code

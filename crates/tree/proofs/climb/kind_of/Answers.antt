@@ -1,6 +1,5 @@
 -- An object that is gone is deleted; of the others one that stands is a directory, and the rest are none.
 use mathlib.Core.Path.{sym, ◌∙◌}
-use borrow.Author.Rules.{rules}
 use Rattle.tree.specs.Objects.{stand_by}
 use Rattle.tree.proofs.Climbing.{kind_gone, kind_standing, kind_else}
 use Rattle.tree.proofs.climb.kind_of.Goals as goal

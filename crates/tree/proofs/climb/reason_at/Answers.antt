@@ -1,5 +1,4 @@
 -- The tests are those of the definition, in its order: at each return those before have failed, and its own holds.
-use borrow.Author.Rules.{rules}
 use borrow.Author.Tests.{eq-eqb, ne_eqb}
 use Rattle.tree.specs.Climbs.{reason_in}
 use Rattle.tree.proofs.climb.reason_at.Goals as goal

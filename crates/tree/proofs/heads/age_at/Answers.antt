@@ -1,5 +1,4 @@
 -- The order of what the page says.
-use borrow.Author.Rules.{rules}
 use Rattle.tree.proofs.heads.age_at.Goals as goal
 
 pub returns : goal.returns

@@ -1,9 +1,7 @@
-use Prim.Native.Nat.{◌≤◌, ◌-◌}
 use mathlib.Core.Bool.{true, false}
 use mathlib.Core.Path.{◌≡◌, sym, ap, ◌∙◌}
 use native.Mathlib.Omega.{arith}
 use borrow.Author.Rules.{rules}
-use Rattle.page.specs.Search.{count}
 use Rattle.page.specs.Records.{is_header}
 use Rattle.page.proofs.Searching.{count_none}
 use Rattle.page.proofs.Sound.{else_header}

@@ -1,14 +1,7 @@
 -- The loop's invariant: the count is that of the headers among the first i pages. One page more adds one exactly if it is a header.
 use Prim.Native.Nat.{◌≤◌, ◌-◌}
-use mathlib.Core.Bool.{true, false}
-use mathlib.Core.Path.{◌≡◌, sym, ap, ◌∙◌}
-use native.Mathlib.Omega.{arith}
-use borrow.Author.Rules.{rules}
+use mathlib.Core.Path.{◌≡◌}
 use Rattle.page.specs.Search.{count}
-use Rattle.page.specs.Records.{is_header}
-use Rattle.page.proofs.Searching.{count_none}
-use Rattle.page.proofs.Sound.{else_header}
-use Rattle.chunk.proofs.Living.{count_skip, count_take}
 use Rattle.tree.specs.Heads.{is_head}
 use Rattle.tree.specs.Objects.{says_by}
 use Rattle.tree.proofs.heads.count_heads.Given as goal

@@ -1,4 +1,3 @@
-use Prim.Native.Nat.{◌≤◌, ◌-◌}
 use mathlib.Core.Bool.{true, false}
 use mathlib.Core.Path.{◌≡◌, sym, ap, ◌∙◌}
 use native.Mathlib.Omega.{arith}
@@ -6,9 +5,7 @@ use borrow.Author.Rules.{rules}
 use Rattle.page.specs.Records.{is_header}
 use Rattle.page.specs.declared.record.Record.TheVariants.{Header}
 use Rattle.page.proofs.Sound.{else_header}
-use Rattle.chunk.specs.Live.{passed}
 use Rattle.chunk.proofs.Living.{passed_none, passed_skip, passed_take, passed_length}
-use Rattle.text.specs.Put.{Put}
 use Rattle.text.proofs.Putting.{nothing, also, kept}
 use Rattle.tree.specs.Heads.{is_head, head_row}
 use Rattle.tree.specs.Objects.{says_by}

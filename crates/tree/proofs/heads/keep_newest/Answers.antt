@@ -1,10 +1,8 @@
-use Prim.Native.Nat.{◌-◌}
 use mathlib.Core.Path.{◌≡◌, sym, ◌∙◌}
 use native.Mathlib.Omega.{arith}
 use borrow.Author.Rules.{rules}
 use lib.ListN.{length, length-set}
-use Rattle.tree.specs.Objects.{says_by}
-use Rattle.tree.proofs.NewestEach.{Kept, kept_none, kept_same, kept_other, kept_end, newest_none}
+use Rattle.tree.proofs.NewestEach.{kept_none, kept_same, kept_other, kept_end, newest_none}
 use Rattle.tree.proofs.heads.keep_newest.Goals as goal
 
 pub returns-then-n-eq0 : goal.returns-then-n-eq0

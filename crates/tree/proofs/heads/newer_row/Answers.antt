@@ -1,7 +1,6 @@
 -- The ages of both pages decide.
 use Prim.Native.Nat.{◌≤◌, ◌<◌}
 use mathlib.Core.Path.{sym}
-use borrow.Author.Rules.{rules}
 use Rattle.sort.specs.Packed.{value_of}
 use Rattle.chunk.specs.Records.{age_of}
 use Rattle.tree.specs.Objects.{says_by}

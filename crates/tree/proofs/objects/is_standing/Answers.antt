@@ -1,7 +1,6 @@
 -- A page that is no header stands as none; a header by its parent, and then by its type.
 use mathlib.Core.Bool.{true, false}
 use mathlib.Core.Path.{◌≡◌, sym, ap, ◌∙◌}
-use borrow.Author.Rules.{rules}
 use Rattle.page.proofs.Sound.{else_header}
 use Rattle.chunk.specs.Records.{is_gone}
 use Rattle.tree.specs.Objects.{is_directory}

@@ -1,6 +1,5 @@
 -- The root is tested first, then the header's parent; of another object it is asked whether the first list has it.
 use mathlib.Core.Path.{sym, ◌∙◌}
-use borrow.Author.Rules.{rules}
 use Rattle.tree.proofs.SecondList.{tells_root, tells_gone, tells_else}
 use Rattle.tree.proofs.others.is_other.Goals as goal
 

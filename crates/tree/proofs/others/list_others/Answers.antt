@@ -1,10 +1,5 @@
-use Prim.Native.Nat.{◌-◌}
 use native.Mathlib.Omega.{arith}
-use borrow.Author.Rules.{rules}
-use borrow.Author.Tests.{not-true, not-false}
-use lib.ListN.{length}
-use Rattle.tree.specs.Objects.{says_by}
-use Rattle.tree.proofs.SecondList.{Listing, listing_none, listing_pass, listing_more, listing_all}
+use Rattle.tree.proofs.SecondList.{listing_none, listing_pass, listing_more, listing_all}
 use Rattle.tree.proofs.others.list_others.Goals as goal
 
 pub is_other-requires : goal.is_other-requires

@@ -1,12 +1,9 @@
 -- The loop's invariant is `Listing`: of the rows passed, those of objects that are in the second list are put, each with its reason. It is asked of the
 -- words, and what these tell is said for every dump whose rows these are.
 use Prim.Native.Nat.{◌-◌}
-use native.Mathlib.Omega.{arith}
-use borrow.Author.Rules.{rules}
-use borrow.Author.Tests.{not-true, not-false}
 use lib.ListN.{length}
 use Rattle.tree.specs.Objects.{says_by}
-use Rattle.tree.proofs.SecondList.{Listing, listing_none, listing_pass, listing_more, listing_all}
+use Rattle.tree.proofs.SecondList.{Listing}
 use Rattle.tree.proofs.others.list_others.Given as goal
 
 abbrev pub invariant-loop-i : goal.invariant-loop-i

@@ -1,7 +1,6 @@
 -- A row within the lent words is stored. One past their end changes nothing, and the position goes on as far as positions count.
 use mathlib.Core.Path.{refl}
 use native.Mathlib.Omega.{arith}
-use borrow.Author.Rules.{rules}
 use Rattle.text.specs.Put.{over, counted}
 use Rattle.text.proofs.Putting.{left_out_lem}
 use Rattle.tree.proofs.row.put_row.Goals as goal

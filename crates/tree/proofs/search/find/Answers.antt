@@ -1,7 +1,6 @@
 -- A row with the key stands at the first word that is not below the key's least number, or there is none.
 use mathlib.Core.Path.{◌∙◌}
 use native.Mathlib.Omega.{arith}
-use borrow.Author.Rules.{rules}
 use Rattle.sort.specs.Packed.{packed}
 use Rattle.sort.specs.Search.{Parted}
 use Rattle.tree.proofs.Searching.{nowhere}

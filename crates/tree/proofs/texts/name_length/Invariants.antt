@@ -1,13 +1,8 @@
 -- The loop's invariant: the bytes passed are of the name, and the rest of the name is that of the bytes left.
 use Prim.Native.Nat.{◌+◌, ◌≤◌, ◌-◌}
-use mathlib.Core.Path.{◌≡◌, ap, ◌∙◌}
-use native.Mathlib.Nat.{zero-add}
-use native.Mathlib.Numerals.{add-one}
-use native.Mathlib.Omega.{arith}
-use borrow.Author.Rules.{rules}
-use lib.ListN.{length, drop, drop_of_length-le}
+use mathlib.Core.Path.{◌≡◌}
+use lib.ListN.{length, drop}
 use Rattle.tree.specs.Paths.{up_to_zero}
-use Rattle.tree.proofs.Texting.{name_ends, name_goes_on, name_none}
 use Rattle.tree.proofs.texts.name_length.Given as goal
 
 abbrev pub invariant-loop-n : goal.invariant-loop-n

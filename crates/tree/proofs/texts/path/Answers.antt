@@ -1,6 +1,5 @@
 -- A refused dump is refused before anything else, and nothing is written.
 use mathlib.Core.Path.{sym, ◌∙◌}
-use borrow.Author.Rules.{rules}
 use Rattle.tree.specs.Texts.{texted_on, texted_left}
 use Rattle.tree.proofs.texts.path.Goals as goal
 

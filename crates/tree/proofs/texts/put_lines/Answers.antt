@@ -1,11 +1,7 @@
-use Prim.Native.Nat.{◌≤◌, ◌-◌}
 use native.Mathlib.Nat.{le_antisymm}
 use native.Mathlib.Omega.{arith}
 use borrow.Author.Rules.{rules}
-use lib.ListN.{length}
-use Rattle.text.specs.Put.{Put}
 use Rattle.text.proofs.Putting.{nothing, also, kept}
-use Rattle.tree.specs.Rows.{lines_to}
 use Rattle.tree.proofs.Texting.{lines_none, lines_more}
 use Rattle.tree.proofs.texts.put_lines.Goals as goal
 

@@ -1,6 +1,5 @@
 -- The name stands in front of the bytes of its field, and they are put.
 use mathlib.Core.Path.{sym}
-use borrow.Author.Rules.{rules}
 use lib.Seq.{length-take-le}
 use Rattle.tree.proofs.Texting.{name_put}
 use Rattle.tree.proofs.texts.put_name.Goals as goal

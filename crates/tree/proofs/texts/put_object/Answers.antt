@@ -1,5 +1,4 @@
 -- The object is that of the record on the row's page.
-use borrow.Author.Rules.{rules}
 use Rattle.tree.proofs.texts.put_object.Goals as goal
 
 pub returns : goal.returns

@@ -1,6 +1,5 @@
 -- A row past the end has no path.
 use native.Mathlib.Omega.{arith}
-use borrow.Author.Rules.{rules}
 use borrow.Author.Tests.{lt-ltb, le-ltb}
 use Rattle.text.proofs.Putting.{nothing}
 use Rattle.tree.specs.Rows.{path_at}

@@ -1,5 +1,4 @@
 -- The pieces are put one behind the other: the line of the object, the key of the other line, the reason in words and the end of the line.
-use borrow.Author.Rules.{rules}
 use Rattle.text.proofs.Putting.{also}
 use Rattle.tree.specs.Tree.{reason_lines}
 use Rattle.tree.proofs.texts.put_reason_lines.Goals as goal

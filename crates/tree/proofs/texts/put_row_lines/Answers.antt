@@ -1,5 +1,4 @@
 -- The first rows have paths and the others reasons.
-use borrow.Author.Rules.{rules}
 use borrow.Author.Tests.{lt-ltb, le-ltb}
 use Rattle.tree.specs.Rows.{row_lines}
 use Rattle.tree.proofs.texts.put_row_lines.Goals as goal

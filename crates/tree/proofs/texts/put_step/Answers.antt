@@ -1,5 +1,4 @@
 -- The slash, and then the name.
-use borrow.Author.Rules.{rules}
 use Rattle.text.proofs.Putting.{also}
 use Rattle.tree.proofs.texts.put_step.Goals as goal
 

@@ -1,5 +1,4 @@
 -- Each arm of the match has the words of its case.
-use borrow.Author.Rules.{rules}
 use Rattle.tree.proofs.texts.put_words.Goals as goal
 
 pub returns-in-TooDeep : goal.returns-in-TooDeep

@@ -1,5 +1,4 @@
 -- Each arm of the match is a case of the definition.
-use borrow.Author.Rules.{rules}
 use Rattle.tree.proofs.texts.texted_by.Goals as goal
 
 pub returns-in-Bytes : goal.returns-in-Bytes

@@ -1,7 +1,6 @@
 -- The children are put in order in the words to work in, and the listing goes down from the root by them.
 use mathlib.Core.Path.{sym}
 use native.Mathlib.Omega.{arith}
-use borrow.Author.Rules.{rules}
 use lib.Seq.{length-take-le}
 use Rattle.tree.specs.Rows.{listed_rows}
 use Rattle.tree.proofs.whole.first_list.Goals as goal
@@ -9,7 +8,7 @@ use Rattle.tree.proofs.whole.first_list.Goals as goal
 pub slice_bounds-list_directory-end-2 : goal.slice_bounds-list_directory-end-2
 slice_bounds-list_directory-end-2 c =
     let f = c.fill_children-count in
-    sym (length-take-le f.result f.new.1.1.1.1.0 (omega (arith, f.ensures.0, f.auto.1.1.1.1.0)))
+    sym (length-take-le f.result f.new.rows (omega (arith, f.ensures.upper_bound, f.auto.rows)))
 
 pub list_directory-requires : goal.list_directory-requires
 list_directory-requires c = record { heads = c.requires.heads; children_value = c.fill_children-count.ensures.rows_after }

@@ -1,6 +1,5 @@
 -- The ways up of all objects, and then the listing of those that no path leads to.
 use native.Mathlib.Omega.{arith}
-use borrow.Author.Rules.{rules}
 use Rattle.tree.specs.Objects.{names_of}
 use Rattle.tree.proofs.Climbing.{ways_some}
 use Rattle.tree.proofs.whole.second_list.Goals as goal
@@ -12,9 +11,9 @@ list_others-requires c =
 
 pub returns : goal.returns
 returns c =
-    let a = s.args in
-    c.list_others.ensures (names_of a.g a.dump.now) a.pages (record { small = omega (arith, s.ranges); right = s.requires.0 })
+    let a = c.args in
+    c.list_others.ensures (names_of a.g a.dump.now) a.pages (record { small = omega (arith, c.ranges.pages); right = c.requires.heads })
     c.find_ways.ensures
 
 pub find_ways-requires : goal.find_ways-requires
-find_ways-requires c = c.requires
+find_ways-requires c = record { heads = c.requires.heads; heads_len_bound = c.requires.heads_len_bound; ways_len = c.requires.work_len }
