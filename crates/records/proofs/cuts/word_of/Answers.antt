@@ -4,7 +4,7 @@ use borrow.Author.Rules.{rules}
 use Rattle.records.proofs.cuts.word_of.Goals as goal
 
 pub returns-in-At : goal.returns-in-At
-returns-in-At c = let h = c.in-At in ?
+returns-in-At c = rw c.in-At.is (omega arith)
 
 pub returns-in-Nowhere : goal.returns-in-Nowhere
 returns-in-Nowhere c = rw c.in-Nowhere.is

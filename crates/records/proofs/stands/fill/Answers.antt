@@ -35,11 +35,11 @@ fill_places-requires c =
     record { words_len = long (goal.at.fill_places-requires c).Start ∙ ap length (sym e); ages_len_bound = rw e (omega (arith, few (goal.at.fill_places-requires c).Start)) }
 
 pub after_all-after-requires : goal.after_all-after-requires
-after_all-after-requires c = let c = c in record { dump_value = c.requires.dump_value; ages_value = c.fill_ages.ensures }
+after_all-after-requires c = record { dump_value = c.requires.dump_value; ages_value = c.fill_ages.ensures }
 
 -- the places are those of the ages
-places : (p : After-fill_places) → p.fill_places.new.1.1.1.1.0 ≡ places_of (seen_by p.args.t (record_at p.args.g p.args.dump.now)) (written (seen_by p.args.t (record_at p.args.g p.args.dump.now)) p.args.o.0 p.args.pages)
-places p = p.fill_places.ensures ∙ ap (places_of (seen_by p.args.t (record_at p.args.g p.args.dump.now))) p.fill-ages.ensures
+places : (p : After-fill_places) → p.fill_places.new.words ≡ places_of (seen_by p.args.t (record_at p.args.g p.args.dump.now)) (written (seen_by p.args.t (record_at p.args.g p.args.dump.now)) p.args.o.0 p.args.pages)
+places p = p.fill_places.ensures ∙ ap (places_of (seen_by p.args.t (record_at p.args.g p.args.dump.now))) p.fill_ages.ensures
 
 pub put_standings-requires : goal.put_standings-requires
 put_standings-requires c =
@@ -48,7 +48,7 @@ put_standings-requires c =
 
 pub returns : goal.returns
 returns c =
-    let c = c in record { rows_after = c.put_standings.ensures.rows_after; details_after = c.put_standings.ensures.details_after; work_after = c.clear.ensures
-            ∙ cleared_all c.fill_places.new.1.1.1.1.0 _ refl
+    record { rows_after = c.put_standings.ensures.rows_after; details_after = c.put_standings.ensures.details_after; work_after = c.clear.ensures
+            ∙ cleared_all c.fill_places.new.words _ refl
             ∙ ap (λ (w : List ℕ). replicate (length w) 0) (places (goal.at.returns c).After-fill_places)
             ∙ ap (λ (n : ℕ). replicate n 0) (places_length (seen_by c.args.t (record_at c.args.g c.args.dump.now)) (written (seen_by c.args.t (record_at c.args.g c.args.dump.now)) c.args.o.0 c.args.pages) ∙ sym (long (goal.at.returns c).Start)) }

@@ -40,12 +40,12 @@ work c =
     let counted : let a = c.args in Counted a.g a.dump.now a.m a.o.0 (min (length c.args.rows.now) (min (length c.args.details.now) (length c.args.work.now))) a.pages c.count_in-r.result = record { accepted = c.requires; is = rw (← c.takes-t.ensures, ← c.least.ensures, ← c.least-room.ensures) c.count_in-r.ensures; } in
     told_front counted c.in-Records.is c.args.work.now (omega arith)
 
-all : (c : In-Records) → let a = c.args in c.in-Records.count ≡ records (seen_by c.before.before.before.takes.result (record_at a.g a.dump.now)) a.o.0 a.pages
+all : (c : In-Records) → let a = c.args in c.in-Records.count ≡ records (seen_by c.takes-t.result (record_at a.g a.dump.now)) a.o.0 a.pages
 all c =
     let counted : let a = c.args in Counted a.g a.dump.now a.m a.o.0 (min (length c.args.rows.now) (min (length c.args.details.now) (length c.args.work.now))) a.pages c.count_in-r.result = record { accepted = c.requires; is = rw (← c.takes-t.ensures, ← c.least.ensures, ← c.least-room.ensures) c.count_in-r.ensures; } in
     let a = c.args in
     told_count counted c.in-Records.is
-    ∙ ap (λ (t : Takes). records (seen_by t (record_at a.g a.dump.now)) a.o.0 a.pages) (sym c.before.before.before.takes.ensures)
+    ∙ ap (λ (t : Takes). records (seen_by t (record_at a.g a.dump.now)) a.o.0 a.pages) (sym c.takes-t.ensures)
 
 pub fill-requires : goal.fill-requires
 fill-requires c = record { dump_value = c.requires; rows_len = (rows (goal.at.fill-requires c).In-Records).long ∙ all (goal.at.fill-requires c).In-Records; details_len = (details (goal.at.fill-requires c).In-Records).long ∙ all (goal.at.fill-requires c).In-Records; work_len = (work (goal.at.fill-requires c).In-Records).long ∙ all (goal.at.fill-requires c).In-Records }
@@ -65,7 +65,7 @@ returns-in-Records c =
     let t = c.in-Records.is in
     let takes = c.takes-t.ensures in record { value = sym t ∙ recorded_on_lem (counted (goal.at.returns-in-Records c).After-count_in-r); rows_after = left_told (counted (goal.at.returns-in-Records c).After-count_in-r) t (λ i. standing_rows (says_at c.args.g c.args.dump.now c.args.m c.args.o.0) P a.o.0 i) a.rows.now
             (rw takes at c.fill.ensures.rows_after) (c.fill.auto.rows ∙ (rows (goal.at.returns-in-Records c).In-Records).long); details_after = left_told (counted (goal.at.returns-in-Records c).After-count_in-r) t (λ i. standing_details (says_at c.args.g c.args.dump.now c.args.m c.args.o.0) P a.o.0 i) a.details.now
-              (rw takes at c.fill.ensures.details_after) (c.fill.auto.details ∙ (details (goal.at.returns-in-Records c).In-Records).long); work_after = worked_told (counted (goal.at.returns-in-Records c).After-count_in-r) t a.work.now (c.fill.ensures.work_after ∙ ap (λ (k : ℕ). replicate c.in-Records.count) (work (goal.at.returns-in-Records c).In-Records).long) }
+              (rw takes at c.fill.ensures.details_after) (c.fill.auto.details ∙ (details (goal.at.returns-in-Records c).In-Records).long); work_after = worked_told (counted (goal.at.returns-in-Records c).After-count_in-r) t a.work.now (c.fill.ensures.work_after ∙ ap (λ (k : ℕ). replicate k 0) (work (goal.at.returns-in-Records c).In-Records).long) }
 
 pub slice_bounds-fill-end : goal.slice_bounds-fill-end
 slice_bounds-fill-end c = (rows c).inside
