@@ -4,7 +4,7 @@
 -- lowest later cut. The lowest later cut is at or below the position exactly when some later header's is. So the valid bytes reach the position exactly
 -- when no such header cuts and the byte count does: when the reason is that a page holds the byte. A read puts those bytes of that page into the buffer
 -- and zeros behind them.
-use Prim.Native.Nat.{ℕ, ◌+◌, ◌-◌, ◌≤◌, ◌<◌}
+use Prim.Native.Nat.{ℕ, ◌+◌, ◌≤◌, ◌<◌}
 use mathlib.Core.Bool.{true, false, ◌&&◌}
 use mathlib.Core.List.{List, [], ◌++◌}
 use mathlib.Core.Option.{Option, none, some}

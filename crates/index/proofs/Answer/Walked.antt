@@ -1,7 +1,7 @@
 -- A walk down an object's added records answers what the rules of document 01 answer, where pages not added read as blank. The list of these
 -- records is parted at its newest header, and then at the first copy of the chunk, above that header or below it. In each case the walk comes
 -- out as stated in Walks, the rules as stated in Rules, and both are the same.
-use Prim.Native.Nat.{ℕ, ◌+◌, ◌-◌, ◌≤◌, ◌<◌, min}
+use Prim.Native.Nat.{ℕ, ◌+◌, ◌≤◌, ◌<◌, min}
 use mathlib.Core.Bool.{Bool, true, false}
 use mathlib.Core.List.{List, ◌∷◌, ◌++◌, append_assoc}
 use mathlib.Core.Path.{◌≡◌, refl, sym, ap, ◌∙◌}
@@ -14,7 +14,6 @@ use Rattle.page.specs.Choice.{pick}
 use Rattle.page.specs.Records.{is_header}
 use Rattle.page.proofs.Searching.{by_test}
 use Rattle.page.specs.declared.record.Record.{Record}
-use Rattle.page.specs.declared.record.Record.TheVariants.{Header}
 use Rattle.page.specs.declared.refusal.Refusal.TheVariants.{NoObject, NoHeader}
 use Rattle.chunk.specs.Records.{age_of, is_copy, base_of}
 use Rattle.chunk.specs.Newest.{newest_copy, since, records}

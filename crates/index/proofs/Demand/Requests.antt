@@ -1,6 +1,6 @@
 -- One request on cells that hold exactly the added pages is answered as the paper says, and leaves cells that hold exactly the pages added
 -- after it. So a list of requests is too: by induction, with nothing in it.
-use Prim.Native.Nat.{ℕ, ◌+◌, ◌-◌, ◌≤◌, ◌<◌, min}
+use Prim.Native.Nat.{ℕ, ◌≤◌, ◌<◌, min}
 use mathlib.Core.Bool.{Bool, true, false}
 use mathlib.Core.List.{List, [], ◌∷◌, ◌++◌}
 use mathlib.Core.Path.{◌≡◌, refl, sym, ap, ap₂, ◌∙◌}

@@ -1,6 +1,6 @@
 -- The rules of document 01 over an object's sorted list of records. Each rule is a gathering, and so a walk along the list (`listed`). Where the
 -- list is parted at a record, a rule that asks for newer records goes by the part above it alone.
-use Prim.Native.Nat.{ℕ, suc, ◌+◌, ◌-◌, ◌≤◌, ◌<◌, max, zero-le}
+use Prim.Native.Nat.{ℕ, suc, ◌+◌, ◌≤◌, ◌<◌, max, zero-le}
 use mathlib.Core.Bool.{Bool, true, false, ◌&&◌}
 use mathlib.Core.List.{List, ◌∷◌, ◌++◌}
 use mathlib.Core.Logic.{◌≢◌}

@@ -1,6 +1,6 @@
 -- Walks down a chain. Down to the newest header, a walk goes through the list of the records above it; below that, through the list of the
 -- records above the copy, which is hidden or not by the lowest cut of the headers there.
-use Prim.Native.Nat.{ℕ, suc, ◌+◌, ◌-◌, ◌<◌, max}
+use Prim.Native.Nat.{ℕ, suc, ◌+◌, ◌<◌, max}
 use mathlib.Core.Bool.{Bool, true, false}
 use mathlib.Core.List.{List, [], ◌∷◌, ◌++◌}
 use mathlib.Core.Logic.{inl, inr}

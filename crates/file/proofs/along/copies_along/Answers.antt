@@ -1,7 +1,6 @@
 -- Refusals in their order; then there is room, and the rows are laid.
 use mathlib.Core.Path.{sym, ◌∙◌}
 use native.Mathlib.Omega.{arith}
-use borrow.Author.Rules.{rules}
 use borrow.Author.Tests.{le-leb, lt-leb, lt-ltb, le-ltb}
 use Rattle.file.specs.Along.{along_on, along_left}
 use Rattle.file.proofs.along.copies_along.Goals as goal

@@ -6,14 +6,12 @@ use mathlib.Core.List.{List, ◌++◌, map}
 use mathlib.Core.Path.{◌≡◌, sym, ap, ◌∙◌}
 use native.Mathlib.Omega.{arith}
 use lib.ListN.{length, take, drop}
-use borrow.Author.Rules.{rules}
 use Rattle.page.specs.Records.{record_at}
 use Rattle.sort.specs.Arranged.{arranged}
 use Rattle.sort.specs.Packed.{word_values, value_of}
 use Rattle.chunk.specs.declared.cut.Cut.TheVariants.{Nowhere}
 use Rattle.index.specs.Held.{from_list}
 use Rattle.file.specs.Copies.{met, put_from, room_for}
-use Rattle.file.specs.declared.copy.Copy.{Copy}
 use Rattle.file.proofs.Arranged.{sorted_with, sorted_length, sorted_below, sorted_filled}
 use Rattle.file.proofs.Chunks.{data_some}
 use Rattle.file.proofs.Listing.{along_gathered}

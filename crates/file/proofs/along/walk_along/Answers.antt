@@ -1,15 +1,12 @@
-use Prim.Native.Nat.{◌-◌, ◌≤◌}
 use mathlib.Core.Path.{sym, ◌∙◌}
 use native.Mathlib.Omega.{arith}
 use lib.ListN.{length}
-use borrow.Author.Rules.{rules}
-use borrow.Author.Tests.{not-true, not-false}
 use Rattle.page.specs.Records.{record_at}
 use Rattle.page.proofs.Sound.{else_data}
 use Rattle.index.proofs.Chain.Turns.{count_on}
 use Rattle.file.proofs.Copying.{opened_data}
-use Rattle.file.proofs.Listing.{said_other, data_few, from, from_on, from_end, from_count}
-use Rattle.file.proofs.Meeting.{Underway, under_start, under_header, under_data, under_other, under_clean}
+use Rattle.file.proofs.Listing.{said_other, data_few, from_on, from_end, from_count}
+use Rattle.file.proofs.Meeting.{under_start, under_header, under_data, under_other, under_clean}
 use Rattle.file.proofs.along.walk_along.Goals as goal
 
 pub loop-i-init : goal.loop-i-init
@@ -49,8 +46,14 @@ loop-i-preserved-in_default c =
 pub meet-copies-requires : goal.meet-copies-requires
 meet-copies-requires c =
     let q = c.loop-i in
-    let a = c.args in record { n_in_bounds = omega (arith, q.invariant.1.long, c.requires.n_in_bounds); i_lt_page_values = omega (arith, q.invariant.1.few, count_on _ _ _ (from_on a.list.now q.i c.loop-i-test.true), c.requires.list_len_bound); chunks_lt_chunk_values = c.requires.chunks_lt_chunk_values; data_lt_valid_values = opened_data _ _ _ c.requires.dump_value; q_lt_page_values = data_few a.g a.dump.now a.pages _ c.in-Data.d c.requires.dump_value
-                (sym c.record_at-r.ensures ∙ c.in-Data.is) }
+    let a = c.args in record {
+      n_in_bounds = omega (arith, q.invariant.1.long, c.requires.n_in_bounds);
+      i_lt_page_values = omega (arith, q.invariant.1.few, count_on _ _ _ (from_on a.list.now q.i c.loop-i-test.true), c.requires.list_len_bound);
+      chunks_lt_chunk_values = c.requires.chunks_lt_chunk_values;
+      data_lt_valid_values = opened_data _ _ _ c.requires.dump_value;
+      q_lt_page_values = data_few a.g a.dump.now a.pages _ c.in-Data.d c.requires.dump_value
+          (sym c.record_at-r.ensures ∙ c.in-Data.is);
+    }
 
 -- data is met, or not
 pub loop-i-preserved : goal.loop-i-preserved

@@ -1,6 +1,5 @@
 -- A refused dump is refused before anything else, and nothing is written.
 use mathlib.Core.Path.{refl, sym, ◌∙◌}
-use borrow.Author.Rules.{rules}
 use Rattle.index.proofs.Walk.Ahead.{size_refused}
 use Rattle.file.specs.Copies.{copied_from, copied_by, rows_from, rows_by}
 use Rattle.file.proofs.copies.copies.Goals as goal

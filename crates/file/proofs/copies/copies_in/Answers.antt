@@ -1,11 +1,9 @@
 -- The size lookup refuses, or gives the size that the chunks are counted by. A first walk counts the copies that are met and puts none; there is room
 -- for them, or not.
-use Prim.Native.Nat.{ℕ, ◌<◌}
-use mathlib.Core.List.{List}
+use Prim.Native.Nat.{◌<◌}
 use mathlib.Core.Path.{◌≡◌, refl, sym, ap, ◌∙◌}
 use native.Mathlib.Omega.{arith}
 use lib.ListN.{length}
-use borrow.Author.Rules.{rules}
 use Rattle.page.specs.Numbers.{page_values}
 use Rattle.page.proofs.Lengths.{opened_pages}
 use Rattle.chunk.specs.declared.answer.Sized.TheVariants as sized
@@ -30,8 +28,11 @@ same w = w.walk-w.ensures.rows_after ∙ put_zero _ _ _
 pub returns-then-rows-room : goal.returns-then-rows-room
 unfolding rows_from rows_by
 returns-then-rows-room c =
-    let c = c in record { value = copies_short _ _ _ _ _ _ _ c.requires (given-size (goal.at.returns-then-rows-room c).In-Size) _ _ _ c.first_link-first.ensures c.chunks_in-chunks.ensures.value c.walk-w.ensures.copies_value c.args.rows.now
-          _ c.room_for-room.ensures (omega (arith, c.if-rows-room.true, ap length (same (goal.at.returns-then-rows-room c).After-walk-w))); rows_after = same (goal.at.returns-then-rows-room c).After-walk-w }
+    let c = c in record {
+      value = copies_short _ _ _ _ _ _ _ c.requires (given-size (goal.at.returns-then-rows-room c).In-Size) _ _ _ c.first_link-first.ensures c.chunks_in-chunks.ensures.value c.walk-w.ensures.copies_value c.args.rows.now
+          _ c.room_for-room.ensures (omega (arith, c.if-rows-room.true, ap length (same (goal.at.returns-then-rows-room c).After-walk-w)));
+      rows_after = same (goal.at.returns-then-rows-room c).After-walk-w;
+    }
 
 -- they are no more than the pages
 few : (w : After-walk-w) → w.walk-w.result.copies < page_values
@@ -47,9 +48,12 @@ returns-in-Refused c = record { value = rw (← c.size-s.ensures, c.in-Refused.i
 
 pub returns-else-rows-room : goal.returns-else-rows-room
 returns-else-rows-room c =
-    let c = c in record { value = copies_rows _ _ _ _ _ _ _ c.requires (given-size (goal.at.returns-else-rows-room c).In-Size) _ _ _ c.first_link-first.ensures c.chunks_in-chunks.ensures.value c.walk-w.ensures.copies_value c.args.rows.now
-          (omega (arith, c.if-rows-room.false, c.room_for-room.ensures, ap length (same (goal.at.returns-else-rows-room c).After-walk-w))) _ _ _ c.fill-m.ensures.value c.walk-w.ensures.broken_value c.is_damaged.ensures; rows_after = copies_filled _ _ _ _ _ _ _ c.requires (given-size (goal.at.returns-else-rows-room c).In-Size) _ _ _ c.first_link-first.ensures c.chunks_in-chunks.ensures.value c.walk-w.ensures.copies_value c.args.rows.now
-          _ _ _ _ (same (goal.at.returns-else-rows-room c).After-walk-w) c.fill-m.ensures.rows_after }
+    let c = c in record {
+      value = copies_rows _ _ _ _ _ _ _ c.requires (given-size (goal.at.returns-else-rows-room c).In-Size) _ _ _ c.first_link-first.ensures c.chunks_in-chunks.ensures.value c.walk-w.ensures.copies_value c.args.rows.now
+          (omega (arith, c.if-rows-room.false, c.room_for-room.ensures, ap length (same (goal.at.returns-else-rows-room c).After-walk-w))) _ _ _ c.fill-m.ensures.value c.walk-w.ensures.broken_value c.is_damaged.ensures;
+      rows_after = copies_filled _ _ _ _ _ _ _ c.requires (given-size (goal.at.returns-else-rows-room c).In-Size) _ _ _ c.first_link-first.ensures c.chunks_in-chunks.ensures.value c.walk-w.ensures.copies_value c.args.rows.now
+          _ _ _ _ (same (goal.at.returns-else-rows-room c).After-walk-w) c.fill-m.ensures.rows_after;
+    }
 
 pub chunks_in-chunks-requires : goal.chunks_in-chunks-requires
 chunks_in-chunks-requires c = data_some _ _ _ c.requires

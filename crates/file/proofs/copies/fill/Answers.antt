@@ -5,7 +5,6 @@ use mathlib.Core.List.{List, ◌++◌}
 use mathlib.Core.Path.{◌≡◌, sym, ap, ◌∙◌}
 use native.Mathlib.Omega.{arith}
 use lib.ListN.{length, take, drop}
-use borrow.Author.Rules.{rules}
 use Rattle.page.specs.Records.{record_at}
 use Rattle.chunk.specs.declared.cut.Cut.TheVariants.{Nowhere}
 use Rattle.index.specs.Chains.{top}
@@ -13,7 +12,6 @@ use Rattle.index.specs.Walks.{under}
 use Rattle.sort.specs.Arranged.{arranged}
 use Rattle.sort.specs.Packed.{word_values}
 use Rattle.file.specs.Copies.{met}
-use Rattle.file.specs.declared.copy.Copy.{Copy}
 use Rattle.file.proofs.Arranged.{sorted_with, sorted_length, sorted_below, sorted_filled}
 use Rattle.file.proofs.Shown.{met_shown, met_some}
 use Rattle.file.proofs.copies.fill.Goals as goal

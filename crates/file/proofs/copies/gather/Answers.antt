@@ -1,9 +1,7 @@
-use Prim.Native.Nat.{◌-◌}
 use mathlib.Core.Path.{refl, ◌∙◌}
 use native.Mathlib.Omega.{arith}
-use borrow.Author.Rules.{rules}
 use Rattle.sort.proofs.Clearing.{clear_inside}
-use Rattle.file.proofs.Gathering.{Gathered, gather_none, key_below, gather_more, gather_end}
+use Rattle.file.proofs.Gathering.{gather_none, key_below, gather_more, gather_end}
 use Rattle.file.proofs.copies.gather.Goals as goal
 
 pub take_first-m-requires : goal.take_first-m-requires

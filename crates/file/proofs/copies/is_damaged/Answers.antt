@@ -1,5 +1,4 @@
 -- The test is that of the definition.
-use borrow.Author.Tests.{not-true, not-false}
 use Rattle.file.proofs.copies.is_damaged.Goals as goal
 
 pub returns-then-not-broken : goal.returns-then-not-broken

@@ -1,7 +1,6 @@
 -- The test is that of the definition.
 use native.Mathlib.Omega.{arith}
 use lib.ListN.{length-set}
-use borrow.Author.Rules.{rules}
 use borrow.Author.Tests.{lt-ltb, le-ltb}
 use Rattle.file.proofs.copies.put.Goals as goal
 

@@ -1,15 +1,13 @@
 use mathlib.Core.Path.{refl, sym, ap, ◌∙◌}
 use native.Mathlib.Omega.{arith}
-use borrow.Author.Rules.{rules}
 use Rattle.page.specs.Records.{record_at}
 use Rattle.chunk.specs.Records.{age_of}
 use Rattle.index.specs.Cells.{word}
 use Rattle.index.specs.Chains.{top, objects}
-use Rattle.index.specs.Walks.{under}
 use Rattle.index.specs.declared.chains.Step.TheVariants.{End, Damaged, Record}
 use Rattle.index.proofs.Chain.Links.{Meets, stepped, role_data, role_header}
 use Rattle.index.proofs.Chain.Turns.{count_on, few}
-use Rattle.file.proofs.Meeting.{Underway, under_start, under_header, under_data, under_clean, under_broken}
+use Rattle.file.proofs.Meeting.{under_start, under_header, under_data, under_clean, under_broken}
 use Rattle.file.proofs.copies.walk.Goals as goal
 use Rattle.file.proofs.copies.walk.Goals.{In-Record}
 

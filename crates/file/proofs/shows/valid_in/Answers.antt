@@ -1,5 +1,4 @@
 -- Each part is a call's.
-use borrow.Author.Rules.{rules}
 use Rattle.file.proofs.shows.valid_in.Goals as goal
 
 pub returns : goal.returns

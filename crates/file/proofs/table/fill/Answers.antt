@@ -1,19 +1,15 @@
-use Prim.Native.Nat.{ℕ, ◌≤◌, ◌<◌, min}
-use mathlib.Core.List.{List, ◌++◌}
+use Prim.Native.Nat.{◌≤◌, min}
+use mathlib.Core.List.{◌++◌}
 use mathlib.Core.Path.{◌≡◌, refl, sym, ap, ◌∙◌}
 use native.Mathlib.Omega.{arith}
 use lib.ListN.{length, drop, replicate}
-use borrow.Author.Rules.{rules}
 use Rattle.page.specs.Records.{record_at}
-use Rattle.chunk.specs.Lookups.{shown_of}
 use Rattle.index.specs.Cells.{word}
-use Rattle.index.specs.Walks.{under}
-use Rattle.index.specs.Ahead.{ahead}
 use Rattle.index.specs.declared.chains.Step.TheVariants.{End, Damaged, Record}
 use Rattle.index.proofs.Chain.Links.{Meets, stepped, role_data, role_header}
 use Rattle.index.proofs.Walk.Ahead.{ahead_end, ahead_broken}
-use Rattle.file.specs.Table.{words_of, all_ahead}
-use Rattle.file.proofs.Rows.{Row, free, noted_length, noted_rest, header_row, noted_row, row_end_lem, row_broken, clear_length, clear_rest, cleared, table_is}
+use Rattle.file.specs.Table.{words_of}
+use Rattle.file.proofs.Rows.{free, noted_length, noted_rest, header_row, noted_row, row_end_lem, row_broken, clear_length, clear_rest, cleared, table_is}
 use Rattle.file.proofs.table.fill.Goals as goal
 use Rattle.file.proofs.table.fill.Goals.{After-clear, At-loop-table, In-Record}
 

@@ -1,21 +1,14 @@
 -- The loop's invariant: each row is free, and then its answer lies ahead, or it is done; all behind the rows is as it came. Each turn goes on to
 -- an older record, so that the bound falls.
-use Prim.Native.Nat.{ℕ, ◌≤◌, ◌<◌, min}
-use mathlib.Core.List.{List, ◌++◌}
-use mathlib.Core.Path.{◌≡◌, refl, sym, ap, ◌∙◌}
-use native.Mathlib.Omega.{arith}
-use lib.ListN.{length, drop, replicate}
-use borrow.Author.Rules.{rules}
+use Prim.Native.Nat.{ℕ, ◌≤◌, ◌<◌}
+use mathlib.Core.Path.{◌≡◌}
+use lib.ListN.{length, drop}
 use Rattle.page.specs.Records.{record_at}
 use Rattle.chunk.specs.Lookups.{shown_of}
-use Rattle.index.specs.Cells.{word}
 use Rattle.index.specs.Walks.{under}
 use Rattle.index.specs.Ahead.{ahead}
-use Rattle.index.specs.declared.chains.Step.TheVariants.{End, Damaged, Record}
-use Rattle.index.proofs.Chain.Links.{Meets, stepped, role_data, role_header}
-use Rattle.index.proofs.Walk.Ahead.{ahead_end, ahead_broken}
 use Rattle.file.specs.Table.{words_of, all_ahead}
-use Rattle.file.proofs.Rows.{Row, free, noted_length, noted_rest, header_row, noted_row, row_end_lem, row_broken, clear_length, clear_rest, cleared, table_is}
+use Rattle.file.proofs.Rows.{Row}
 use Rattle.file.proofs.table.fill.Given as goal
 
 abbrev pub invariant-loop-table : goal.invariant-loop-table

@@ -1,9 +1,7 @@
-use Prim.Native.Nat.{◌+◌, ◌-◌, ◌≤◌, ◌<◌}
+use Prim.Native.Nat.{◌+◌, ◌<◌}
 use mathlib.Core.Path.{◌≡◌}
 use native.Mathlib.Omega.{arith}
 use lib.ListN.{length}
-use borrow.Author.Rules.{rules}
-use Rattle.file.specs.Table.{Closed}
 use Rattle.file.proofs.Rows.{closed_none, closed_more}
 use Rattle.file.proofs.table.mark_damaged.Goals as goal
 use Rattle.file.proofs.table.mark_damaged.Goals.{After-words_of-i}

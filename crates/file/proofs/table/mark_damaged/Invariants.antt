@@ -1,11 +1,6 @@
 -- The loop's invariant: the rows passed are closed, and all else is as it was.
-use Prim.Native.Nat.{◌+◌, ◌-◌, ◌≤◌, ◌<◌}
-use mathlib.Core.Path.{◌≡◌}
-use native.Mathlib.Omega.{arith}
-use lib.ListN.{length}
-use borrow.Author.Rules.{rules}
+use Prim.Native.Nat.{◌-◌, ◌≤◌}
 use Rattle.file.specs.Table.{Closed}
-use Rattle.file.proofs.Rows.{closed_none, closed_more}
 use Rattle.file.proofs.table.mark_damaged.Given as goal
 
 abbrev pub invariant-loop-r : goal.invariant-loop-r

@@ -1,7 +1,6 @@
 -- The size lookup refuses, or gives the size that the rows are counted by; they fit, or not.
 use mathlib.Core.Path.{◌≡◌, refl, sym, ◌∙◌}
 use native.Mathlib.Omega.{arith}
-use borrow.Author.Rules.{rules}
 use Rattle.page.proofs.Lengths.{opened_most}
 use Rattle.chunk.specs.declared.answer.Sized.TheVariants as sized
 use Rattle.index.specs.Walks.{size_from}
@@ -17,8 +16,11 @@ given-size g = sym g.size-s.ensures ∙ g.in-Size.is
 pub returns-then-table-words : goal.returns-then-table-words
 unfolding filled_by
 returns-then-table-words c =
-    record { value = rw (c.words_of-words.ensures, c.chunks_in-count.ensures.value)
-          (sym (table_short _ _ _ _ _ _ _ c.requires (given-size (goal.at.returns-then-table-words c).In-Size) c.args.table.now (rw (c.words_of-words.ensures, c.chunks_in-count.ensures.value) at c.if-table-words.true))); table_after = refl }
+    record {
+      value = rw (c.words_of-words.ensures, c.chunks_in-count.ensures.value)
+          (sym (table_short _ _ _ _ _ _ _ c.requires (given-size (goal.at.returns-then-table-words c).In-Size) c.args.table.now (rw (c.words_of-words.ensures, c.chunks_in-count.ensures.value) at c.if-table-words.true)));
+      table_after = refl;
+    }
 
 pub fill-requires : goal.fill-requires
 fill-requires c = let c = c in record { pages_bound = omega (arith, opened_most _ _ _ c.requires); pages_in_bounds = (is_sized _ _ _ _ _ _ _ c.requires (given-size (goal.at.fill-requires c).In-Size)).room; count_in_bounds = omega (arith, c.words_of-words.ensures, c.if-table-words.false) }
@@ -29,8 +31,11 @@ returns-in-Refused c = record { value = rw (← c.size-s.ensures, c.in-Refused.i
 
 pub returns-else-table-words : goal.returns-else-table-words
 returns-else-table-words c =
-    let c = c in record { value = rw c.chunks_in-count.ensures.value
-          (sym (table_rows _ _ _ _ _ _ _ c.requires (given-size (goal.at.returns-else-table-words c).In-Size) c.args.table.now (rw (c.words_of-words.ensures, c.chunks_in-count.ensures.value) at c.if-table-words.false))); table_after = rw (c.fill.ensures, c.first_link-first.ensures, c.chunks_in-count.ensures.value) (sym (table_filled _ _ _ _ _ _ _ c.requires (given-size (goal.at.returns-else-table-words c).In-Size) c.args.table.now)) }
+    let c = c in record {
+      value = rw c.chunks_in-count.ensures.value
+          (sym (table_rows _ _ _ _ _ _ _ c.requires (given-size (goal.at.returns-else-table-words c).In-Size) c.args.table.now (rw (c.words_of-words.ensures, c.chunks_in-count.ensures.value) at c.if-table-words.false)));
+      table_after = rw (c.fill.ensures, c.first_link-first.ensures, c.chunks_in-count.ensures.value) (sym (table_filled _ _ _ _ _ _ _ c.requires (given-size (goal.at.returns-else-table-words c).In-Size) c.args.table.now));
+    }
 
 pub chunks_in-count-requires : goal.chunks_in-count-requires
 chunks_in-count-requires c = data_some _ _ _ c.requires

@@ -2,7 +2,6 @@
 use mathlib.Core.Path.{refl, sym, ◌∙◌}
 use native.Mathlib.Omega.{arith}
 use lib.ListN.{length}
-use borrow.Author.Rules.{rules}
 use Rattle.page.proofs.Lengths.{opened_most}
 use Rattle.index.specs.Additions.{add_of, add_in}
 use Rattle.index.proofs.additions.add.Goals as goal

@@ -1,6 +1,5 @@
 -- The test and the two stores are those of the definition.
 use mathlib.Core.Path.{sym, ◌∙◌}
-use borrow.Author.Rules.{rules}
 use Rattle.index.proofs.Held.Cases.{at_marked, at_new}
 use Rattle.index.proofs.additions.add_at.Goals as goal
 

@@ -1,6 +1,5 @@
 -- The test is that of the definition, and so is the store.
 use mathlib.Core.Path.{sym, ◌∙◌}
-use borrow.Author.Rules.{rules}
 use Rattle.index.proofs.Held.Cases.{other_marked, other_new}
 use Rattle.index.proofs.additions.add_other.Goals as goal
 

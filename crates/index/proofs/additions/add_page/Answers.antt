@@ -1,18 +1,15 @@
 -- The tests come in the definition's order. A header and a data page are records, of the object and the sequence that they name; another page
 -- has no object.
-use Prim.Native.Nat.{ℕ, ◌<◌, ◌≤◌}
+use Prim.Native.Nat.{◌<◌, ◌≤◌}
 use mathlib.Core.Path.{◌≡◌, sym, ap, ◌∙◌}
 use native.Mathlib.Omega.{arith}
 use lib.ListN.{length}
-use borrow.Author.Rules.{rules}
 use Rattle.page.specs.Records.{record_at}
 use Rattle.page.specs.declared.record.Record.TheVariants.{Header, Data}
 use Rattle.page.proofs.Sound.{else_header, else_data}
 use Rattle.page.proofs.Within.{header_within, data_within}
-use Rattle.chunk.specs.Records.{object_of, age_of}
+use Rattle.chunk.specs.Records.{object_of}
 use Rattle.index.specs.Cells.{cells_for}
-use Rattle.index.specs.Chains.{objects}
-use Rattle.index.specs.Places.{Recorded}
 use Rattle.index.proofs.Held.Cases.{add_short, add_far, add_other_lem, add_record_lem}
 use Rattle.index.proofs.Walk.Walks.{other_none}
 use Rattle.index.proofs.additions.add_page.Goals as goal

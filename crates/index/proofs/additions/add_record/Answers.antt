@@ -1,7 +1,6 @@
 -- The object's slot and the page's place in its chain are those of the definition; each arm is a case of it.
 use mathlib.Core.Path.{sym, ◌∙◌}
 use native.Mathlib.Omega.{arith}
-use borrow.Author.Rules.{rules}
 use Rattle.index.specs.declared.places.Place.TheVariants.{At, Refused}
 use Rattle.index.proofs.Held.Cases.{at_refused, record_at_lem}
 use Rattle.index.proofs.additions.add_record.Goals as goal

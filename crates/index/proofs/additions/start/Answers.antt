@@ -1,6 +1,5 @@
 -- Each arm of the match is a case of the definition.
 use mathlib.Core.Path.{refl}
-use borrow.Author.Rules.{rules}
 use Rattle.index.specs.Additions.{start_of, start_in}
 use Rattle.index.proofs.additions.start.Goals as goal
 

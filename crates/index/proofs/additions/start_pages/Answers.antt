@@ -3,7 +3,6 @@ use Prim.Native.Nat.{min}
 use mathlib.Core.Path.{◌≡◌, sym}
 use native.Mathlib.Omega.{arith}
 use lib.ListN.{length}
-use borrow.Author.Rules.{rules}
 use Rattle.index.proofs.Held.Cases.{start_short, start_done}
 use Rattle.index.proofs.additions.start_pages.Goals as goal
 

@@ -1,11 +1,8 @@
 -- The loop's invariant: the words passed are 0, and the others are as they came.
-use Prim.Native.Nat.{◌≤◌, ◌-◌, min}
+use Prim.Native.Nat.{◌≤◌, ◌-◌}
 use mathlib.Core.List.{◌++◌}
-use mathlib.Core.Path.{◌≡◌, refl}
-use native.Mathlib.Omega.{arith}
-use lib.ListN.{length, replicate, drop, length-set}
-use borrow.Author.Fill.{fill_none, fill_more}
-use borrow.Author.Rules.{rules}
+use mathlib.Core.Path.{◌≡◌}
+use lib.ListN.{length, replicate, drop}
 use Rattle.index.proofs.cells.clear.Given as goal
 
 abbrev pub invariant-loop-i : goal.invariant-loop-i

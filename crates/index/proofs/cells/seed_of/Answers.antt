@@ -1,6 +1,5 @@
 -- A word past the last one reads as 0.
 use mathlib.Core.Path.{sym}
-use borrow.Author.Rules.{rules}
 use lib.ListN.{get_or-eq_default}
 use Rattle.index.proofs.cells.seed_of.Goals as goal
 

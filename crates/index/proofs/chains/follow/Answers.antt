@@ -1,7 +1,6 @@
 -- The tests come in the definition's order. A page that is neither a header nor data is no record; the others have an object.
 use Prim.Native.Nat.{◌-◌, ◌<◌}
 use mathlib.Core.Path.{sym, ◌∙◌}
-use borrow.Author.Rules.{rules}
 use Rattle.page.specs.Records.{record_at}
 use Rattle.page.proofs.Sound.{else_header, else_data}
 use Rattle.page.proofs.Within.{header_within, data_within}

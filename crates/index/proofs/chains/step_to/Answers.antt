@@ -1,5 +1,4 @@
 -- The tests come in the definition's order.
-use borrow.Author.Rules.{rules}
 use borrow.Author.Tests.{eq-eqb, ne_eqb, lt-ltb, le-ltb}
 use Rattle.index.proofs.chains.step_to.Goals as goal
 

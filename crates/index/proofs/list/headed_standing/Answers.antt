@@ -1,5 +1,4 @@
 -- The tests come in the definition's order.
-use borrow.Author.Rules.{rules}
 use Rattle.index.proofs.list.headed_standing.Goals as goal
 
 pub returns-then-is_any : goal.returns-then-is_any

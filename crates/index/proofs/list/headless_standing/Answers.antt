@@ -1,6 +1,4 @@
 -- The tests come in the definition's order.
-use borrow.Author.Rules.{rules}
-use borrow.Author.Tests.{not-true, not-false}
 use Rattle.index.proofs.list.headless_standing.Goals as goal
 
 pub returns-then-not-is_any : goal.returns-then-not-is_any

@@ -1,6 +1,5 @@
 -- The word at the key's place.
 use native.Mathlib.Omega.{arith}
-use borrow.Author.Rules.{rules}
 use Rattle.index.proofs.Slot.Words.{key_room}
 use Rattle.index.proofs.list.key_of.Goals as goal
 

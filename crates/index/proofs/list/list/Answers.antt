@@ -1,7 +1,6 @@
 -- A refused dump is refused before anything else, and nothing is written.
 use mathlib.Core.Path.{sym, ◌∙◌}
 use native.Mathlib.Omega.{arith}
-use borrow.Author.Rules.{rules}
 use Rattle.page.proofs.Lengths.{opened_most}
 use Rattle.chunk.proofs.Cases.{words_kept}
 use Rattle.index.specs.Listing.{ids_from, list_from}

@@ -1,7 +1,6 @@
 -- A refused dump is refused before anything else.
 use mathlib.Core.Path.{sym, ◌∙◌}
 use native.Mathlib.Omega.{arith}
-use borrow.Author.Rules.{rules}
 use Rattle.page.proofs.Lengths.{opened_most}
 use Rattle.index.specs.Listing.{objects_from}
 use Rattle.index.proofs.list.objects.Goals as goal

@@ -1,7 +1,6 @@
 -- Too few words are refused, and else the tally answers.
 use mathlib.Core.Path.{sym, ◌∙◌}
 use native.Mathlib.Omega.{arith}
-use borrow.Author.Rules.{rules}
 use Rattle.index.proofs.Answer.Listings.{objects_short, objects_tally}
 use Rattle.index.proofs.list.objects_in.Goals as goal
 

@@ -1,6 +1,5 @@
 -- The slot is not where its key is looked for, or the first link there is that of the lookups.
 use native.Mathlib.Omega.{arith}
-use borrow.Author.Rules.{rules}
 use borrow.Author.Tests.{eq-eqb, ne_eqb}
 use Rattle.index.specs.Chains.{chain}
 use Rattle.index.specs.Slots.{first}

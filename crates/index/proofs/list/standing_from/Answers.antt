@@ -1,10 +1,5 @@
-use mathlib.Core.Bool.{false}
-use mathlib.Core.Path.{◌≡◌, refl, sym, ◌∙◌}
-use borrow.Author.Rules.{rules}
+use mathlib.Core.Path.{refl, sym, ◌∙◌}
 use Rattle.page.specs.Records.{record_at}
-use Rattle.index.specs.Chains.{top}
-use Rattle.index.specs.Walks.{under}
-use Rattle.index.specs.Listing.{stands}
 use Rattle.index.specs.declared.chains.Step.TheVariants.{End, Damaged, Record}
 use Rattle.index.proofs.Chain.Links.{Meets, stepped, role_data, role_header}
 use Rattle.index.proofs.Walk.Standing.{stands_end, stands_broken, stands_here, stands_on}

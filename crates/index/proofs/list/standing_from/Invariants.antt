@@ -1,15 +1,11 @@
 -- The loop's invariant: the object stands by the chain from the first link on as it does by the chain from here on. Each turn goes on to an
 -- older record, so that the bound falls.
 use mathlib.Core.Bool.{false}
-use mathlib.Core.Path.{◌≡◌, refl, sym, ◌∙◌}
-use borrow.Author.Rules.{rules}
+use mathlib.Core.Path.{◌≡◌}
 use Rattle.page.specs.Records.{record_at}
 use Rattle.index.specs.Chains.{top}
 use Rattle.index.specs.Walks.{under}
 use Rattle.index.specs.Listing.{stands}
-use Rattle.index.specs.declared.chains.Step.TheVariants.{End, Damaged, Record}
-use Rattle.index.proofs.Chain.Links.{Meets, stepped, role_data, role_header}
-use Rattle.index.proofs.Walk.Standing.{stands_end, stands_broken, stands_here, stands_on}
 use Rattle.index.proofs.list.standing_from.Given as goal
 
 abbrev pub invariant-loop-q : goal.invariant-loop-q

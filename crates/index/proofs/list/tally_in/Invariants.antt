@@ -1,16 +1,10 @@
 -- The loop's invariant: no slot passed is damaged, and the count is that of the slots asked for passed.
-use Prim.Native.Nat.{◌≤◌, ◌<◌, ◌-◌}
-use mathlib.Core.Path.{◌≡◌, sym, ap, ◌∙◌}
-use native.Mathlib.Omega.{arith}
-use borrow.Author.Rules.{rules}
+use Prim.Native.Nat.{◌≤◌, ◌-◌}
+use mathlib.Core.Path.{◌≡◌}
 use Rattle.page.specs.Search.{count}
 use Rattle.page.specs.Records.{record_at}
-use Rattle.page.proofs.Searching.{count_none}
-use Rattle.chunk.proofs.Living.{count_skip, count_take}
-use Rattle.index.specs.Cells.{slots_for, InTable}
-use Rattle.index.specs.Listing.{is_asked, is_damaged, asked_slot, damaged_slot}
-use Rattle.index.proofs.Slot.Words.{slot_in, slots_pages}
-use Rattle.index.proofs.Answer.Listings.{at_free, tally_damaged, tally_whole}
+use Rattle.index.specs.Cells.{slots_for}
+use Rattle.index.specs.Listing.{asked_slot, damaged_slot}
 use Rattle.index.proofs.list.tally_in.Given as goal
 
 abbrev pub invariant-loop-s : goal.invariant-loop-s

@@ -1,11 +1,11 @@
-use Prim.Native.Nat.{◌≤◌, ◌<◌, ◌-◌}
+use Prim.Native.Nat.{◌<◌}
 use mathlib.Core.Bool.{true}
 use mathlib.Core.Path.{◌≡◌, sym, ap, ◌∙◌}
 use native.Mathlib.Omega.{arith}
 use borrow.Author.Rules.{rules}
 use Rattle.page.specs.Records.{record_at}
-use Rattle.chunk.proofs.Sorting.{Listed, listed_none, listed_skip, listed_room, listed_more, listed_sorted}
-use Rattle.index.specs.Cells.{slots_for, InTable, keys}
+use Rattle.chunk.proofs.Sorting.{listed_none, listed_skip, listed_room, listed_more, listed_sorted}
+use Rattle.index.specs.Cells.{slots_for, InTable}
 use Rattle.index.specs.Listing.{is_asked, asked_slot, slot_ids}
 use Rattle.index.specs.declared.list.Ask.TheVariants.{Live}
 use Rattle.index.proofs.Slot.Words.{slot_in, slots_pages}

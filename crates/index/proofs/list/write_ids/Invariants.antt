@@ -1,16 +1,10 @@
 -- The loop's invariant: the ids of the slots asked for passed stand in front of the words, ascending, and the count is how many they are.
-use Prim.Native.Nat.{◌≤◌, ◌<◌, ◌-◌}
-use mathlib.Core.Bool.{true}
-use mathlib.Core.Path.{◌≡◌, sym, ap, ◌∙◌}
-use native.Mathlib.Omega.{arith}
-use borrow.Author.Rules.{rules}
+use Prim.Native.Nat.{◌≤◌, ◌-◌}
 use Rattle.page.specs.Records.{record_at}
-use Rattle.chunk.proofs.Sorting.{Listed, listed_none, listed_skip, listed_room, listed_more, listed_sorted}
-use Rattle.index.specs.Cells.{slots_for, InTable, keys}
-use Rattle.index.specs.Listing.{is_asked, asked_slot, slot_ids}
+use Rattle.chunk.proofs.Sorting.{Listed}
+use Rattle.index.specs.Cells.{slots_for, keys}
+use Rattle.index.specs.Listing.{asked_slot}
 use Rattle.index.specs.declared.list.Ask.TheVariants.{Live}
-use Rattle.index.proofs.Slot.Words.{slot_in, slots_pages}
-use Rattle.index.proofs.Answer.Listings.{at_free, else_asked}
 use Rattle.index.proofs.list.write_ids.Given as goal
 
 abbrev pub invariant-loop-s : goal.invariant-loop-s

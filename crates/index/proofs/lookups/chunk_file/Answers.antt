@@ -1,17 +1,13 @@
 -- The refusals come in the definition's order: the object's, then the end of the file.
-use Prim.Native.Nat.{ℕ}
 use mathlib.Core.Path.{◌≡◌, sym, ◌∙◌}
 use lib.Dec.{leb}
-use borrow.Author.Rules.{rules}
 use borrow.Author.Tests.{le-leb, lt-leb}
 use Rattle.page.specs.Choice.{pick}
 use Rattle.page.specs.Records.{record_at}
-use Rattle.page.specs.declared.record.Record.{Record}
 use Rattle.page.specs.declared.refusal.Refusal.TheVariants.{PastEnd}
 use Rattle.chunk.specs.Records.{base_of}
 use Rattle.chunk.specs.declared.answer.Looked.TheVariants.{Refused}
 use Rattle.chunk.specs.Lookups.{shown_of}
-use Rattle.index.specs.Chains.{Trace}
 use Rattle.index.specs.Walks.{size_at, copy_from, chunk_file, chunk_reached, below}
 use Rattle.index.specs.declared.walks.Reached.TheVariants.{Header}
 use Rattle.index.proofs.Chain.Turns.{chunk_live}

@@ -1,7 +1,6 @@
 -- The walk lands on a page of the dump, and the chain below that page is what is left; the records above it and those are the whole chain.
 use mathlib.Core.Path.{sym, ◌∙◌}
 use native.Mathlib.Omega.{arith}
-use borrow.Author.Rules.{rules}
 use Rattle.page.specs.Records.{record_at}
 use Rattle.chunk.specs.Records.{age_of}
 use Rattle.index.specs.Chains.{objects, top}

@@ -1,5 +1,4 @@
 -- A copy above the newest header is cut by nothing; else the walk goes on below it.
-use borrow.Author.Rules.{rules}
 use Rattle.index.specs.Walks.{copy_from}
 use Rattle.index.proofs.lookups.copy_from.Goals as goal
 

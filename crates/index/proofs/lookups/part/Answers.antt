@@ -1,5 +1,4 @@
 -- The part of what the chunk lookup answers.
-use borrow.Author.Rules.{rules}
 use Rattle.index.proofs.lookups.part.Goals as goal
 
 pub returns : goal.returns

@@ -1,5 +1,4 @@
 -- A read of what the chunk lookup answers.
-use borrow.Author.Rules.{rules}
 use Rattle.index.proofs.lookups.read.Goals as goal
 
 pub returns : goal.returns

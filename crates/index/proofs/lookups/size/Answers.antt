@@ -1,6 +1,5 @@
 -- A refused dump is refused before anything else; another has a page.
 use mathlib.Core.Path.{sym, ◌∙◌}
-use borrow.Author.Rules.{rules}
 use Rattle.page.proofs.Lengths.{opened_some}
 use Rattle.index.specs.Walks.{size_from}
 use Rattle.index.proofs.lookups.size.Goals as goal

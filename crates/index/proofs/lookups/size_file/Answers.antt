@@ -1,5 +1,4 @@
 -- Each way through the match is a case of the definition.
-use borrow.Author.Rules.{rules}
 use Rattle.index.proofs.lookups.size_file.Goals as goal
 
 pub returns-in-Refused : goal.returns-in-Refused

@@ -1,7 +1,6 @@
 -- The refusals come in the definition's order; behind them the words are enough for the walk.
 use mathlib.Core.Path.{◌∙◌}
 use native.Mathlib.Omega.{arith}
-use borrow.Author.Rules.{rules}
 use borrow.Author.Tests.{lt-ltb, le-ltb}
 use Rattle.index.specs.Chains.{chain}
 use Rattle.index.specs.Walks.{size_in}

@@ -1,16 +1,13 @@
-use Prim.Native.Nat.{◌+◌, ◌≤◌}
 use mathlib.Core.Path.{◌≡◌, refl, sym, ap, ◌∙◌}
 use native.Mathlib.Omega.{arith}
-use borrow.Author.Rules.{rules}
 use borrow.Author.Tests.{ne_eqb}
 use Rattle.page.specs.Records.{record_at}
 use Rattle.page.proofs.Within.{data_within}
 use Rattle.chunk.specs.Records.{age_of}
 use Rattle.index.specs.Cells.{word}
 use Rattle.index.specs.Chains.{objects, top}
-use Rattle.index.specs.Walks.{records_in, size_reached, reach, size_walk, under}
+use Rattle.index.specs.Walks.{size_reached, size_walk}
 use Rattle.index.specs.declared.chains.Step.TheVariants.{End, Damaged, Record}
-use Rattle.index.specs.declared.walks.Met.TheVariants.{Nothing}
 use Rattle.index.proofs.Chain.Links.{Meets, stepped, role_data, role_header}
 use Rattle.index.proofs.Chain.Turns.{reach_nothing, reach_headless, reach_broken, reach_here, reach_on, count_on, few}
 use Rattle.index.proofs.lookups.size_walk.Goals as goal

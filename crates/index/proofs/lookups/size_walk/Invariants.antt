@@ -1,20 +1,11 @@
 -- The loop's invariant: the size by the chain from the first link on is the size by what the chain from here on reaches, and the records visited
 -- and those still ahead are no more than the pages. Each turn goes on to an older record, so that the bound falls.
 use Prim.Native.Nat.{◌+◌, ◌≤◌}
-use mathlib.Core.Path.{◌≡◌, refl, sym, ap, ◌∙◌}
-use native.Mathlib.Omega.{arith}
-use borrow.Author.Rules.{rules}
-use borrow.Author.Tests.{ne_eqb}
+use mathlib.Core.Path.{◌≡◌}
 use Rattle.page.specs.Records.{record_at}
-use Rattle.page.proofs.Within.{data_within}
-use Rattle.chunk.specs.Records.{age_of}
-use Rattle.index.specs.Cells.{word}
-use Rattle.index.specs.Chains.{objects, top}
+use Rattle.index.specs.Chains.{top}
 use Rattle.index.specs.Walks.{records_in, size_reached, reach, size_walk, under}
-use Rattle.index.specs.declared.chains.Step.TheVariants.{End, Damaged, Record}
 use Rattle.index.specs.declared.walks.Met.TheVariants.{Nothing}
-use Rattle.index.proofs.Chain.Links.{Meets, stepped, role_data, role_header}
-use Rattle.index.proofs.Chain.Turns.{reach_nothing, reach_headless, reach_broken, reach_here, reach_on, count_on, few}
 use Rattle.index.proofs.lookups.size_walk.Given as goal
 
 abbrev pub invariant-loop-q : goal.invariant-loop-q

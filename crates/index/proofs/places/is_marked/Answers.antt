@@ -1,6 +1,5 @@
 -- The word is that of the page's link.
 use mathlib.Core.Path.{refl}
-use borrow.Author.Rules.{rules}
 use Rattle.index.proofs.places.is_marked.Goals as goal
 
 pub returns : goal.returns

@@ -1,19 +1,13 @@
 -- The loop's invariant: the place in the chain from the first link on is the place in the chain from here on. Each turn goes on to an older
 -- record, so that the bound falls.
 use Prim.Native.Nat.{◌<◌}
-use mathlib.Core.List.{[]}
-use mathlib.Core.Path.{◌≡◌, refl, sym, ◌∙◌}
-use native.Mathlib.Omega.{arith}
+use mathlib.Core.Path.{◌≡◌}
 use lib.ListN.{length}
-use borrow.Author.Rules.{rules}
 use Rattle.page.specs.Records.{record_at}
 use Rattle.index.specs.Cells.{word}
 use Rattle.index.specs.Chains.{objects, trace}
 use Rattle.index.specs.Places.{place_of, place_from}
-use Rattle.index.specs.declared.chains.Step.TheVariants.{End, Damaged, Record}
 use Rattle.chunk.specs.Records.{age_of}
-use Rattle.index.proofs.Chain.Links.{stepped}
-use Rattle.index.proofs.Chain.Place.{place_end, place_broken, place_itself, place_here, place_on}
 use Rattle.index.proofs.places.place_from.Given as goal
 
 abbrev pub invariant-loop-q : goal.invariant-loop-q

@@ -3,7 +3,6 @@ use Prim.Native.Nat.{◌<◌}
 use mathlib.Core.Path.{sym}
 use lib.ListN.{length}
 use native.Mathlib.Omega.{arith}
-use borrow.Author.Rules.{rules}
 use Rattle.index.proofs.Chain.Links.{trace_end}
 use Rattle.index.proofs.Slot.Words.{key_room}
 use Rattle.index.proofs.Slot.Search.{first_in_own, first_in_none}

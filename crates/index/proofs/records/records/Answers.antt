@@ -1,6 +1,5 @@
 -- A refused dump is refused before anything else, and nothing is written.
 use mathlib.Core.Path.{sym, ◌∙◌}
-use borrow.Author.Rules.{rules}
 use Rattle.page.proofs.Lengths.{opened_some}
 use Rattle.chunk.proofs.Cases.{words_kept}
 use Rattle.index.specs.Recorded.{pages_from, records_from}

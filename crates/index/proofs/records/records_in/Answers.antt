@@ -1,12 +1,9 @@
 -- Each return is a case of the definition; where the object's chain was gone along, the tally is the chain's.
 use Prim.Native.Nat.{ℕ, ◌≤◌}
-use mathlib.Core.List.{List}
 use mathlib.Core.Path.{◌≡◌, sym, ap, ◌∙◌}
 use native.Mathlib.Omega.{arith}
 use lib.ListN.{length}
-use borrow.Author.Rules.{rules}
 use Rattle.page.specs.Records.{record_at}
-use Rattle.page.specs.declared.record.Record.{Record}
 use Rattle.chunk.specs.Lists.{in_front}
 use Rattle.chunk.specs.Records.{age_of}
 use Rattle.chunk.specs.declared.answer.Tallied.{Tallied}

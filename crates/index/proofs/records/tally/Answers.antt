@@ -1,16 +1,12 @@
-use Prim.Native.Nat.{◌+◌, ◌≤◌}
-use mathlib.Core.Path.{◌≡◌, refl, sym, ◌∙◌}
+use mathlib.Core.Path.{refl, sym, ◌∙◌}
 use native.Mathlib.Omega.{arith}
-use borrow.Author.Rules.{rules}
 use Rattle.page.specs.Records.{record_at}
 use Rattle.chunk.specs.Records.{age_of}
 use Rattle.index.specs.Chains.{objects, top}
-use Rattle.index.specs.Walks.{records_in, under}
-use Rattle.index.specs.Recorded.{tally_of}
 use Rattle.index.specs.declared.chains.Step.TheVariants.{End, Damaged, Record}
 use Rattle.index.proofs.Chain.Links.{Meets, stepped}
 use Rattle.index.proofs.Chain.Turns.{count_on, few}
-use Rattle.index.proofs.Walk.Recorded.{tally_from, tally_all, tally_end, tally_broken, tally_on}
+use Rattle.index.proofs.Walk.Recorded.{tally_all, tally_end, tally_broken, tally_on}
 use Rattle.index.proofs.records.tally.Goals as goal
 use Rattle.index.proofs.records.tally.Goals.{In-Record}
 

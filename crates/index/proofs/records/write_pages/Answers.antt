@@ -2,14 +2,13 @@ use Prim.Native.Nat.{ℕ, ◌<◌}
 use mathlib.Core.List.{List}
 use mathlib.Core.Path.{◌≡◌, refl, sym, ap, ◌∙◌}
 use native.Mathlib.Omega.{arith}
-use lib.ListN.{length, set, take, drop, length-set}
-use borrow.Author.Rules.{rules}
+use lib.ListN.{length, set, take, length-set}
 use Rattle.page.specs.Records.{record_at}
 use Rattle.chunk.specs.Records.{age_of}
 use Rattle.chunk.specs.Lists.{in_front}
 use Rattle.chunk.proofs.Sorting.{put_front}
 use Rattle.index.specs.Cells.{word, link_at}
-use Rattle.index.specs.Chains.{objects, Trace, top}
+use Rattle.index.specs.Chains.{objects, top}
 use Rattle.index.specs.Walks.{under}
 use Rattle.index.specs.Recorded.{pages_of}
 use Rattle.index.specs.declared.chains.Step.TheVariants.{End, Damaged, Record}

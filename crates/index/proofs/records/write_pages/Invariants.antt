@@ -1,22 +1,11 @@
 -- The loop's invariant: of the chain's pages so many stand in front of the words, and the rest are those of the chain from here on.
-use Prim.Native.Nat.{ℕ, ◌<◌}
-use mathlib.Core.List.{List}
-use mathlib.Core.Path.{◌≡◌, refl, sym, ap, ◌∙◌}
-use native.Mathlib.Omega.{arith}
-use lib.ListN.{length, set, take, drop, length-set}
-use borrow.Author.Rules.{rules}
+use mathlib.Core.Path.{◌≡◌}
+use lib.ListN.{length, take, drop}
 use Rattle.page.specs.Records.{record_at}
-use Rattle.chunk.specs.Records.{age_of}
 use Rattle.chunk.specs.Lists.{in_front}
-use Rattle.chunk.proofs.Sorting.{put_front}
-use Rattle.index.specs.Cells.{word, link_at}
-use Rattle.index.specs.Chains.{objects, Trace, top}
+use Rattle.index.specs.Chains.{top}
 use Rattle.index.specs.Walks.{under}
 use Rattle.index.specs.Recorded.{pages_of}
-use Rattle.index.specs.declared.chains.Step.TheVariants.{End, Damaged, Record}
-use Rattle.index.proofs.Chain.Links.{Meets, stepped}
-use Rattle.index.proofs.Chain.Turns.{few}
-use Rattle.index.proofs.Walk.Recorded.{pages_length, pages_end, pages_broken, pages_on, Next, next_of, all_taken}
 use Rattle.index.proofs.records.write_pages.Given as goal
 
 abbrev pub invariant-loop-q : goal.invariant-loop-q

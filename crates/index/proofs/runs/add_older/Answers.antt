@@ -3,7 +3,6 @@ use Prim.Native.Nat.{ℕ, ◌-◌}
 use mathlib.Core.Path.{◌≡◌, sym, ap, ◌∙◌}
 use native.Mathlib.Omega.{arith}
 use lib.ListN.{length}
-use borrow.Author.Rules.{rules}
 use Rattle.page.specs.Lengths.{opened_of}
 use Rattle.page.specs.Records.{record_at}
 use Rattle.page.specs.declared.geometry.Opened.TheVariants as opened

@@ -2,7 +2,6 @@
 use mathlib.Core.Path.{refl, sym, ◌∙◌}
 use native.Mathlib.Omega.{arith}
 use lib.ListN.{length}
-use borrow.Author.Rules.{rules}
 use Rattle.page.proofs.Lengths.{opened_most}
 use Rattle.index.specs.Runs.{taken_of, run_in}
 use Rattle.index.proofs.Demand.Runs.{run_short, run_room}

@@ -1,7 +1,6 @@
 -- The sequence is that of the record.
 use Prim.Native.Nat.{ℕ}
 use mathlib.Core.Path.{ap, ◌∙◌}
-use borrow.Author.Rules.{rules}
 use Rattle.chunk.specs.Records.{sequence_of, order_of}
 use Rattle.index.proofs.runs.age_at.Goals as goal
 

@@ -1,6 +1,5 @@
 -- Each arm of the match is a case of the definition.
 use mathlib.Core.Path.{refl}
-use borrow.Author.Rules.{rules}
 use Rattle.index.proofs.runs.is_taken.Goals as goal
 
 pub returns-in-Every : goal.returns-in-Every

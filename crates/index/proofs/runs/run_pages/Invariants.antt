@@ -1,16 +1,11 @@
 -- The loop's invariant: the whole run ends as the rest of it does from here on.
 use Prim.Native.Nat.{◌-◌}
-use mathlib.Core.Bool.{true}
-use mathlib.Core.Path.{◌≡◌, refl, sym, ◌∙◌}
-use native.Mathlib.Omega.{arith}
+use mathlib.Core.Path.{◌≡◌}
 use lib.ListN.{length}
-use borrow.Author.Rules.{rules}
-use borrow.Author.Tests.{not-true, not-false}
 use Rattle.page.specs.Records.{record_at}
 use Rattle.chunk.specs.Records.{age_of}
 use Rattle.index.specs.Chains.{objects}
 use Rattle.index.specs.Runs.{taken_by, run_by}
-use Rattle.index.proofs.Demand.Runs.{run_none, run_skip, run_more, run_stop}
 use Rattle.index.proofs.runs.run_pages.Given as goal
 
 abbrev pub invariant-loop-p : goal.invariant-loop-p

@@ -1,6 +1,5 @@
 -- Enough words for some pages; then the slot of the object, and the first link there.
 use native.Mathlib.Omega.{arith}
-use borrow.Author.Rules.{rules}
 use borrow.Author.Tests.{eq-eqb, ne_eqb, lt-ltb, le-ltb}
 use Rattle.index.specs.Slots.{first, first_link}
 use Rattle.index.proofs.slots.first_link.Goals as goal

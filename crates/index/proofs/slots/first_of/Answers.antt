@@ -1,7 +1,6 @@
 -- The test is that of the definition.
 use mathlib.Core.Path.{refl}
 use native.Mathlib.Omega.{arith}
-use borrow.Author.Rules.{rules}
 use borrow.Author.Tests.{eq-eqb, ne_eqb}
 use Rattle.index.specs.Slots.{first_in}
 use Rattle.index.proofs.Slot.Words.{key_room}

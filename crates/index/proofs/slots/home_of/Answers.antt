@@ -1,6 +1,5 @@
 -- The remainder of the mixed id.
 use mathlib.Core.Path.{refl}
-use borrow.Author.Rules.{rules}
 use Rattle.index.proofs.slots.home_of.Goals as goal
 
 pub returns : goal.returns

@@ -1,9 +1,8 @@
 -- A product of two words, and a square of one, is below 2^64.
-use Prim.Native.Nat.{ℕ, ◌*◌, ◌/◌, ◌%◌, ◌≤◌}
+use Prim.Native.Nat.{◌*◌, ◌/◌, ◌%◌, ◌≤◌}
 use mathlib.Core.Path.{refl}
 use native.Mathlib.Nat.{mod-lt}
 use native.Mathlib.Omega.{arith}
-use borrow.Author.Rules.{rules}
 use Rattle.page.proofs.Layouts.{product_le}
 use Rattle.sort.specs.Packed.{word_values}
 use Rattle.index.specs.Slots.{below_product, mixed}

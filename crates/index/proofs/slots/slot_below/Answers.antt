@@ -1,9 +1,7 @@
-use Prim.Native.Nat.{◌-◌, ◌≤◌}
-use mathlib.Core.Path.{◌≡◌, refl, sym, ◌∙◌}
+use Prim.Native.Nat.{◌-◌}
+use mathlib.Core.Path.{refl, sym, ◌∙◌}
 use native.Mathlib.Omega.{arith}
-use borrow.Author.Rules.{rules}
 use Rattle.index.specs.Cells.{keys}
-use Rattle.index.specs.Slots.{down}
 use Rattle.index.proofs.Slot.Words.{key_room}
 use Rattle.index.proofs.Slot.Search.{down_none, down_free, down_own, down_on}
 use Rattle.index.proofs.slots.slot_below.Goals as goal

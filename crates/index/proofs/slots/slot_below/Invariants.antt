@@ -1,12 +1,8 @@
 -- The loop's invariant: the search from the first slot on answers as the search from here on.
-use Prim.Native.Nat.{◌-◌, ◌≤◌}
-use mathlib.Core.Path.{◌≡◌, refl, sym, ◌∙◌}
-use native.Mathlib.Omega.{arith}
-use borrow.Author.Rules.{rules}
+use Prim.Native.Nat.{◌≤◌}
+use mathlib.Core.Path.{◌≡◌}
 use Rattle.index.specs.Cells.{keys}
 use Rattle.index.specs.Slots.{down}
-use Rattle.index.proofs.Slot.Words.{key_room}
-use Rattle.index.proofs.Slot.Search.{down_none, down_free, down_own, down_on}
 use Rattle.index.proofs.slots.slot_below.Given as goal
 
 abbrev pub invariant-loop-j : goal.invariant-loop-j

@@ -2,7 +2,6 @@
 use Prim.Native.Nat.{ℕ, ◌+◌, ◌<◌}
 use mathlib.Core.Path.{◌≡◌, sym, ap, ◌∙◌}
 use native.Mathlib.Omega.{arith}
-use borrow.Author.Rules.{rules}
 use Rattle.index.specs.Cells.{slots_for, AllInTable, seed_of, keys}
 use Rattle.index.specs.Slots.{home_of, down, found_or}
 use Rattle.index.specs.declared.slots.Found.{Found}

@@ -1,6 +1,5 @@
 -- The page is read for what it says.
 use mathlib.Core.Path.{◌∙◌}
-use borrow.Author.Rules.{rules}
 use Rattle.index.proofs.walks.cut_past.Goals as goal
 
 pub returns : goal.returns

@@ -1,5 +1,4 @@
 -- The chunk number is compared first, then the cut.
-use borrow.Author.Rules.{rules}
 use borrow.Author.Tests.{eq-eqb, ne_eqb}
 use Rattle.index.proofs.walks.is_shown.Goals as goal
 

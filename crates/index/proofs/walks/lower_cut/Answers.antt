@@ -1,5 +1,4 @@
 -- A page that is no header cuts nowhere.
-use borrow.Author.Rules.{rules}
 use Rattle.page.proofs.Sound.{else_header}
 use Rattle.index.proofs.walks.lower_cut.Goals as goal
 

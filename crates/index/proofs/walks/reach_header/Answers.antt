@@ -1,13 +1,9 @@
-use Prim.Native.Nat.{◌+◌, ◌≤◌}
-use mathlib.Core.Path.{◌≡◌, refl, sym, ◌∙◌}
+use mathlib.Core.Path.{refl, sym, ◌∙◌}
 use native.Mathlib.Omega.{arith}
-use borrow.Author.Rules.{rules}
 use Rattle.page.specs.Records.{record_at}
 use Rattle.chunk.specs.Records.{age_of}
 use Rattle.index.specs.Chains.{objects, top}
-use Rattle.index.specs.Walks.{records_in, reach, under}
 use Rattle.index.specs.declared.chains.Step.TheVariants.{End, Damaged, Record}
-use Rattle.index.specs.declared.walks.Met.TheVariants.{Nothing}
 use Rattle.index.proofs.Chain.Links.{Meets, stepped, role_data, role_header}
 use Rattle.index.proofs.Chain.Turns.{reach_nothing, reach_headless, reach_broken, reach_here, reach_on, count_on, few}
 use Rattle.index.proofs.walks.reach_header.Goals as goal

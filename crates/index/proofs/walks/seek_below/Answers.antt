@@ -1,6 +1,5 @@
 -- The walk goes on from the newest header's link, below its age and with its cut.
 use mathlib.Core.Path.{◌≡◌, ◌∙◌}
-use borrow.Author.Rules.{rules}
 use Rattle.page.specs.Records.{record_at}
 use Rattle.chunk.specs.Records.{age_of}
 use Rattle.index.proofs.walks.seek_below.Goals as goal

@@ -1,11 +1,9 @@
-use Prim.Native.Nat.{◌+◌, ◌≤◌}
 use mathlib.Core.Bool.{true, false}
 use mathlib.Core.Path.{◌≡◌, refl, sym, ◌∙◌}
 use native.Mathlib.Omega.{arith}
-use borrow.Author.Rules.{rules}
 use Rattle.page.specs.Records.{record_at}
 use Rattle.chunk.specs.Lookups.{valid_of}
-use Rattle.index.specs.Walks.{records_in, is_shown, seek, under}
+use Rattle.index.specs.Walks.{is_shown}
 use Rattle.index.specs.declared.chains.Step.TheVariants.{End, Damaged, Record}
 use Rattle.index.proofs.Chain.Links.{Meets, stepped, role_data, role_header}
 use Rattle.index.proofs.Walk.Walks.{no_copy_lem}

@@ -1,11 +1,10 @@
-use Prim.Native.Nat.{◌≤◌, ◌-◌}
 use mathlib.Core.Path.{◌≡◌, refl, sym, ◌∙◌}
 use native.Mathlib.Omega.{arith}
 use borrow.Author.Rules.{rules}
-use lib.ListN.{length, get_or, length-set}
+use lib.ListN.{get_or, length-set}
 use Rattle.page.specs.Records.{record_at}
 use Rattle.chunk.specs.Takes.{seen_by}
-use Rattle.chunk.proofs.Laying.{laid, laid_more}
+use Rattle.chunk.proofs.Laying.{laid_more}
 use Rattle.records.specs.Copies.{placed_from}
 use Rattle.records.proofs.Placing.{placed_length, placed_at, placed_sorted}
 use Rattle.records.proofs.copies.fill_places.Goals as goal

@@ -1,15 +1,12 @@
 -- The loop's invariant: the rows of the ages passed are laid over the words. There are as many words as ages, so that all rows fill them, and sorted they
 -- are the places.
 use Prim.Native.Nat.{◌≤◌, ◌-◌}
-use mathlib.Core.Path.{◌≡◌, refl, sym, ◌∙◌}
-use native.Mathlib.Omega.{arith}
-use borrow.Author.Rules.{rules}
-use lib.ListN.{length, get_or, length-set}
+use mathlib.Core.Path.{◌≡◌}
+use lib.ListN.{length}
 use Rattle.page.specs.Records.{record_at}
 use Rattle.chunk.specs.Takes.{seen_by}
-use Rattle.chunk.proofs.Laying.{laid, laid_more}
+use Rattle.chunk.proofs.Laying.{laid}
 use Rattle.records.specs.Copies.{placed_from}
-use Rattle.records.proofs.Placing.{placed_length, placed_at, placed_sorted}
 use Rattle.records.proofs.copies.fill_places.Given as goal
 
 abbrev pub invariant-loop-i : goal.invariant-loop-i

@@ -1,5 +1,4 @@
 -- The rows below that of the chunk's last word end with the chunk's last.
-use borrow.Author.Rules.{rules}
 use Rattle.records.proofs.Placing.{some_before, last_before}
 use Rattle.records.proofs.copies.last_place.Goals as goal
 

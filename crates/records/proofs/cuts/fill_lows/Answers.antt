@@ -1,8 +1,7 @@
 use native.Mathlib.Omega.{arith}
-use borrow.Author.Rules.{rules}
 use Rattle.page.specs.Records.{record_at}
 use Rattle.chunk.specs.Takes.{seen_by}
-use Rattle.records.proofs.Lowering.{Lowered, lowered_none, lowered_one, lowered_all}
+use Rattle.records.proofs.Lowering.{lowered_none, lowered_one, lowered_all}
 use Rattle.records.proofs.cuts.fill_lows.Goals as goal
 
 pub loop-i-init : goal.loop-i-init

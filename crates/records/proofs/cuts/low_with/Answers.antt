@@ -1,6 +1,5 @@
 -- A record that is no header leaves the cut as it was.
 use mathlib.Core.Path.{◌∙◌}
-use borrow.Author.Rules.{rules}
 use Rattle.page.proofs.Sound.{else_header}
 use Rattle.records.proofs.cuts.low_with.Goals as goal
 

@@ -1,6 +1,5 @@
 -- A place is a word, and so no higher than the last.
 use native.Mathlib.Omega.{arith}
-use borrow.Author.Rules.{rules}
 use Rattle.records.proofs.cuts.word_of.Goals as goal
 
 pub returns-in-At : goal.returns-in-At

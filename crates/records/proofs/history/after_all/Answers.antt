@@ -1,11 +1,9 @@
-use Prim.Native.Nat.{◌≤◌, ◌-◌}
 use mathlib.Core.Path.{◌≡◌, sym, ap, ◌∙◌}
 use native.Mathlib.Omega.{arith}
 use borrow.Author.Rules.{rules}
 use lib.ListN.{length}
 use Rattle.page.specs.Records.{record_at}
 use Rattle.chunk.specs.Takes.{seen_by}
-use Rattle.records.specs.Steps.{followed}
 use Rattle.records.specs.Written.{written}
 use Rattle.records.proofs.Accepted.{opened_few, written_good}
 use Rattle.records.proofs.Following.{follow_begin, follow_turn, all_followed}

@@ -1,16 +1,11 @@
 -- The loop's invariant: what following the records passed comes to. After all of them that is what a size lookup answers, where the object has a record
 -- and so an id.
 use Prim.Native.Nat.{◌≤◌, ◌-◌}
-use mathlib.Core.Path.{◌≡◌, sym, ap, ◌∙◌}
-use native.Mathlib.Omega.{arith}
-use borrow.Author.Rules.{rules}
+use mathlib.Core.Path.{◌≡◌}
 use lib.ListN.{length}
 use Rattle.page.specs.Records.{record_at}
 use Rattle.chunk.specs.Takes.{seen_by}
 use Rattle.records.specs.Steps.{followed}
-use Rattle.records.specs.Written.{written}
-use Rattle.records.proofs.Accepted.{opened_few, written_good}
-use Rattle.records.proofs.Following.{follow_begin, follow_turn, all_followed}
 use Rattle.records.proofs.history.after_all.Given as goal
 
 abbrev pub invariant-loop-i : goal.invariant-loop-i

@@ -1,15 +1,13 @@
-use Prim.Native.Nat.{ℕ, ◌≤◌, ◌<◌, ◌-◌}
-use mathlib.Core.List.{List}
+use Prim.Native.Nat.{◌≤◌, ◌<◌}
 use mathlib.Core.Path.{◌≡◌, sym, ap, ◌∙◌}
 use native.Mathlib.Omega.{arith}
-use borrow.Author.Rules.{rules}
 use lib.ListN.{length, get_or}
 use Rattle.page.specs.Records.{record_at}
 use Rattle.chunk.specs.Takes.{seen_by}
 use Rattle.records.specs.Written.{page_of}
 use Rattle.records.proofs.Accepted.{opened_few, written_good}
 use Rattle.records.proofs.Following.{follow_turn}
-use Rattle.records.proofs.Histories.{Recounted, recounted_none, next_age, recounted_more, recounted_all}
+use Rattle.records.proofs.Histories.{recounted_none, next_age, recounted_more, recounted_all}
 use Rattle.records.proofs.history.fill.Goals as goal
 use Rattle.records.proofs.history.fill.Goals.{After-fill_ages, After-value_of}
 

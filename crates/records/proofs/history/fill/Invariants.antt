@@ -1,17 +1,10 @@
 -- The loop's invariant is `Recounted`: what following the records passed comes to, and their words laid over the ages. A turn reads the next age, which is
 -- as it was, and follows its record.
-use Prim.Native.Nat.{ℕ, ◌≤◌, ◌<◌, ◌-◌}
-use mathlib.Core.List.{List}
-use mathlib.Core.Path.{◌≡◌, sym, ap, ◌∙◌}
-use native.Mathlib.Omega.{arith}
-use borrow.Author.Rules.{rules}
-use lib.ListN.{length, get_or}
+use Prim.Native.Nat.{◌-◌}
+use lib.ListN.{length}
 use Rattle.page.specs.Records.{record_at}
 use Rattle.chunk.specs.Takes.{seen_by}
-use Rattle.records.specs.Written.{page_of}
-use Rattle.records.proofs.Accepted.{opened_few, written_good}
-use Rattle.records.proofs.Following.{follow_turn}
-use Rattle.records.proofs.Histories.{Recounted, recounted_none, next_age, recounted_more, recounted_all}
+use Rattle.records.proofs.Histories.{Recounted}
 use Rattle.records.proofs.history.fill.Given as goal
 
 abbrev pub invariant-loop-i : goal.invariant-loop-i

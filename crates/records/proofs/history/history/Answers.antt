@@ -1,6 +1,5 @@
 -- A refused dump is refused before anything else, and nothing is written.
 use mathlib.Core.Path.{sym, ◌∙◌}
-use borrow.Author.Rules.{rules}
 use Rattle.records.specs.Answers.{recorded_on, history_left, sizes_left}
 use Rattle.records.proofs.history.history.Goals as goal
 

@@ -1,12 +1,10 @@
 -- Refused as the records are, and then nothing is written. Else the records have room in both slices, since they have in the shorter; and the fronts of both
 -- are filled.
-use Prim.Native.Nat.{ℕ, min}
+use Prim.Native.Nat.{min}
 use mathlib.Core.Path.{◌≡◌, sym, ap, ◌∙◌}
 use native.Mathlib.Omega.{arith}
-use borrow.Author.Rules.{rules}
 use lib.ListN.{length}
 use Rattle.page.specs.Records.{record_at}
-use Rattle.page.specs.declared.record.Record.{Record}
 use Rattle.chunk.specs.Newest.{records}
 use Rattle.chunk.specs.Takes.{seen_by}
 use Rattle.chunk.specs.declared.takes.Takes.{Takes}
@@ -54,9 +52,13 @@ returns-in-Records c =
     let a = c.args in
     let P = a.g.layout.«data» in
     let t = c.in-Records.is in
-    let takes = c.takes-t.ensures in record { value = sym t ∙ recorded_on_lem (counted (goal.at.returns-in-Records c).After-count_in-r); rows_after = left_told (counted (goal.at.returns-in-Records c).After-count_in-r) t (λ i. history_rows (says_at c.args.g c.args.dump.now c.args.m c.args.o.0) P a.o.0 i) a.rows.now
-            (rw takes at c.fill.ensures.rows_after) (c.fill.auto.rows ∙ (rows (goal.at.returns-in-Records c).In-Records).long); sizes_after = left_told (counted (goal.at.returns-in-Records c).After-count_in-r) t (λ i. history_sizes (says_at c.args.g c.args.dump.now c.args.m c.args.o.0) P a.o.0 i) a.sizes.now
-            (rw takes at c.fill.ensures.sizes_after) (c.fill.auto.sizes ∙ (sizes (goal.at.returns-in-Records c).In-Records).long) }
+    let takes = c.takes-t.ensures in record {
+      value = sym t ∙ recorded_on_lem (counted (goal.at.returns-in-Records c).After-count_in-r);
+      rows_after = left_told (counted (goal.at.returns-in-Records c).After-count_in-r) t (λ i. history_rows (says_at c.args.g c.args.dump.now c.args.m c.args.o.0) P a.o.0 i) a.rows.now
+          (rw takes at c.fill.ensures.rows_after) (c.fill.auto.rows ∙ (rows (goal.at.returns-in-Records c).In-Records).long);
+      sizes_after = left_told (counted (goal.at.returns-in-Records c).After-count_in-r) t (λ i. history_sizes (says_at c.args.g c.args.dump.now c.args.m c.args.o.0) P a.o.0 i) a.sizes.now
+          (rw takes at c.fill.ensures.sizes_after) (c.fill.auto.sizes ∙ (sizes (goal.at.returns-in-Records c).In-Records).long);
+    }
 
 pub slice_bounds-fill-end : goal.slice_bounds-fill-end
 slice_bounds-fill-end c = (rows c).inside

@@ -1,14 +1,11 @@
 -- The copy is hidden where its word, the lowest cut from it on, is not above the begin of its chunk; the words ascend, and the last record with such a
 -- word is the newest header that hides it. Else it stands as the lookup of its chunk says.
-use Prim.Native.Nat.{ℕ, ◌-◌, ◌<◌}
-use mathlib.Core.List.{List}
+use Prim.Native.Nat.{◌-◌, ◌<◌}
 use mathlib.Core.Path.{◌≡◌, ◌∙◌}
 use native.Mathlib.Omega.{arith}
-use borrow.Author.Rules.{rules}
 use lib.ListN.{length, get_or, drop, length-drop}
 use lib.Seq.{get_or-drop}
 use Rattle.page.specs.Records.{record_at}
-use Rattle.page.specs.declared.record.Record.{Record}
 use Rattle.page.proofs.Layouts.{listed_data}
 use Rattle.page.proofs.Lengths.{opened_facts, opened_pages}
 use Rattle.page.proofs.Within.{chunk_good}
@@ -61,7 +58,7 @@ hidden : (f : After-first_from-k) → let f = f in
     let a = f.args in
     Hidden (seen_by f.args.t (record_at f.args.g f.args.dump.now)) a.g.layout.«data» a.o.0 a.pages a.i a.d f.first_from-k.result
 hidden f =
-    let lows : f.args.lows.now ≡ drop f.args.i (lows_of (seen_by f.args.t (record_at f.args.g f.args.dump.now)) (written (seen_by f.args.t (record_at f.args.g f.args.dump.now)) f.args.o.0 f.args.pages)) = f.requires.lows_value in let copy : let a = f.args in NewestAt (seen_by f.args.t (record_at f.args.g f.args.dump.now)) a.g.layout.«data» a.o.0 a.pages a.i a.d = let f = f in let a = f.args in let said = f.requires.i_value in record { few = omega (arith, opened_pages a.g (length a.dump.now) a.pages f.requires.dump_value); inside = f.requires.i_in_bounds; said = said; newest = f.requires.pages_value; number = chunk_good a.d.chunk.0 (seen_within a.g a.dump.now a.t _ a.d said).chunk; short = omega ( arith, f.base_of-base.ensures.value, f.base_of-base.ensures.result_bound, listed_data a.g.layout (opened_facts a.g (length a.dump.now) a.pages f.requires.dump_value).listed, ); } in let word-is : get_or f.args.lows.now 0 0 ≡ cut_word (low_of (seen_by f.args.t (record_at f.args.g f.args.dump.now)) (drop f.args.i (written (seen_by f.args.t (record_at f.args.g f.args.dump.now)) f.args.o.0 f.args.pages))) = let lows : f.args.lows.now ≡ drop f.args.i (lows_of (seen_by f.args.t (record_at f.args.g f.args.dump.now)) (written (seen_by f.args.t (record_at f.args.g f.args.dump.now)) f.args.o.0 f.args.pages)) = f.requires.lows_value in first_word (seen_by f.args.t (record_at f.args.g f.args.dump.now)) (written (seen_by f.args.t (record_at f.args.g f.args.dump.now)) f.args.o.0 f.args.pages) f.args.i f.requires.i_in_bounds f.args.lows.now lows in
+    let lows : f.args.lows.now ≡ drop f.args.i (lows_of (seen_by f.args.t (record_at f.args.g f.args.dump.now)) (written (seen_by f.args.t (record_at f.args.g f.args.dump.now)) f.args.o.0 f.args.pages)) = f.requires.lows_value in let copy : let a = f.args in NewestAt (seen_by f.args.t (record_at f.args.g f.args.dump.now)) a.g.layout.«data» a.o.0 a.pages a.i a.d = let f = f in let a = f.args in let said = f.requires.i_value in record { few = omega (arith, opened_pages a.g (length a.dump.now) a.pages f.requires.dump_value); inside = f.requires.i_in_bounds; said = said; newest = f.requires.pages_value; number = chunk_good a.d.chunk.0 (seen_within a.g a.dump.now a.t _ a.d said).chunk; short = omega (arith, f.base_of-base.ensures.value, f.base_of-base.ensures.result_bound, listed_data a.g.layout (opened_facts a.g (length a.dump.now) a.pages f.requires.dump_value).listed) } in let word-is : get_or f.args.lows.now 0 0 ≡ cut_word (low_of (seen_by f.args.t (record_at f.args.g f.args.dump.now)) (drop f.args.i (written (seen_by f.args.t (record_at f.args.g f.args.dump.now)) f.args.o.0 f.args.pages))) = let lows : f.args.lows.now ≡ drop f.args.i (lows_of (seen_by f.args.t (record_at f.args.g f.args.dump.now)) (written (seen_by f.args.t (record_at f.args.g f.args.dump.now)) f.args.o.0 f.args.pages)) = f.requires.lows_value in first_word (seen_by f.args.t (record_at f.args.g f.args.dump.now)) (written (seen_by f.args.t (record_at f.args.g f.args.dump.now)) f.args.o.0 f.args.pages) f.args.i f.requires.i_in_bounds f.args.lows.now lows in
     let f = f in
     let sorted = words_sorted (seen_by f.args.t (record_at f.args.g f.args.dump.now)) (written (seen_by f.args.t (record_at f.args.g f.args.dump.now)) f.args.o.0 f.args.pages) f.args.i f.requires.i_in_bounds f.args.lows.now lows in
     stands_cut copy f.first_from-k.result (rw (← f.base_of-base.ensures.value, ← lows) (f.first_from-k.ensures.parted sorted))

@@ -4,10 +4,8 @@ use Prim.Native.Nat.{ℕ, ◌<◌}
 use mathlib.Core.List.{List}
 use mathlib.Core.Path.{◌≡◌, refl, sym, ap, ◌∙◌}
 use native.Mathlib.Omega.{arith}
-use borrow.Author.Rules.{rules}
 use lib.ListN.{length, replicate}
 use Rattle.page.specs.Records.{record_at}
-use Rattle.page.specs.declared.record.Record.{Record}
 use Rattle.page.proofs.Lengths.{opened_pages}
 use Rattle.sort.proofs.Clearing.{cleared_all}
 use Rattle.chunk.specs.Takes.{seen_by}
@@ -48,7 +46,11 @@ put_standings-requires c =
 
 pub returns : goal.returns
 returns c =
-    record { rows_after = c.put_standings.ensures.rows_after; details_after = c.put_standings.ensures.details_after; work_after = c.clear.ensures
-            ∙ cleared_all c.fill_places.new.words _ refl
-            ∙ ap (λ (w : List ℕ). replicate (length w) 0) (places (goal.at.returns c).After-fill_places)
-            ∙ ap (λ (n : ℕ). replicate n 0) (places_length (seen_by c.args.t (record_at c.args.g c.args.dump.now)) (written (seen_by c.args.t (record_at c.args.g c.args.dump.now)) c.args.o.0 c.args.pages) ∙ sym (long (goal.at.returns c).Start)) }
+    record {
+      rows_after = c.put_standings.ensures.rows_after;
+      details_after = c.put_standings.ensures.details_after;
+      work_after = c.clear.ensures
+          ∙ cleared_all c.fill_places.new.words _ refl
+          ∙ ap (λ (w : List ℕ). replicate (length w) 0) (places (goal.at.returns c).After-fill_places)
+          ∙ ap (λ (n : ℕ). replicate n 0) (places_length (seen_by c.args.t (record_at c.args.g c.args.dump.now)) (written (seen_by c.args.t (record_at c.args.g c.args.dump.now)) c.args.o.0 c.args.pages) ∙ sym (long (goal.at.returns c).Start));
+    }

@@ -1,7 +1,6 @@
 -- By what the file is: none, one that ends before the chunk, and one that does not.
 use mathlib.Core.Path.{sym}
 use native.Mathlib.Omega.{arith}
-use borrow.Author.Rules.{rules}
 use Rattle.records.proofs.InSight.{held_refused, held_nothing, held_something}
 use Rattle.records.proofs.stands.held.Goals as goal
 

@@ -1,4 +1,4 @@
-use Prim.Native.Nat.{ℕ, ◌<◌, ◌-◌}
+use Prim.Native.Nat.{ℕ, ◌<◌}
 use mathlib.Core.List.{List}
 use mathlib.Core.Path.{◌≡◌, refl, sym, ap, ◌∙◌}
 use native.Mathlib.Omega.{arith}
@@ -11,7 +11,7 @@ use Rattle.chunk.specs.Takes.{seen_by}
 use Rattle.records.specs.Written.{written}
 use Rattle.records.proofs.Last.{written_few}
 use Rattle.records.proofs.Lowering.{lows_length}
-use Rattle.records.proofs.Rowing.{PutTo, rest_rows, rest_details, put_more, put_all}
+use Rattle.records.proofs.Rowing.{rest_rows, rest_details, put_more, put_all}
 use Rattle.records.proofs.stands.put_standings.Goals as goal
 use Rattle.records.proofs.stands.put_standings.Goals.{Start, In-loop-i}
 

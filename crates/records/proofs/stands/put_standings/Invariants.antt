@@ -1,19 +1,10 @@
 -- The loop's invariant is `PutTo`: the rows of the records passed are laid over the ages, and their second words over the lowest cuts, so that those from
 -- the next record on are as they were. These are all that `standing_at` asks for.
-use Prim.Native.Nat.{ℕ, ◌<◌, ◌-◌}
-use mathlib.Core.List.{List}
-use mathlib.Core.Path.{◌≡◌, refl, sym, ap, ◌∙◌}
-use native.Mathlib.Omega.{arith}
-use borrow.Author.Rules.{rules}
-use lib.ListN.{length, drop}
+use Prim.Native.Nat.{◌-◌}
+use lib.ListN.{length}
 use Rattle.page.specs.Records.{record_at}
-use Rattle.page.specs.declared.record.Record.{Record}
-use Rattle.page.proofs.Lengths.{opened_pages}
 use Rattle.chunk.specs.Takes.{seen_by}
-use Rattle.records.specs.Written.{written}
-use Rattle.records.proofs.Last.{written_few}
-use Rattle.records.proofs.Lowering.{lows_length}
-use Rattle.records.proofs.Rowing.{PutTo, rest_rows, rest_details, put_more, put_all}
+use Rattle.records.proofs.Rowing.{PutTo}
 use Rattle.records.proofs.stands.put_standings.Given as goal
 
 abbrev pub invariant-loop-i : goal.invariant-loop-i

@@ -1,17 +1,10 @@
 -- The first of the ages is that of the record at place i. It stands as the laws of `Last` say, by what it says and the last place of its chunk: its own, and
 -- then it is the newest of its kind; or a later one, whose age is among those behind.
-use Prim.Native.Nat.{ℕ, ◌<◌}
-use mathlib.Core.Bool.{true}
-use mathlib.Core.List.{List}
 use mathlib.Core.Path.{◌≡◌, sym, ◌∙◌}
 use native.Mathlib.Omega.{arith}
-use borrow.Author.Rules.{rules}
 use lib.ListN.{length, drop}
-use Rattle.page.specs.Numbers.{page_values}
-use Rattle.page.specs.Records.{record_at, is_data}
-use Rattle.page.specs.declared.record.Record.{Record}
+use Rattle.page.specs.Records.{record_at}
 use Rattle.page.proofs.Lengths.{opened_pages}
-use Rattle.chunk.specs.Records.{chunk_of}
 use Rattle.chunk.specs.Takes.{seen_by}
 use Rattle.records.specs.Written.{written, page_at}
 use Rattle.records.proofs.Last.{rest_some, rest_first, rest_inside, rest_at, written_few, has_its, ByLast, by_last}

@@ -3,10 +3,8 @@
 use Prim.Native.Nat.{ℕ, min}
 use mathlib.Core.Path.{◌≡◌, sym, ap, ◌∙◌}
 use native.Mathlib.Omega.{arith}
-use borrow.Author.Rules.{rules}
 use lib.ListN.{length, replicate}
 use Rattle.page.specs.Records.{record_at}
-use Rattle.page.specs.declared.record.Record.{Record}
 use Rattle.chunk.specs.Newest.{records}
 use Rattle.chunk.specs.Takes.{seen_by}
 use Rattle.chunk.specs.declared.takes.Takes.{Takes}
@@ -27,22 +25,22 @@ counted n =
 
 rows : (c : In-Records) → Front c.in-Records.count c.args.rows.now
 rows c =
-    let counted : let a = c.args in Counted a.g a.dump.now a.m a.o.0 (min (length c.args.rows.now) (min (length c.args.details.now) (length c.args.work.now))) a.pages c.count_in-r.result = record { accepted = c.requires; is = rw (← c.takes-t.ensures, ← c.least.ensures, ← c.least-room.ensures) c.count_in-r.ensures; } in
+    let counted : let a = c.args in Counted a.g a.dump.now a.m a.o.0 (min (length c.args.rows.now) (min (length c.args.details.now) (length c.args.work.now))) a.pages c.count_in-r.result = record { accepted = c.requires; is = rw (← c.takes-t.ensures, ← c.least.ensures, ← c.least-room.ensures) c.count_in-r.ensures } in
     told_front counted c.in-Records.is c.args.rows.now (omega arith)
 
 details : (c : In-Records) → Front c.in-Records.count c.args.details.now
 details c =
-    let counted : let a = c.args in Counted a.g a.dump.now a.m a.o.0 (min (length c.args.rows.now) (min (length c.args.details.now) (length c.args.work.now))) a.pages c.count_in-r.result = record { accepted = c.requires; is = rw (← c.takes-t.ensures, ← c.least.ensures, ← c.least-room.ensures) c.count_in-r.ensures; } in
+    let counted : let a = c.args in Counted a.g a.dump.now a.m a.o.0 (min (length c.args.rows.now) (min (length c.args.details.now) (length c.args.work.now))) a.pages c.count_in-r.result = record { accepted = c.requires; is = rw (← c.takes-t.ensures, ← c.least.ensures, ← c.least-room.ensures) c.count_in-r.ensures } in
     told_front counted c.in-Records.is c.args.details.now (omega arith)
 
 work : (c : In-Records) → Front c.in-Records.count c.args.work.now
 work c =
-    let counted : let a = c.args in Counted a.g a.dump.now a.m a.o.0 (min (length c.args.rows.now) (min (length c.args.details.now) (length c.args.work.now))) a.pages c.count_in-r.result = record { accepted = c.requires; is = rw (← c.takes-t.ensures, ← c.least.ensures, ← c.least-room.ensures) c.count_in-r.ensures; } in
+    let counted : let a = c.args in Counted a.g a.dump.now a.m a.o.0 (min (length c.args.rows.now) (min (length c.args.details.now) (length c.args.work.now))) a.pages c.count_in-r.result = record { accepted = c.requires; is = rw (← c.takes-t.ensures, ← c.least.ensures, ← c.least-room.ensures) c.count_in-r.ensures } in
     told_front counted c.in-Records.is c.args.work.now (omega arith)
 
 all : (c : In-Records) → let a = c.args in c.in-Records.count ≡ records (seen_by c.takes-t.result (record_at a.g a.dump.now)) a.o.0 a.pages
 all c =
-    let counted : let a = c.args in Counted a.g a.dump.now a.m a.o.0 (min (length c.args.rows.now) (min (length c.args.details.now) (length c.args.work.now))) a.pages c.count_in-r.result = record { accepted = c.requires; is = rw (← c.takes-t.ensures, ← c.least.ensures, ← c.least-room.ensures) c.count_in-r.ensures; } in
+    let counted : let a = c.args in Counted a.g a.dump.now a.m a.o.0 (min (length c.args.rows.now) (min (length c.args.details.now) (length c.args.work.now))) a.pages c.count_in-r.result = record { accepted = c.requires; is = rw (← c.takes-t.ensures, ← c.least.ensures, ← c.least-room.ensures) c.count_in-r.ensures } in
     let a = c.args in
     told_count counted c.in-Records.is
     ∙ ap (λ (t : Takes). records (seen_by t (record_at a.g a.dump.now)) a.o.0 a.pages) (sym c.takes-t.ensures)
@@ -63,9 +61,14 @@ returns-in-Records c =
     let a = c.args in
     let P = a.g.layout.«data» in
     let t = c.in-Records.is in
-    let takes = c.takes-t.ensures in record { value = sym t ∙ recorded_on_lem (counted (goal.at.returns-in-Records c).After-count_in-r); rows_after = left_told (counted (goal.at.returns-in-Records c).After-count_in-r) t (λ i. standing_rows (says_at c.args.g c.args.dump.now c.args.m c.args.o.0) P a.o.0 i) a.rows.now
-            (rw takes at c.fill.ensures.rows_after) (c.fill.auto.rows ∙ (rows (goal.at.returns-in-Records c).In-Records).long); details_after = left_told (counted (goal.at.returns-in-Records c).After-count_in-r) t (λ i. standing_details (says_at c.args.g c.args.dump.now c.args.m c.args.o.0) P a.o.0 i) a.details.now
-              (rw takes at c.fill.ensures.details_after) (c.fill.auto.details ∙ (details (goal.at.returns-in-Records c).In-Records).long); work_after = worked_told (counted (goal.at.returns-in-Records c).After-count_in-r) t a.work.now (c.fill.ensures.work_after ∙ ap (λ (k : ℕ). replicate k 0) (work (goal.at.returns-in-Records c).In-Records).long) }
+    let takes = c.takes-t.ensures in record {
+      value = sym t ∙ recorded_on_lem (counted (goal.at.returns-in-Records c).After-count_in-r);
+      rows_after = left_told (counted (goal.at.returns-in-Records c).After-count_in-r) t (λ i. standing_rows (says_at c.args.g c.args.dump.now c.args.m c.args.o.0) P a.o.0 i) a.rows.now
+          (rw takes at c.fill.ensures.rows_after) (c.fill.auto.rows ∙ (rows (goal.at.returns-in-Records c).In-Records).long);
+      details_after = left_told (counted (goal.at.returns-in-Records c).After-count_in-r) t (λ i. standing_details (says_at c.args.g c.args.dump.now c.args.m c.args.o.0) P a.o.0 i) a.details.now
+          (rw takes at c.fill.ensures.details_after) (c.fill.auto.details ∙ (details (goal.at.returns-in-Records c).In-Records).long);
+      work_after = worked_told (counted (goal.at.returns-in-Records c).After-count_in-r) t a.work.now (c.fill.ensures.work_after ∙ ap (λ (k : ℕ). replicate k 0) (work (goal.at.returns-in-Records c).In-Records).long);
+    }
 
 pub slice_bounds-fill-end : goal.slice_bounds-fill-end
 slice_bounds-fill-end c = (rows c).inside

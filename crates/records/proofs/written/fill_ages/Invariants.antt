@@ -1,21 +1,11 @@
 -- The loop's invariant is `Listed`: the ages of the records passed stand in front of the words. All of them fill the words, as there are as many words
 -- as records; sorted they are `written`.
-use Prim.Native.Nat.{ℕ, ◌≤◌, ◌<◌, ◌-◌}
-use mathlib.Core.Bool.{true, false}
-use mathlib.Core.Path.{◌≡◌, sym, ◌∙◌}
-use native.Mathlib.Omega.{arith}
-use borrow.Author.Rules.{rules}
-use borrow.Author.Tests.{not-true, not-false}
-use lib.ListN.{length}
+use Prim.Native.Nat.{◌≤◌, ◌-◌}
 use Rattle.page.specs.Records.{record_at}
-use Rattle.page.specs.Tags.{names_at}
-use Rattle.page.specs.declared.record.Record.{Record}
 use Rattle.chunk.specs.Records.{age_of}
 use Rattle.chunk.specs.Takes.{seen_by}
-use Rattle.chunk.proofs.Records.{seen_unnamed}
-use Rattle.chunk.proofs.Sorting.{Listed, listed_none, listed_skip, listed_room, listed_more, listed_all}
-use Rattle.records.specs.Written.{is_record, written}
-use Rattle.records.proofs.Writing.{records_count}
+use Rattle.chunk.proofs.Sorting.{Listed}
+use Rattle.records.specs.Written.{is_record}
 use Rattle.records.proofs.written.fill_ages.Given as goal
 
 abbrev pub invariant-loop-i : goal.invariant-loop-i

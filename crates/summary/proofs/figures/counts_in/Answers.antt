@@ -1,5 +1,4 @@
 -- Each case is its own.
-use borrow.Author.Rules.{rules}
 use Rattle.summary.proofs.figures.counts_in.Goals as goal
 
 pub returns-in-Counts : goal.returns-in-Counts

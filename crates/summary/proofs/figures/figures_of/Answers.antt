@@ -1,6 +1,5 @@
 -- The figures are those under the layout that was found, under which the dump is accepted.
 use mathlib.Core.Path.{sym, ◌∙◌}
-use borrow.Author.Rules.{rules}
 use Rattle.page.proofs.Finding.{found_opens}
 use Rattle.summary.specs.Figures.{figured_by, figured_of, figured_on}
 use Rattle.summary.proofs.figures.figures_of.Goals as goal

@@ -1,6 +1,5 @@
 -- Where the dump is opened, counting and tallying are not refused.
 use mathlib.Core.Path.{ap, sym, ◌∙◌}
-use borrow.Author.Rules.{rules}
 use Rattle.summary.specs.Figures.{counts_in, number_in, figured_on}
 use Rattle.summary.proofs.Figured.{figured_pages}
 use Rattle.summary.proofs.figures.figures_on.Goals as goal

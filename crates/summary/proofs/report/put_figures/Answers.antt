@@ -1,5 +1,4 @@
 -- The lines, one after the other.
-use borrow.Author.Rules.{rules}
 use Rattle.summary.specs.Report.{ten_lines}
 use Rattle.text.proofs.Putting.{also, kept}
 use Rattle.summary.proofs.report.put_figures.Goals as goal

@@ -1,5 +1,4 @@
 -- The three parts of the line, one after the other.
-use borrow.Author.Rules.{rules}
 use Rattle.summary.specs.Report.{layout_line}
 use Rattle.text.proofs.Putting.{also}
 use Rattle.summary.proofs.report.put_layout.Goals as goal

@@ -1,5 +1,4 @@
 -- The number is that of the table.
-use borrow.Author.Rules.{rules}
 use Rattle.summary.specs.Report.{refusal_line}
 use Rattle.summary.proofs.report.put_refusal.Goals as goal
 

@@ -1,5 +1,4 @@
 -- In each case the text is that of the case.
-use borrow.Author.Rules.{rules}
 use Rattle.summary.specs.Report.{text_of}
 use Rattle.summary.proofs.report.put_report.Goals as goal
 

@@ -1,6 +1,5 @@
 -- The text is measured on no bytes, and written if it fits.
 use native.Mathlib.Omega.{arith}
-use borrow.Author.Rules.{rules}
 use Rattle.text.proofs.Writing.{refused, accepted}
 use Rattle.summary.proofs.report.write_figured.Goals as goal
 

@@ -1,5 +1,4 @@
 -- A refusal is a report of one line.
-use borrow.Author.Rules.{rules}
 use Rattle.summary.specs.Report.{text_of}
 use Rattle.summary.proofs.report.write_refusal.Goals as goal
 

@@ -1,5 +1,4 @@
 -- The text is that of the figures.
-use borrow.Author.Rules.{rules}
 use Rattle.summary.specs.Report.{report_of}
 use Rattle.summary.proofs.report.write_report.Goals as goal
 

@@ -1,7 +1,6 @@
 -- Where a page has data bytes, the rest of a division by them is below them.
 use native.Mathlib.Nat.{mod-lt}
 use native.Mathlib.Omega.{arith}
-use borrow.Author.Rules.{rules}
 use borrow.Author.Tests.{eq-eqb, ne_eqb}
 use Rattle.why.proofs.byte.byte_at.Goals as goal
 

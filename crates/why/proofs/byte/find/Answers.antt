@@ -1,12 +1,9 @@
-use Prim.Native.Nat.{◌≤◌, ◌-◌}
-use mathlib.Core.Path.{◌≡◌, refl, sym}
+use mathlib.Core.Path.{refl, sym}
 use native.Mathlib.Numerals.{add-one}
 use native.Mathlib.Omega.{arith}
 use borrow.Author.Rules.{rules}
-use lib.ListN.{take, drop}
 use lib.Seq.{slice-cons}
 use Rattle.sort.proofs.Behind.{none_left}
-use Rattle.why.specs.Answers.{found_in}
 use Rattle.why.proofs.Finding.{found_end, found_here, found_on}
 use Rattle.why.proofs.byte.find.Goals as goal
 

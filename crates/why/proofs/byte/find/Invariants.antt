@@ -1,14 +1,8 @@
 -- The loop's invariant: what is found in all rows is found in those left, with the code of the last one passed.
 use Prim.Native.Nat.{◌≤◌, ◌-◌}
-use mathlib.Core.Path.{◌≡◌, refl, sym}
-use native.Mathlib.Numerals.{add-one}
-use native.Mathlib.Omega.{arith}
-use borrow.Author.Rules.{rules}
+use mathlib.Core.Path.{◌≡◌}
 use lib.ListN.{take, drop}
-use lib.Seq.{slice-cons}
-use Rattle.sort.proofs.Behind.{none_left}
 use Rattle.why.specs.Answers.{found_in}
-use Rattle.why.proofs.Finding.{found_end, found_here, found_on}
 use Rattle.why.proofs.byte.find.Given as goal
 
 abbrev pub invariant-loop-i : goal.invariant-loop-i

@@ -1,11 +1,10 @@
 -- A page that is not in the dump shows nothing, nor does a byte that is none of its data bytes. Another lies in the dump, at the page's begin and as many
 -- bytes further.
-use Prim.Native.Nat.{ℕ, ◌+◌, ◌*◌, ◌<◌}
+use Prim.Native.Nat.{◌+◌, ◌*◌, ◌<◌}
 use mathlib.Core.Bool.{true}
 use mathlib.Core.Path.{◌≡◌, sym, ◌∙◌}
 use native.Mathlib.Omega.{arith}
-use borrow.Author.Rules.{rules}
-use borrow.Author.Tests.{not-true, not-false, lt-ltb, le-ltb}
+use borrow.Author.Tests.{lt-ltb, le-ltb}
 use lib.ListN.{length}
 use Rattle.page.specs.Lengths.{page_in}
 use Rattle.why.proofs.Finding.{byte_inside, byte_there}

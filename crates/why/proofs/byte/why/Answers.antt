@@ -1,6 +1,5 @@
 -- A refused dump is refused before anything else, and nothing is written.
 use mathlib.Core.Path.{sym, ◌∙◌}
-use borrow.Author.Rules.{rules}
 use Rattle.why.specs.Answers.{why_on, why_left}
 use Rattle.why.proofs.byte.why.Goals as goal
 

@@ -1,14 +1,10 @@
 -- The page and the object are refused first, and then too few words. A position behind the end has its setter. For another the words are filled with the
 -- spans, and the span that it lies in tells the reason; the words are cleared then.
-use Prim.Native.Nat.{ℕ}
-use mathlib.Core.List.{List}
 use mathlib.Core.Path.{◌≡◌, refl, ◌∙◌}
 use native.Mathlib.Omega.{arith}
-use borrow.Author.Rules.{rules}
 use borrow.Author.Tests.{lt-ltb, le-ltb}
 use lib.ListN.{length}
 use Rattle.page.specs.Records.{record_at}
-use Rattle.page.specs.declared.record.Record.{Record}
 use Rattle.chunk.specs.Sizes.{size_of}
 use Rattle.chunk.specs.Takes.{seen_by}
 use Rattle.sort.proofs.Clearing.{clear_inside}

@@ -1,5 +1,4 @@
 -- A cut behind the last place makes no mark.
-use borrow.Author.Rules.{rules}
 use borrow.Author.Tests.{lt-ltb, le-ltb}
 use Rattle.why.proofs.marks.cut_mark.Goals as goal
 

@@ -1,7 +1,6 @@
 -- A page that is not data changes nothing.
 use Prim.Native.Nat.{ℕ}
 use mathlib.Core.Path.{◌≡◌}
-use borrow.Author.Rules.{rules}
 use lib.Dec.{eqb}
 use Rattle.page.specs.declared.record.Header.{Header}
 use Rattle.page.specs.declared.record.Record.TheVariants as Record

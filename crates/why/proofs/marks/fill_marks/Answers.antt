@@ -1,16 +1,14 @@
-use Prim.Native.Nat.{◌≤◌, ◌-◌}
+use Prim.Native.Nat.{◌≤◌}
 use mathlib.Core.Bool.{false}
 use mathlib.Core.Path.{◌≡◌, ◌∙◌}
 use native.Mathlib.Omega.{arith}
-use borrow.Author.Rules.{rules}
-use borrow.Author.Tests.{not-true}
 use lib.ListN.{length, set, length-set}
 use Rattle.page.specs.Records.{record_at}
 use Rattle.page.specs.Tags.{names_at}
 use Rattle.chunk.specs.Takes.{seen_by}
 use Rattle.why.specs.Marks.{marks_in, marks_of, marks_to}
 use Rattle.chunk.proofs.Records.{seen_unnamed}
-use Rattle.why.proofs.Putting.{Filled, marks_some, fill_none, fill_skip, fill_room, fill_more, fill_end}
+use Rattle.why.proofs.Putting.{marks_some, fill_none, fill_skip, fill_room, fill_more, fill_end}
 use Rattle.why.proofs.marks.fill_marks.Goals as goal
 use Rattle.why.proofs.marks.fill_marks.Goals.{After-mark, After-marks_of-made}
 

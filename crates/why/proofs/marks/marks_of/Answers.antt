@@ -1,5 +1,4 @@
 -- Each arm of the match is a case of the definition, and so is each way through the test of the object.
-use borrow.Author.Rules.{rules}
 use borrow.Author.Tests.{eq-eqb, ne_eqb}
 use Rattle.why.proofs.marks.marks_of.Goals as goal
 

@@ -1,17 +1,14 @@
-use Prim.Native.Nat.{ℕ, ◌+◌, ◌≤◌, ◌-◌}
+use Prim.Native.Nat.{◌+◌}
 use mathlib.Core.Bool.{false}
-use mathlib.Core.List.{List}
 use mathlib.Core.Path.{◌≡◌, sym, ap, ◌∙◌}
 use native.Mathlib.Omega.{arith}
 use borrow.Author.Rules.{rules}
-use borrow.Author.Tests.{not-true}
 use lib.ListN.{length}
 use Rattle.page.specs.Records.{record_at}
 use Rattle.page.specs.Tags.{names_at}
-use Rattle.page.specs.declared.record.Record.{Record}
 use Rattle.chunk.specs.Records.{is_of}
 use Rattle.chunk.specs.Takes.{seen_by}
-use Rattle.chunk.specs.Sizes.{data_end, size_of}
+use Rattle.chunk.specs.Sizes.{size_of}
 use Rattle.chunk.proofs.Records.{seen_unnamed}
 use Rattle.chunk.proofs.Gathering.{end_none, end_other, end_step}
 use Rattle.why.specs.Marks.{marks_to}

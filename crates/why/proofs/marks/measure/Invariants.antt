@@ -1,23 +1,12 @@
 -- The loop's invariant: how many marks the pages passed make, and the largest end of those that are newer than the newest header. A page whose tags do not
 -- name the object makes none and ends nothing. A page makes no more than three, so that their number is a word.
-use Prim.Native.Nat.{ℕ, ◌+◌, ◌≤◌, ◌-◌}
-use mathlib.Core.Bool.{false}
-use mathlib.Core.List.{List}
-use mathlib.Core.Path.{◌≡◌, sym, ap, ◌∙◌}
-use native.Mathlib.Omega.{arith}
-use borrow.Author.Rules.{rules}
-use borrow.Author.Tests.{not-true}
+use Prim.Native.Nat.{◌≤◌, ◌-◌}
+use mathlib.Core.Path.{◌≡◌}
 use lib.ListN.{length}
 use Rattle.page.specs.Records.{record_at}
-use Rattle.page.specs.Tags.{names_at}
-use Rattle.page.specs.declared.record.Record.{Record}
-use Rattle.chunk.specs.Records.{is_of}
 use Rattle.chunk.specs.Takes.{seen_by}
-use Rattle.chunk.specs.Sizes.{data_end, size_of}
-use Rattle.chunk.proofs.Records.{seen_unnamed}
-use Rattle.chunk.proofs.Gathering.{end_none, end_other, end_step}
+use Rattle.chunk.specs.Sizes.{data_end}
 use Rattle.why.specs.Marks.{marks_to}
-use Rattle.why.proofs.Putting.{count_none, count_more, marks_same, marks_few}
 use Rattle.why.proofs.marks.measure.Given as goal
 
 abbrev pub invariant-loop-i : goal.invariant-loop-i

@@ -1,21 +1,13 @@
 -- The loop's invariant: the newest page of those passed that sets the size. One whose tags name another object sets it only as the newest header.
 use Prim.Native.Nat.{ℕ, ◌≤◌, ◌-◌}
-use mathlib.Core.Bool.{Bool, true, false, ◌||◌}
-use mathlib.Core.Path.{◌≡◌, sym, ap, ◌∙◌}
-use native.Mathlib.Omega.{arith}
-use borrow.Author.Rules.{rules}
-use borrow.Author.Tests.{not-true, not-false}
-use lib.Dec.{eqb}
+use mathlib.Core.Bool.{Bool}
+use mathlib.Core.Path.{◌≡◌}
 use Rattle.page.specs.Records.{record_at}
-use Rattle.page.specs.Tags.{names_at}
 use Rattle.page.specs.declared.record.Record.{Record}
 use Rattle.chunk.specs.Takes.{seen_by}
-use Rattle.chunk.specs.Records.{age_of}
 use Rattle.chunk.specs.Newest.{newest_where}
 use Rattle.chunk.specs.Scans.{newest_in}
-use Rattle.chunk.proofs.Gathering.{where_none, where_skip, where_take, later_in_lem}
 use Rattle.why.specs.Reasons.{sets_by}
-use Rattle.why.proofs.Setting.{unnamed_sets, setter_none, setter_some}
 use Rattle.why.proofs.setter.setter.Given as goal
 
 -- whether page p sets the size: what is searched

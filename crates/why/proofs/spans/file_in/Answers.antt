@@ -1,7 +1,6 @@
 -- The tests come in the definition's order; then the newest header decides, and where there is none, whether there is a record.
 use mathlib.Core.Option.{none}
 use mathlib.Core.Path.{◌≡◌, sym, ap, ◌∙◌}
-use borrow.Author.Rules.{rules}
 use Rattle.page.specs.Records.{record_at}
 use Rattle.chunk.specs.Newest.{newest_header}
 use Rattle.chunk.specs.Lookups.{file_at, file_of}

@@ -1,7 +1,6 @@
 -- The page and the object are refused first, and then too few words; a refusal writes nothing. Else the marks are as many as were measured, and the words
 -- are filled with the spans.
 use mathlib.Core.Path.{refl}
-use borrow.Author.Rules.{rules}
 use borrow.Author.Tests.{lt-ltb, le-ltb}
 use lib.ListN.{length}
 use Rattle.why.specs.Answers.{spans_on, spans_left}

@@ -1,5 +1,4 @@
 -- A mark stands where it is read, or none is left.
-use borrow.Author.Rules.{rules}
 use lib.Seq.{slice-cons}
 use Rattle.sort.proofs.Behind.{none_left}
 use Rattle.why.proofs.sweep.goes_on.Goals as goal

@@ -1,7 +1,6 @@
 -- The byte is tested against the count.
 use native.Mathlib.Nat.{mod-lt}
 use native.Mathlib.Omega.{arith}
-use borrow.Author.Rules.{rules}
 use borrow.Author.Tests.{le-leb, lt-leb}
 use Rattle.why.proofs.sweep.held_by.Goals as goal
 

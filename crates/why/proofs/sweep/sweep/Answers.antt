@@ -1,7 +1,6 @@
-use Prim.Native.Nat.{◌-◌, ◌<◌}
+use Prim.Native.Nat.{◌<◌}
 use mathlib.Core.Path.{◌≡◌, sym, ◌∙◌}
 use native.Mathlib.Omega.{arith}
-use borrow.Author.Rules.{rules}
 use lib.ListN.{get_or}
 use Rattle.page.specs.Records.{record_at}
 use Rattle.chunk.specs.Takes.{seen_by}
@@ -9,7 +8,7 @@ use Rattle.why.specs.Codes.{code_of}
 use Rattle.why.specs.Marks.{places}
 use Rattle.why.specs.Sweeps.{reason_seen}
 use Rattle.sort.proofs.Clearing.{clear_inside}
-use Rattle.why.proofs.InPlace.{Swept, SeenBelow, taken_below, sweep_none, mark_inside, code_below, sweep_goes, sweep_past, sweep_same, sweep_row, sweep_end}
+use Rattle.why.proofs.InPlace.{SeenBelow, taken_below, sweep_none, mark_inside, code_below, sweep_goes, sweep_past, sweep_same, sweep_row, sweep_end}
 use Rattle.why.proofs.sweep.sweep.Goals as goal
 use Rattle.why.proofs.sweep.sweep.Goals.{After-place_of-x, After-code-code}
 

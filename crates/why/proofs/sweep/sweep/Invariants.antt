@@ -1,17 +1,9 @@
 -- The loop's invariant is `Swept`: the rows of the marks passed are made, and the words not yet read are as they were. Each turn passes one mark, and ends in
 -- one of four ways: another mark of its place follows, the file has ended, the reason is the last row's, or it makes a row.
-use Prim.Native.Nat.{◌-◌, ◌<◌}
-use mathlib.Core.Path.{◌≡◌, sym, ◌∙◌}
-use native.Mathlib.Omega.{arith}
-use borrow.Author.Rules.{rules}
-use lib.ListN.{get_or}
+use Prim.Native.Nat.{◌-◌}
 use Rattle.page.specs.Records.{record_at}
 use Rattle.chunk.specs.Takes.{seen_by}
-use Rattle.why.specs.Codes.{code_of}
-use Rattle.why.specs.Marks.{places}
-use Rattle.why.specs.Sweeps.{reason_seen}
-use Rattle.sort.proofs.Clearing.{clear_inside}
-use Rattle.why.proofs.InPlace.{Swept, SeenBelow, taken_below, sweep_none, mark_inside, code_below, sweep_goes, sweep_past, sweep_same, sweep_row, sweep_end}
+use Rattle.why.proofs.InPlace.{Swept}
 use Rattle.why.proofs.sweep.sweep.Given as goal
 
 abbrev pub invariant-loop-j : goal.invariant-loop-j

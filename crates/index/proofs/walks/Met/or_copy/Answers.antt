@@ -1,5 +1,4 @@
 -- A copy that was met stays; else page q is one if it has the chunk's number.
-use borrow.Author.Rules.{rules}
 use borrow.Author.Tests.{eq-eqb, ne_eqb}
 use Rattle.index.proofs.walks.Met.or_copy.Goals as goal
 

@@ -1,5 +1,4 @@
 -- A header says anew what the object is; data can only make a file longer.
-use borrow.Author.Rules.{rules}
 use Rattle.records.specs.Steps.{after_with}
 use Rattle.records.proofs.Steps.{with_header, with_data}
 use Rattle.records.proofs.history.After.with.Goals as goal

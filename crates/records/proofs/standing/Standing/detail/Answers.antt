@@ -1,5 +1,4 @@
 -- Each standing has its own second word.
-use borrow.Author.Rules.{rules}
 use Rattle.records.proofs.standing.Standing.detail.Goals as goal
 
 pub returns-in-Superseded : goal.returns-in-Superseded

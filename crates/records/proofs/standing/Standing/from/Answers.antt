@@ -1,5 +1,4 @@
 -- Only a record that holds bytes has a begin.
-use borrow.Author.Rules.{rules}
 use Rattle.records.proofs.Arms.{else_holds}
 use Rattle.records.proofs.standing.Standing.from.Goals as goal
 

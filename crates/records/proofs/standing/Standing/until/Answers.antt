@@ -1,5 +1,4 @@
 -- Only a record that holds bytes has an end.
-use borrow.Author.Rules.{rules}
 use Rattle.records.proofs.Arms.{else_holds}
 use Rattle.records.proofs.standing.Standing.until.Goals as goal
 

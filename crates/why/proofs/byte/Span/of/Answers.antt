@@ -1,6 +1,5 @@
 -- What its parts are, their calls answer.
 use native.Mathlib.Omega.{arith}
-use borrow.Author.Rules.{rules}
 use Rattle.why.proofs.byte.Span.of.Goals as goal
 
 pub of-requires : goal.of-requires

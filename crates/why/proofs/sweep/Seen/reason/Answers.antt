@@ -1,7 +1,6 @@
 -- Each arm of a match is a case of the definition, and so is each way through a test.
 use native.Mathlib.Nat.{div-le_self}
 use native.Mathlib.Omega.{arith}
-use borrow.Author.Rules.{rules}
 use borrow.Author.Tests.{eq-eqb, ne_eqb, lt-ltb, le-ltb}
 use Rattle.why.specs.Sweeps.{reason_seen}
 use Rattle.why.proofs.sweep.Seen.reason.Goals as goal
