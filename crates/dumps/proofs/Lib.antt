@@ -1,4 +1,0 @@
-pub mod Thin
-pub mod Apart
-pub mod Said
-pub mod Opening
