@@ -1,6 +1,7 @@
 # Puts the command, its man page, documents and completions, and the library for C in place.
 #
 #     make                                  sets up, proves, builds
+#     make library                          proves, and builds the library alone
 #     make install PREFIX=/usr/local        DESTDIR goes in front of every place
 #     make uninstall
 
@@ -25,13 +26,16 @@ places = $(to)/bin/lohenarr \
     $(to)/lib/pkgconfig/lohenarr.pc \
     $(documents:%=$(to)/share/doc/lohenarr/%)
 
-.PHONY: all install uninstall
+.PHONY: all library install uninstall
 
 all: $(command)
 
-$(library): crates.txt $(shell find crates -type f)
-	rt staticlib capi
-	touch $@
+library: $(library)
+
+# rt names an archive after its crate; this one has the name by which C callers know it
+$(library): crates.txt $(shell find crates -type f -not -path '*/out/*')
+	cd crates/capi_c && rt lib
+	install -D -m 644 crates/capi_c/out/libcapi_c.a $@
 
 $(command): $(library) host/Cargo.toml host/Cargo.lock host/build.rs $(shell find host/src -type f)
 	host/setup

@@ -1,4 +1,4 @@
-//! Links the proved library, which `rt staticlib capi` builds.
+//! Links the proved library, which `make library` builds.
 
 use std::env;
 use std::path::Path;
@@ -14,9 +14,7 @@ fn main() {
             "cargo:rerun-if-changed={}",
             Path::new(&host).join("build.rs").display()
         );
-        eprintln!(
-            "the proved library is missing: run `rt staticlib capi` in the repository's root"
-        );
+        eprintln!("the proved library is missing: run `make library` in the repository's root");
         process::exit(1);
     }
     println!("cargo:rustc-link-search=native={}", folder.display());

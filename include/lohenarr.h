@@ -1,5 +1,5 @@
 /* Lohenarr: reads raw NAND dumps under YAFFS2. The calls of the proved
- * library libcapi.a, which `rt staticlib capi` builds for x86-64 Linux;
+ * library libcapi.a, which `make library` builds for x86-64 Linux;
  * `make install` puts it in place as liblohenarr.a.
  *
  * A dump is lent as a pointer and a length, and is only read; how it is read is

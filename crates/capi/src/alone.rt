@@ -17,21 +17,14 @@ use chunk::read::read;
 use page::number::{ChunkNumber, ObjectId};
 
 // The size of an object.
-#[unsafe(no_mangle)]
-pub extern "C" fn lohenarr_dump_size(dump: &[u8], geometry: Geometry, object: u32) -> SizeAnswer
+pub fn lohenarr_dump_size(dump: &[u8], geometry: Geometry, object: u32) -> SizeAnswer
     ensures { result ≡ size_answer (size_on (geometry_at geometry) dump.now object) }
 {
     size_answer(size(dump, geometry_at(geometry), ObjectId(object)))
 }
 
 // A chunk of an object.
-#[unsafe(no_mangle)]
-pub extern "C" fn lohenarr_dump_chunk(
-    dump: &[u8],
-    geometry: Geometry,
-    object: u32,
-    n: u32,
-) -> ChunkAnswer
+pub fn lohenarr_dump_chunk(dump: &[u8], geometry: Geometry, object: u32, n: u32) -> ChunkAnswer
     ensures { result ≡ chunk_answer (chunk_on (geometry_at geometry) dump.now object n) }
 {
     chunk_answer(chunk(
@@ -44,8 +37,7 @@ pub extern "C" fn lohenarr_dump_chunk(
 
 // A chunk of an object, read into a buffer: the valid bytes, then zeros up to the shown length. Bytes past that stay, and a refusal writes
 // nothing.
-#[unsafe(no_mangle)]
-pub extern "C" fn lohenarr_dump_read(
+pub fn lohenarr_dump_read(
     dump: &[u8],
     geometry: Geometry,
     object: u32,
@@ -65,13 +57,7 @@ pub extern "C" fn lohenarr_dump_read(
 }
 
 // The valid bytes of a chunk of an object, as a part of the dump; an empty part for a hole or a refusal.
-#[unsafe(no_mangle)]
-pub extern "C" fn lohenarr_dump_part(
-    dump: &[u8],
-    geometry: Geometry,
-    object: u32,
-    n: u32,
-) -> PlaceAnswer
+pub fn lohenarr_dump_part(dump: &[u8], geometry: Geometry, object: u32, n: u32) -> PlaceAnswer
     ensures value { result ≡ place_answer (geometry_at geometry) (length dump.now) (chunk_on (geometry_at geometry) dump.now object n) }
     ensures dump_value { take result.length (drop result.offset dump.now) ≡ part_by (geometry_at geometry) dump.now (chunk_on (geometry_at geometry) dump.now object n) }
 {
@@ -84,12 +70,7 @@ pub extern "C" fn lohenarr_dump_part(
 }
 
 // The ids of the live objects, written to words in ascending order. Words past them stay, and a refusal writes nothing.
-#[unsafe(no_mangle)]
-pub extern "C" fn lohenarr_dump_list(
-    dump: &[u8],
-    geometry: Geometry,
-    words: &mut [u32],
-) -> ListAnswer
+pub fn lohenarr_dump_list(dump: &[u8], geometry: Geometry, words: &mut [u32]) -> ListAnswer
     ensures value { result ≡ list_answer (list_on (geometry_at geometry) dump.now (length words.old)) }
     ensures words_after { words.new ≡ words_by (live_on (geometry_at geometry) dump.now) words.old (list_on (geometry_at geometry) dump.now (length words.old)) }
 {
@@ -97,16 +78,14 @@ pub extern "C" fn lohenarr_dump_list(
 }
 
 // How many objects are live.
-#[unsafe(no_mangle)]
-pub extern "C" fn lohenarr_dump_live(dump: &[u8], geometry: Geometry) -> TallyAnswer
+pub fn lohenarr_dump_live(dump: &[u8], geometry: Geometry) -> TallyAnswer
     ensures { result ≡ tally_answer (live_count_on (geometry_at geometry) dump.now) }
 {
     tally_answer(live_count(dump, geometry_at(geometry)))
 }
 
 // How many objects have records.
-#[unsafe(no_mangle)]
-pub extern "C" fn lohenarr_dump_objects(dump: &[u8], geometry: Geometry) -> TallyAnswer
+pub fn lohenarr_dump_objects(dump: &[u8], geometry: Geometry) -> TallyAnswer
     ensures { result ≡ tally_answer (object_count_on (geometry_at geometry) dump.now) }
 {
     tally_answer(object_count(dump, geometry_at(geometry)))

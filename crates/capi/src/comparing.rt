@@ -70,8 +70,7 @@ fn compared_answer(a: Compared) -> TextAnswer
 // Prepares a dump for comparing: `order` and `copies` need a word for each of its records, `work` two. Then `order` has the records in front, a word each
 // (the object and the page), ascending by object and the newest first in each; `copies`, at the same places, the copies that each object's file shows;
 // and the words of `work` that were needed are cleared. Words behind stay, and a refusal writes nothing.
-#[unsafe(no_mangle)]
-pub extern "C" fn lohenarr_compare_prepare(
+pub fn lohenarr_compare_prepare(
     dump: &[u8],
     geometry: Geometry,
     order: &mut [u64],
@@ -87,8 +86,7 @@ pub extern "C" fn lohenarr_compare_prepare(
 }
 
 // The object that comes next in the words of two dumps, and how many words at the front of each list are of it.
-#[unsafe(no_mangle)]
-pub extern "C" fn lohenarr_compare_next(order1: &[u64], order2: &[u64]) -> NextAnswer
+pub fn lohenarr_compare_next(order1: &[u64], order2: &[u64]) -> NextAnswer
     ensures { result ≡ next_answer (next_in order1.now order2.now) }
 {
     let t = next(order1, order2);
@@ -100,8 +98,7 @@ pub extern "C" fn lohenarr_compare_next(order1: &[u64], order2: &[u64]) -> NextA
 }
 
 // Writes the report of one object, by its words on each side: no bytes where nothing differs. Bytes past the report stay, and a refusal writes nothing.
-#[unsafe(no_mangle)]
-pub extern "C" fn lohenarr_compare_object(
+pub fn lohenarr_compare_object(
     dump1: &[u8],
     geometry1: Geometry,
     order1: &[u64],
@@ -131,8 +128,7 @@ pub extern "C" fn lohenarr_compare_object(
 }
 
 // Writes the whole report of two prepared dumps, object after object. Bytes past the report stay, and a refusal writes nothing.
-#[unsafe(no_mangle)]
-pub extern "C" fn lohenarr_compare(
+pub fn lohenarr_compare(
     dump1: &[u8],
     geometry1: Geometry,
     order1: &[u64],

@@ -42,8 +42,7 @@ fn counts_answer(c: Counted) -> CountsAnswer
 }
 
 // How many pages of a dump are of each kind.
-#[unsafe(no_mangle)]
-pub extern "C" fn lohenarr_counts(dump: &[u8], geometry: Geometry) -> CountsAnswer
+pub fn lohenarr_counts(dump: &[u8], geometry: Geometry) -> CountsAnswer
     ensures { result ≡ counts_answer (counted_of (geometry_at geometry) dump.now) }
 {
     counts_answer(count_kinds(dump, geometry_at(geometry)))

@@ -105,8 +105,7 @@ fn header_answer(h: Headed) -> HeaderAnswer
 }
 
 // The header fields of a page that are numbers.
-#[unsafe(no_mangle)]
-pub extern "C" fn lohenarr_header(dump: &[u8], geometry: Geometry, page: u32) -> HeaderAnswer
+pub fn lohenarr_header(dump: &[u8], geometry: Geometry, page: u32) -> HeaderAnswer
     ensures { result ≡ header_answer (headed_of (geometry_at geometry) dump.now page) }
 {
     header_answer(header(dump, geometry_at(geometry), PageNumber(page)))

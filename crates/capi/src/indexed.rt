@@ -32,21 +32,14 @@ use index::runs::{add_older, add_run};
 use page::number::{ChunkNumber, ObjectId, PageNumber};
 
 // How many words an index of so many pages has.
-#[unsafe(no_mangle)]
-pub extern "C" fn lohenarr_cells(pages: u32) -> usize
+pub fn lohenarr_cells(pages: u32) -> usize
     ensures { result ≡ cells_for pages }
 {
     cells_for(pages)
 }
 
 // Makes the index empty, whatever its words held. The seed is any word; no answer depends on it.
-#[unsafe(no_mangle)]
-pub extern "C" fn lohenarr_start(
-    dump: &[u8],
-    geometry: Geometry,
-    cells: &mut [u32],
-    seed: u32,
-) -> u32
+pub fn lohenarr_start(dump: &[u8], geometry: Geometry, cells: &mut [u32], seed: u32) -> u32
     ensures value { result ≡ added_answer (start_of (geometry_at geometry) dump.now cells.old seed).answer }
     ensures cells_after { cells.new ≡ (start_of (geometry_at geometry) dump.now cells.old seed).cells }
 {
@@ -54,8 +47,7 @@ pub extern "C" fn lohenarr_start(
 }
 
 // Adds a page to the index.
-#[unsafe(no_mangle)]
-pub extern "C" fn lohenarr_add(dump: &[u8], geometry: Geometry, cells: &mut [u32], page: u32) -> u32
+pub fn lohenarr_add(dump: &[u8], geometry: Geometry, cells: &mut [u32], page: u32) -> u32
     ensures value { result ≡ added_answer (add_of (geometry_at geometry) dump.now cells.old page).answer }
     ensures cells_after { cells.new ≡ (add_of (geometry_at geometry) dump.now cells.old page).cells }
 {
@@ -63,8 +55,7 @@ pub extern "C" fn lohenarr_add(dump: &[u8], geometry: Geometry, cells: &mut [u32
 }
 
 // Adds the pages from one to before another to the index, one after the other, until one is refused; those before it stand.
-#[unsafe(no_mangle)]
-pub extern "C" fn lohenarr_add_run(
+pub fn lohenarr_add_run(
     dump: &[u8],
     geometry: Geometry,
     cells: &mut [u32],
@@ -85,8 +76,7 @@ pub extern "C" fn lohenarr_add_run(
 
 // Adds of the pages from one to before another the records that are older than a given one to the index, one after the other, until one is
 // refused; those before it stand.
-#[unsafe(no_mangle)]
-pub extern "C" fn lohenarr_add_older(
+pub fn lohenarr_add_older(
     dump: &[u8],
     geometry: Geometry,
     cells: &mut [u32],
@@ -108,21 +98,14 @@ pub extern "C" fn lohenarr_add_older(
 }
 
 // The size of an object.
-#[unsafe(no_mangle)]
-pub extern "C" fn lohenarr_size(
-    dump: &[u8],
-    geometry: Geometry,
-    cells: &[u32],
-    object: u32,
-) -> SizeAnswer
+pub fn lohenarr_size(dump: &[u8], geometry: Geometry, cells: &[u32], object: u32) -> SizeAnswer
     ensures { result ≡ size_answer (size_from (geometry_at geometry) dump.now cells.now object) }
 {
     size_answer(size(dump, geometry_at(geometry), cells, ObjectId(object)))
 }
 
 // A chunk of an object.
-#[unsafe(no_mangle)]
-pub extern "C" fn lohenarr_chunk(
+pub fn lohenarr_chunk(
     dump: &[u8],
     geometry: Geometry,
     cells: &[u32],
@@ -142,8 +125,7 @@ pub extern "C" fn lohenarr_chunk(
 
 // A chunk of an object, read into a buffer: the valid bytes, then zeros up to the shown length. Bytes past that stay, and a refusal writes
 // nothing.
-#[unsafe(no_mangle)]
-pub extern "C" fn lohenarr_read(
+pub fn lohenarr_read(
     dump: &[u8],
     geometry: Geometry,
     cells: &[u32],
@@ -165,8 +147,7 @@ pub extern "C" fn lohenarr_read(
 }
 
 // The valid bytes of a chunk of an object, as a part of the dump; an empty part for a hole or a refusal.
-#[unsafe(no_mangle)]
-pub extern "C" fn lohenarr_part(
+pub fn lohenarr_part(
     dump: &[u8],
     geometry: Geometry,
     cells: &[u32],
@@ -185,8 +166,7 @@ pub extern "C" fn lohenarr_part(
 }
 
 // The ids of the live objects, written to words in ascending order. Words past them stay, and a refusal writes nothing.
-#[unsafe(no_mangle)]
-pub extern "C" fn lohenarr_list(
+pub fn lohenarr_list(
     dump: &[u8],
     geometry: Geometry,
     cells: &[u32],
@@ -199,8 +179,7 @@ pub extern "C" fn lohenarr_list(
 }
 
 // The pages of the records of an object, written to words from the newest to the oldest. Words past them stay, and a refusal writes nothing.
-#[unsafe(no_mangle)]
-pub extern "C" fn lohenarr_records(
+pub fn lohenarr_records(
     dump: &[u8],
     geometry: Geometry,
     cells: &[u32],
@@ -214,8 +193,7 @@ pub extern "C" fn lohenarr_records(
 }
 
 // How many objects have an added record.
-#[unsafe(no_mangle)]
-pub extern "C" fn lohenarr_objects(dump: &[u8], geometry: Geometry, cells: &[u32]) -> TallyAnswer
+pub fn lohenarr_objects(dump: &[u8], geometry: Geometry, cells: &[u32]) -> TallyAnswer
     ensures { result ≡ tally_answer (objects_from (geometry_at geometry) dump.now cells.now) }
 {
     tally_answer(objects(dump, geometry_at(geometry), cells))
@@ -223,8 +201,7 @@ pub extern "C" fn lohenarr_objects(dump: &[u8], geometry: Geometry, cells: &[u32
 
 // The chunks of a file, written to a table of two words for each: where its copy is, 0 for a hole, 1 where a link of the index is damaged
 // before a copy, and the page and 2 else; and how many of its bytes are valid. Words past the rows stay, and a refusal writes nothing.
-#[unsafe(no_mangle)]
-pub extern "C" fn lohenarr_table(
+pub fn lohenarr_table(
     dump: &[u8],
     geometry: Geometry,
     cells: &[u32],
@@ -238,13 +215,7 @@ pub extern "C" fn lohenarr_table(
 }
 
 // The valid bytes of the copy that a row of a table names, as a part of the dump; an empty part where it names none.
-#[unsafe(no_mangle)]
-pub extern "C" fn lohenarr_row(
-    dump: &[u8],
-    geometry: Geometry,
-    place: u32,
-    valid: u32,
-) -> PlaceAnswer
+pub fn lohenarr_row(dump: &[u8], geometry: Geometry, place: u32, valid: u32) -> PlaceAnswer
     ensures value { result ≡ row_place (geometry_at geometry) (length dump.now) place valid }
     ensures dump_value { take result.length (drop result.offset dump.now) ≡ row_part (geometry_at geometry) dump.now place valid }
 {
@@ -264,8 +235,7 @@ pub extern "C" fn lohenarr_row(
 
 // The copies that a file shows, a row of one number for each, ascending by chunk; holes have no row. The rest of the words that were needed is
 // cleared, words past those stay, and a refusal writes nothing.
-#[unsafe(no_mangle)]
-pub extern "C" fn lohenarr_copies(
+pub fn lohenarr_copies(
     dump: &[u8],
     geometry: Geometry,
     cells: &[u32],
@@ -279,8 +249,7 @@ pub extern "C" fn lohenarr_copies(
 }
 
 // The copy that a row of copies tells.
-#[unsafe(no_mangle)]
-pub extern "C" fn lohenarr_copy(row: u64) -> CopyAnswer
+pub fn lohenarr_copy(row: u64) -> CopyAnswer
     ensures { result ≡ copy_answer (copy_of row) }
 {
     copy_answer(Copy::of(row))

@@ -86,8 +86,7 @@ fn kind_answer(t: Told) -> KindAnswer
 }
 
 // The kind of a page of a dump.
-#[unsafe(no_mangle)]
-pub extern "C" fn lohenarr_kind(dump: &[u8], geometry: Geometry, page: u32) -> KindAnswer
+pub fn lohenarr_kind(dump: &[u8], geometry: Geometry, page: u32) -> KindAnswer
     ensures { result ≡ kind_answer (told_of (geometry_at geometry) dump.now page) }
 {
     kind_answer(page_kind(dump, geometry_at(geometry), PageNumber(page)))

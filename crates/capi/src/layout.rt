@@ -98,32 +98,28 @@ pub(crate) fn geometry_at(geometry: Geometry) -> page::geometry::Geometry
 }
 
 // The most bytes that a dump has.
-#[unsafe(no_mangle)]
-pub extern "C" fn lohenarr_most_bytes() -> usize
+pub fn lohenarr_most_bytes() -> usize
     ensures { result ≡ most_bytes }
 {
     Layout::MOST_BYTES
 }
 
 // The layout with a number.
-#[unsafe(no_mangle)]
-pub extern "C" fn lohenarr_layout(number: u32) -> LayoutAnswer
+pub fn lohenarr_layout(number: u32) -> LayoutAnswer
     ensures { result ≡ layout_answer (by_number number) }
 {
     layout_answer(Layout::numbered(number))
 }
 
 // The layout with these sizes and this tag offset.
-#[unsafe(no_mangle)]
-pub extern "C" fn lohenarr_layout_sized(data: u32, spare: u32, tag: u32) -> LayoutAnswer
+pub fn lohenarr_layout_sized(data: u32, spare: u32, tag: u32) -> LayoutAnswer
     ensures { result ≡ layout_answer (by_sizes «data» spare tag) }
 {
     layout_answer(Layout::sized(data, spare, tag))
 }
 
 // The layout of a dump in blocks of k pages.
-#[unsafe(no_mangle)]
-pub extern "C" fn lohenarr_find(dump: &[u8], k: u32) -> LayoutAnswer
+pub fn lohenarr_find(dump: &[u8], k: u32) -> LayoutAnswer
     ensures { result ≡ layout_answer (find_of dump.now k) }
 {
     layout_answer(find(dump, k))
@@ -131,16 +127,14 @@ pub extern "C" fn lohenarr_find(dump: &[u8], k: u32) -> LayoutAnswer
 
 // The score of finding the layout, for a dump that is read so: how many good pages bear their block's sequence, if it fits and they are at least
 // as many as needed; 0 else, and where the dump is refused.
-#[unsafe(no_mangle)]
-pub extern "C" fn lohenarr_score(dump: &[u8], geometry: Geometry, need: u32) -> u32
+pub fn lohenarr_score(dump: &[u8], geometry: Geometry, need: u32) -> u32
     ensures { result ≡ at_least need (score_under dump.now (geometry_at geometry)) }
 {
     score(dump, geometry_at(geometry), need)
 }
 
 // The page count of a dump.
-#[unsafe(no_mangle)]
-pub extern "C" fn lohenarr_pages(dump: &[u8], geometry: Geometry) -> PagesAnswer
+pub fn lohenarr_pages(dump: &[u8], geometry: Geometry) -> PagesAnswer
     ensures { result ≡ pages_answer (opened_of (geometry_at geometry) (length dump.now)) }
 {
     pages_answer(geometry_at(geometry).opened(dump.len()))

@@ -103,8 +103,7 @@ fn span_answer(s: Span) -> SpanAnswer
 }
 
 // Why byte `position` of an object is what it is. The words that were needed are cleared, words past those stay, and a refusal writes nothing.
-#[unsafe(no_mangle)]
-pub extern "C" fn lohenarr_dump_why(
+pub fn lohenarr_dump_why(
     dump: &[u8],
     geometry: Geometry,
     before: u32,
@@ -128,8 +127,7 @@ pub extern "C" fn lohenarr_dump_why(
 
 // The spans of a whole file, a row of one number for each, ascending. The rest of the words that were needed is cleared, words past those stay, and a
 // refusal writes nothing.
-#[unsafe(no_mangle)]
-pub extern "C" fn lohenarr_dump_spans(
+pub fn lohenarr_dump_spans(
     dump: &[u8],
     geometry: Geometry,
     before: u32,
@@ -149,8 +147,7 @@ pub extern "C" fn lohenarr_dump_spans(
 }
 
 // The span that a row of spans tells.
-#[unsafe(no_mangle)]
-pub extern "C" fn lohenarr_span(geometry: Geometry, row: u64) -> SpanAnswer
+pub fn lohenarr_span(geometry: Geometry, row: u64) -> SpanAnswer
     ensures { result ≡ span_answer (span_of (geometry_at geometry).layout.«data» row) }
 {
     span_answer(Span::of(geometry_at(geometry), row))

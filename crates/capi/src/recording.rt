@@ -76,8 +76,7 @@ fn standing_answer(data: u32, page: u32, s: Standing) -> StandingAnswer
 
 // How each record of an object stands: a row for each, and beside it a second word. As many words of the last slice are cleared, words past those stay,
 // and a refusal writes nothing.
-#[unsafe(no_mangle)]
-pub extern "C" fn lohenarr_dump_stands(
+pub fn lohenarr_dump_stands(
     dump: &[u8],
     geometry: Geometry,
     before: u32,
@@ -107,8 +106,7 @@ pub extern "C" fn lohenarr_dump_stands(
 }
 
 // How the record stands that a row and its second word tell.
-#[unsafe(no_mangle)]
-pub extern "C" fn lohenarr_standing(geometry: Geometry, row: u64, detail: u64) -> StandingAnswer
+pub fn lohenarr_standing(geometry: Geometry, row: u64, detail: u64) -> StandingAnswer
     ensures { result ≡ standing_answer (geometry_at geometry).layout.«data» (key_of row) (standing_of row detail) }
 {
     let g = geometry_at(geometry);
@@ -116,8 +114,7 @@ pub extern "C" fn lohenarr_standing(geometry: Geometry, row: u64, detail: u64) -
 }
 
 // What the file of an object was after each of its records: a row for each, and beside it the size. Words past those stay, and a refusal writes nothing.
-#[unsafe(no_mangle)]
-pub extern "C" fn lohenarr_dump_history(
+pub fn lohenarr_dump_history(
     dump: &[u8],
     geometry: Geometry,
     before: u32,
@@ -143,8 +140,7 @@ pub extern "C" fn lohenarr_dump_history(
 }
 
 // What a row of a history and the size beside it tell.
-#[unsafe(no_mangle)]
-pub extern "C" fn lohenarr_history_row(row: u64, size: u64) -> HistoryAnswer
+pub fn lohenarr_history_row(row: u64, size: u64) -> HistoryAnswer
     ensures { result ≡ history_answer row size }
 {
     HistoryAnswer {

@@ -39,8 +39,7 @@ fn text_answer(dump: &[u8], geometry: Geometry, page: u32, f: Text) -> PartAnswe
 }
 
 // The name in a header, 256 bytes.
-#[unsafe(no_mangle)]
-pub extern "C" fn lohenarr_header_name(dump: &[u8], geometry: Geometry, page: u32) -> PartAnswer
+pub fn lohenarr_header_name(dump: &[u8], geometry: Geometry, page: u32) -> PartAnswer
     ensures value { result ≡ text_answer Name (geometry_at geometry) dump.now page }
     ensures dump_value { take result.length (drop result.offset dump.now) ≡ text_at Name (geometry_at geometry) dump.now page }
 {
@@ -48,8 +47,7 @@ pub extern "C" fn lohenarr_header_name(dump: &[u8], geometry: Geometry, page: u3
 }
 
 // The alias in a header, 160 bytes.
-#[unsafe(no_mangle)]
-pub extern "C" fn lohenarr_header_alias(dump: &[u8], geometry: Geometry, page: u32) -> PartAnswer
+pub fn lohenarr_header_alias(dump: &[u8], geometry: Geometry, page: u32) -> PartAnswer
     ensures value { result ≡ text_answer Alias (geometry_at geometry) dump.now page }
     ensures dump_value { take result.length (drop result.offset dump.now) ≡ text_at Alias (geometry_at geometry) dump.now page }
 {
@@ -57,8 +55,7 @@ pub extern "C" fn lohenarr_header_alias(dump: &[u8], geometry: Geometry, page: u
 }
 
 // The reserved bytes of a header, 4 bytes.
-#[unsafe(no_mangle)]
-pub extern "C" fn lohenarr_header_reserved(dump: &[u8], geometry: Geometry, page: u32) -> PartAnswer
+pub fn lohenarr_header_reserved(dump: &[u8], geometry: Geometry, page: u32) -> PartAnswer
     ensures value { result ≡ text_answer Reserved (geometry_at geometry) dump.now page }
     ensures dump_value { take result.length (drop result.offset dump.now) ≡ text_at Reserved (geometry_at geometry) dump.now page }
 {

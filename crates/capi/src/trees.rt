@@ -77,8 +77,7 @@ fn texted_answer(t: Texted) -> TextAnswer
 
 // The rows of the tree, a word each: those of the first list in its order, then those of the second. The words of `heads` and `work` that were needed
 // are cleared, words past those stay, and so do those of `rows` behind the rows; a refusal writes nothing.
-#[unsafe(no_mangle)]
-pub extern "C" fn lohenarr_dump_tree(
+pub fn lohenarr_dump_tree(
     dump: &[u8],
     geometry: Geometry,
     before: u32,
@@ -102,8 +101,7 @@ pub extern "C" fn lohenarr_dump_tree(
 }
 
 // Writes the text of the tree's rows, of which the first `listed` are of the first list. Bytes past the text stay, and a refusal writes nothing.
-#[unsafe(no_mangle)]
-pub extern "C" fn lohenarr_tree_text(
+pub fn lohenarr_tree_text(
     dump: &[u8],
     geometry: Geometry,
     rows: &[u64],
@@ -117,8 +115,7 @@ pub extern "C" fn lohenarr_tree_text(
 }
 
 // Writes the path of a row of the first list; no bytes where there is no such row. Bytes past the path stay, and a refusal writes nothing.
-#[unsafe(no_mangle)]
-pub extern "C" fn lohenarr_tree_path(
+pub fn lohenarr_tree_path(
     dump: &[u8],
     geometry: Geometry,
     rows: &[u64],
@@ -132,8 +129,7 @@ pub extern "C" fn lohenarr_tree_path(
 }
 
 // What a row of the tree holds.
-#[unsafe(no_mangle)]
-pub extern "C" fn lohenarr_tree_row(row: u64) -> RowAnswer
+pub fn lohenarr_tree_row(row: u64) -> RowAnswer
     ensures { result ≡ row_answer row }
 {
     RowAnswer {

@@ -1,0 +1,233 @@
+// An index in lent words, and what it answers.
+ghost use Rattle.std.specs.Prelude.{◌≡◌, length, take, drop};
+ghost use Rattle.capi.specs.Layouts.{geometry_at};
+ghost use Rattle.chunk.specs.Answers.{read_by, buffer_by, part_by};
+ghost use Rattle.chunk.specs.Lists.{words_by};
+ghost use Rattle.index.specs.Additions.{start_of, add_of};
+ghost use Rattle.index.specs.Recorded.{pages_from, records_from};
+ghost use Rattle.index.specs.Runs.{run_of, older_of};
+ghost use Rattle.index.specs.Cells.{cells_for};
+ghost use Rattle.index.specs.Listing.{list_from, ids_from, objects_from};
+ghost use Rattle.index.specs.Walks.{size_from, chunk_from};
+ghost use Rattle.file.specs.Copies.{copy_of, copied_from, rows_from};
+ghost use Rattle.file.specs.Table.{row_part, table_from, filled_by};
+ghost use Rattle.capi.specs.Lookups.{size_answer, chunk_answer, place_answer, row_place, list_answer, tally_answer, table_answer, copies_answer, copy_answer, added_answer, run_answer};
+
+use capi::answer::{
+    ChunkAnswer, CopiesAnswer, CopyAnswer, ListAnswer, PlaceAnswer, RunAnswer, SizeAnswer,
+    TableAnswer, TallyAnswer,
+};
+use capi::layout::Geometry;
+
+// How many words an index of so many pages has.
+#[unsafe(no_mangle)]
+pub extern "C" fn lohenarr_cells(pages: u32) -> usize
+    ensures { result ≡ cells_for pages }
+{
+    capi::indexed::lohenarr_cells(pages)
+}
+
+// Makes the index empty, whatever its words held. The seed is any word; no answer depends on it.
+#[unsafe(no_mangle)]
+pub extern "C" fn lohenarr_start(
+    dump: &[u8],
+    geometry: Geometry,
+    cells: &mut [u32],
+    seed: u32,
+) -> u32
+    ensures value { result ≡ added_answer (start_of (geometry_at geometry) dump.now cells.old seed).answer }
+    ensures cells_after { cells.new ≡ (start_of (geometry_at geometry) dump.now cells.old seed).cells }
+{
+    capi::indexed::lohenarr_start(dump, geometry, cells, seed)
+}
+
+// Adds a page to the index.
+#[unsafe(no_mangle)]
+pub extern "C" fn lohenarr_add(dump: &[u8], geometry: Geometry, cells: &mut [u32], page: u32) -> u32
+    ensures value { result ≡ added_answer (add_of (geometry_at geometry) dump.now cells.old page).answer }
+    ensures cells_after { cells.new ≡ (add_of (geometry_at geometry) dump.now cells.old page).cells }
+{
+    capi::indexed::lohenarr_add(dump, geometry, cells, page)
+}
+
+// Adds the pages from one to before another to the index, one after the other, until one is refused; those before it stand.
+#[unsafe(no_mangle)]
+pub extern "C" fn lohenarr_add_run(
+    dump: &[u8],
+    geometry: Geometry,
+    cells: &mut [u32],
+    from: u32,
+    to: u32,
+) -> RunAnswer
+    ensures value { result ≡ run_answer (run_of (geometry_at geometry) dump.now cells.old from to).answer }
+    ensures cells_after { cells.new ≡ (run_of (geometry_at geometry) dump.now cells.old from to).cells }
+{
+    capi::indexed::lohenarr_add_run(dump, geometry, cells, from, to)
+}
+
+// Adds of the pages from one to before another the records that are older than a given one to the index, one after the other, until one is
+// refused; those before it stand.
+#[unsafe(no_mangle)]
+pub extern "C" fn lohenarr_add_older(
+    dump: &[u8],
+    geometry: Geometry,
+    cells: &mut [u32],
+    from: u32,
+    to: u32,
+    before: u32,
+) -> RunAnswer
+    ensures value { result ≡ run_answer (older_of (geometry_at geometry) dump.now cells.old from to before).answer }
+    ensures cells_after { cells.new ≡ (older_of (geometry_at geometry) dump.now cells.old from to before).cells }
+{
+    capi::indexed::lohenarr_add_older(dump, geometry, cells, from, to, before)
+}
+
+// The size of an object.
+#[unsafe(no_mangle)]
+pub extern "C" fn lohenarr_size(
+    dump: &[u8],
+    geometry: Geometry,
+    cells: &[u32],
+    object: u32,
+) -> SizeAnswer
+    ensures { result ≡ size_answer (size_from (geometry_at geometry) dump.now cells.now object) }
+{
+    capi::indexed::lohenarr_size(dump, geometry, cells, object)
+}
+
+// A chunk of an object.
+#[unsafe(no_mangle)]
+pub extern "C" fn lohenarr_chunk(
+    dump: &[u8],
+    geometry: Geometry,
+    cells: &[u32],
+    object: u32,
+    n: u32,
+) -> ChunkAnswer
+    ensures { result ≡ chunk_answer (chunk_from (geometry_at geometry) dump.now cells.now object n) }
+{
+    capi::indexed::lohenarr_chunk(dump, geometry, cells, object, n)
+}
+
+// A chunk of an object, read into a buffer: the valid bytes, then zeros up to the shown length. Bytes past that stay, and a refusal writes
+// nothing.
+#[unsafe(no_mangle)]
+pub extern "C" fn lohenarr_read(
+    dump: &[u8],
+    geometry: Geometry,
+    cells: &[u32],
+    object: u32,
+    n: u32,
+    buffer: &mut [u8],
+) -> ChunkAnswer
+    ensures value { result ≡ chunk_answer (read_by (length buffer.old) (chunk_from (geometry_at geometry) dump.now cells.now object n)) }
+    ensures buffer_after { buffer.new ≡ buffer_by (geometry_at geometry) dump.now buffer.old (read_by (length buffer.old) (chunk_from (geometry_at geometry) dump.now cells.now object n)) }
+{
+    capi::indexed::lohenarr_read(dump, geometry, cells, object, n, buffer)
+}
+
+// The valid bytes of a chunk of an object, as a part of the dump; an empty part for a hole or a refusal.
+#[unsafe(no_mangle)]
+pub extern "C" fn lohenarr_part(
+    dump: &[u8],
+    geometry: Geometry,
+    cells: &[u32],
+    object: u32,
+    n: u32,
+) -> PlaceAnswer
+    ensures value { result ≡ place_answer (geometry_at geometry) (length dump.now) (chunk_from (geometry_at geometry) dump.now cells.now object n) }
+    ensures dump_value { take result.length (drop result.offset dump.now) ≡ part_by (geometry_at geometry) dump.now (chunk_from (geometry_at geometry) dump.now cells.now object n) }
+{
+    capi::indexed::lohenarr_part(dump, geometry, cells, object, n)
+}
+
+// The ids of the live objects, written to words in ascending order. Words past them stay, and a refusal writes nothing.
+#[unsafe(no_mangle)]
+pub extern "C" fn lohenarr_list(
+    dump: &[u8],
+    geometry: Geometry,
+    cells: &[u32],
+    words: &mut [u32],
+) -> ListAnswer
+    ensures value { result ≡ list_answer (list_from (geometry_at geometry) dump.now cells.now (length words.old)) }
+    ensures words_after { words.new ≡ words_by (ids_from (geometry_at geometry) dump.now cells.now) words.old (list_from (geometry_at geometry) dump.now cells.now (length words.old)) }
+{
+    capi::indexed::lohenarr_list(dump, geometry, cells, words)
+}
+
+// The pages of the records of an object, written to words from the newest to the oldest. Words past them stay, and a refusal writes nothing.
+#[unsafe(no_mangle)]
+pub extern "C" fn lohenarr_records(
+    dump: &[u8],
+    geometry: Geometry,
+    cells: &[u32],
+    object: u32,
+    words: &mut [u32],
+) -> ListAnswer
+    ensures value { result ≡ list_answer (records_from (geometry_at geometry) dump.now cells.now object (length words.old)) }
+    ensures words_after { words.new ≡ words_by (pages_from (geometry_at geometry) dump.now cells.now object) words.old (records_from (geometry_at geometry) dump.now cells.now object (length words.old)) }
+{
+    capi::indexed::lohenarr_records(dump, geometry, cells, object, words)
+}
+
+// How many objects have an added record.
+#[unsafe(no_mangle)]
+pub extern "C" fn lohenarr_objects(dump: &[u8], geometry: Geometry, cells: &[u32]) -> TallyAnswer
+    ensures { result ≡ tally_answer (objects_from (geometry_at geometry) dump.now cells.now) }
+{
+    capi::indexed::lohenarr_objects(dump, geometry, cells)
+}
+
+// The chunks of a file, written to a table of two words for each: where its copy is, 0 for a hole, 1 where a link of the index is damaged
+// before a copy, and the page and 2 else; and how many of its bytes are valid. Words past the rows stay, and a refusal writes nothing.
+#[unsafe(no_mangle)]
+pub extern "C" fn lohenarr_table(
+    dump: &[u8],
+    geometry: Geometry,
+    cells: &[u32],
+    object: u32,
+    words: &mut [u32],
+) -> TableAnswer
+    ensures value { result ≡ table_answer (table_from (geometry_at geometry) dump.now cells.now object (length words.old)) }
+    ensures words_after { words.new ≡ filled_by (chunk_from (geometry_at geometry) dump.now cells.now object) words.old (table_from (geometry_at geometry) dump.now cells.now object (length words.old)) }
+{
+    capi::indexed::lohenarr_table(dump, geometry, cells, object, words)
+}
+
+// The valid bytes of the copy that a row of a table names, as a part of the dump; an empty part where it names none.
+#[unsafe(no_mangle)]
+pub extern "C" fn lohenarr_row(
+    dump: &[u8],
+    geometry: Geometry,
+    place: u32,
+    valid: u32,
+) -> PlaceAnswer
+    ensures value { result ≡ row_place (geometry_at geometry) (length dump.now) place valid }
+    ensures dump_value { take result.length (drop result.offset dump.now) ≡ row_part (geometry_at geometry) dump.now place valid }
+{
+    capi::indexed::lohenarr_row(dump, geometry, place, valid)
+}
+
+// The copies that a file shows, a row of one number for each, ascending by chunk; holes have no row. The rest of the words that were needed is
+// cleared, words past those stay, and a refusal writes nothing.
+#[unsafe(no_mangle)]
+pub extern "C" fn lohenarr_copies(
+    dump: &[u8],
+    geometry: Geometry,
+    cells: &[u32],
+    object: u32,
+    rows: &mut [u64],
+) -> CopiesAnswer
+    ensures value { result ≡ copies_answer (copied_from (geometry_at geometry) dump.now cells.now object (length rows.old)) }
+    ensures rows_after { rows.new ≡ rows_from (geometry_at geometry) dump.now cells.now object rows.old (copied_from (geometry_at geometry) dump.now cells.now object (length rows.old)) }
+{
+    capi::indexed::lohenarr_copies(dump, geometry, cells, object, rows)
+}
+
+// The copy that a row of copies tells.
+#[unsafe(no_mangle)]
+pub extern "C" fn lohenarr_copy(row: u64) -> CopyAnswer
+    ensures { result ≡ copy_answer (copy_of row) }
+{
+    capi::indexed::lohenarr_copy(row)
+}
