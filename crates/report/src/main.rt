@@ -3,14 +3,17 @@
 // says why. The status is 0 all the same, since a program has none of its own to give.
 #![tactic(auto)]
 
-ghost use Rattle.std.specs.Prelude.{◌≡◌, ◌≤◌, length};
-ghost use Rattle.io.specs.Counts.{IsPrefixLen};
+ghost use Rattle.std.specs.Prelude.{◌≡◌, ◌≤◌, length, OnOk};
+ghost use Rattle.std.specs.Io.KnownBytes.{Appends};
+ghost use Rattle.input.specs.Within.{IsPrefixLen};
 ghost use Rattle.text.specs.Whole.{written_by, bytes_by};
 ghost use Rattle.summary.specs.Report.{longest};
 ghost use Rattle.report.specs.Printed.{printed_of};
 
 use input::{Input, read_all};
 use page::refusal::Refusal;
+use std::io;
+use std::io::Write;
 use summary::report::{LONGEST, write_refusal, write_report};
 use text::written::Written;
 
@@ -44,25 +47,29 @@ fn printed_in(input: &[u8], text: &mut [u8]) -> usize
     }
 }
 
-// Says a sentence on standard error.
-fn say(sentence: &[u8]) {
-    io::write_all(2, sentence);
-}
-
-// Prints the report on an input.
-fn print_report(input: &[u8]) {
+// Writes the report on an input, whole.
+fn print_report<W: Write>(writer: &mut W, input: &[u8]) -> io::Result<()>
+    ensures { OnOk result (Appends (W.contents writer.old) (W.contents writer.new) (printed_of input.now)) }
+{
     let mut text = [0u8; LONGEST];
     let n = printed_in(input, &mut text);
-    if !io::write_all(1, &text[..n]) {
-        say(b"report: the report could not be written\n");
-    }
+    writer.write_all(&text[..n])
 }
 
-fn main() {
+// Says a sentence on standard error. Where it cannot be written, nobody is left to tell.
+fn say(rt: &impl Eprint, sentence: &str) {
+    let _ = rt.eprintln(sentence);
+}
+
+fn main(rt: HostRuntime) {
     let mut buffer = [0u8; 65537];
-    let input = read_all(0, &mut buffer);
+    let input = read_all(&mut rt.stdin(), &mut buffer);
     match input {
-        Input::Failed => say(b"report: the input could not be read\n"),
-        Input::Bytes(n) => print_report(&buffer[..n]),
+        Input::Failed => say(&rt, "report: the input could not be read"),
+        Input::Bytes(n) => {
+            if print_report(&mut rt.stdout(), &buffer[..n]).is_err() {
+                say(&rt, "report: the report could not be written");
+            }
+        }
     }
 }
