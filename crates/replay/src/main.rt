@@ -126,10 +126,8 @@ fn added_line(rt: &impl Print, a: Added) {
 
 // The lines of chunks 1 to 6 of an object.
 fn chunk_lines(rt: &impl Print, dump: &[u8], g: Geometry, cells: &[u32], o: ObjectId) {
-    let mut c: u32 = 1;
-    while c <= CHUNKS {
+    for c in 1..=CHUNKS {
         chunk_line(rt, chunk(dump, g, cells, o, ChunkNumber(c)));
-        c += 1;
     }
 }
 
@@ -150,10 +148,8 @@ fn row_line(rt: &impl Print, words: &[u32], r: u32) {
 
 // The lines of so many rows of a table.
 fn row_lines(rt: &impl Print, words: &[u32], count: u32) {
-    let mut r: u32 = 0;
-    while r < count {
+    for r in 0..count {
         row_line(rt, words, r);
-        r += 1;
     }
 }
 
@@ -177,10 +173,8 @@ fn object_lines(rt: &impl Print, dump: &[u8], g: Geometry, cells: &[u32], o: Obj
 
 // The lines of so many listed objects.
 fn listed_lines(rt: &impl Print, dump: &[u8], g: Geometry, cells: &[u32], ids: &[u32], count: u32) {
-    let mut i: u32 = 0;
-    while i < count {
+    for i in 0..count {
         object_lines(rt, dump, g, cells, ObjectId(word_at(ids, i as usize)));
-        i += 1;
     }
 }
 
@@ -196,9 +190,7 @@ fn live_lines(rt: &impl Print, dump: &[u8], g: Geometry, cells: &[u32]) {
 
 // Adds all pages, the last first, so that additions walk down the chains.
 fn add_pages(rt: &impl Print, dump: &[u8], g: Geometry, pages: u32, cells: &mut [u32]) {
-    let mut p = pages;
-    while 0 < p {
-        p -= 1;
+    for p in (0..pages).rev() {
         added_line(rt, add(dump, g, cells, PageNumber(p)));
     }
 }
@@ -214,10 +206,8 @@ fn cell_line(rt: &impl Print, cells: &[u32], p: u32) {
 
 // The lines of an index of so many pages.
 fn cell_lines(rt: &impl Print, cells: &[u32], pages: u32) {
-    let mut p: u32 = 0;
-    while p < pages {
+    for p in 0..pages {
         cell_line(rt, cells, p);
-        p += 1;
     }
 }
 

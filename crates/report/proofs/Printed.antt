@@ -1,5 +1,5 @@
 -- What the program prints is never longer than the bytes that it has for it.
-use Rattle.std.proofs.Common.{◌≡◌, ℕ, ◌<◌, ◌≤◌, List, [], ◌++◌, append-nil, length, length-append, length-take-le, take, arith, le_trans, ltb, lt-ltb, le-ltb, eq-or-lt_of_le, ◌⊎◌, inl, inr, take_at, Option, None, Some, IfSome, refl, sym, ap, subst, ◌∙◌}
+use Rattle.std.proofs.Common.{◌≡◌, ℕ, ◌<◌, ◌≤◌, List, [], ◌++◌, append-nil, length, length-append, length-take-le, take, arith, le_trans, ltb, lt-ltb, le-ltb, eq-or-lt_of_le, inl, inr, take_at, Option, None, Some, IfSome, refl, sym, ap, subst, ◌∙◌}
 use Rattle.std.specs.Io.KnownBytes.{Consumes, IsAtEnd}
 use Rattle.page.proofs.Searching.{by_test}
 use Rattle.page.specs.declared.refusal.Refusal.TheVariants.{BadLength}
