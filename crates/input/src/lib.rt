@@ -1,7 +1,10 @@
-// Input that is read whole or not at all: a read that fails is no end of input. What is read no contract can say.
+// Input that is read whole or not at all: a read that fails is no end of input. What a file or a pipe gives no contract can say; of a reader whose
+// bytes are known it says that the input is those.
 #![tactic(auto)]
 
-ghost use Rattle.input.specs.Within.{Within};
+ghost use Rattle.input.specs.Within.{Within, TakesWhole};
+
+use std::io::Read;
 
 // The input is so many bytes, or more where they fill all that was lent; or a read failed.
 #[derive(Clone, Copy)]
@@ -11,16 +14,15 @@ pub enum Input {
 }
 
 // Reads until the bytes lent are full, the input ends or a read fails. A read that a signal interrupts has failed.
-pub fn read_all(fd: i32, buf: &mut [u8]) -> Input
-    ensures { Within buf.new result }
+pub fn read_all<R: Read>(reader: &mut R, buf: &mut [u8]) -> Input
+    ensures within { Within buf.new result }
+    ensures known { TakesWhole (R.remaining reader.old) (R.remaining reader.new) buf.new result }
 {
     let mut done: usize = 0;
     while done < buf.len() {
-        let got = libc::read(fd, &mut buf[done..]);
-        if got < 0 {
+        let Ok(more) = reader.read(&mut buf[done..]) else {
             return Input::Failed;
-        }
-        let more = io::count(got, &buf[done..]);
+        };
         if more == 0 {
             return Input::Bytes(done);
         }

@@ -35,101 +35,99 @@ const ALWAYS: u32 = 300;
 // The most bytes of a name, a number and the end of a line: no name here has more than 8, and no number more than 20.
 const PART: usize = 32;
 
-// Prints a text that was put into bytes and has this end; stored output would show one that they had no room for.
-fn print(bytes: &[u8], end: usize) {
+// Prints a text that was put into bytes and has this end; stored output would show one that they had no room for. A write that fails is passed over.
+fn print(rt: &impl Print, bytes: &[u8], end: usize) {
     if end <= bytes.len() {
-        io::write_all(1, &bytes[..end]);
+        let _ = rt.write_all(&bytes[..end]);
     }
 }
 
 // A name and a number, with more to come on their line.
-fn put(name: &[u8], n: u64) {
+fn put(rt: &impl Print, name: &[u8], n: u64) {
     let mut text = [0u8; PART];
     let end = put_field(&mut text, 0, name, n);
-    print(&text, end);
+    print(rt, &text, end);
 }
 
 // A name and a number that end their line.
-fn line(name: &[u8], n: u64) {
+fn line(rt: &impl Print, name: &[u8], n: u64) {
     let mut text = [0u8; PART];
     let end = put_line(&mut text, 0, name, n);
-    print(&text, end);
+    print(rt, &text, end);
 }
 
 // The one line of a refusal.
-fn refuse(r: Refusal) {
-    line(b"refusal=", r.number() as u64);
+fn refuse(rt: &impl Print, r: Refusal) {
+    line(rt, b"refusal=", r.number() as u64);
 }
 
 // The report of a dump.
-fn report_lines(dump: &[u8], k: u32) {
+fn report_lines(rt: &impl Print, dump: &[u8], k: u32) {
     let mut text = [0u8; LONGEST];
     let written = write_report(dump, k, &mut text);
     match written {
-        Written::Bytes(n) => print(&text, n),
+        Written::Bytes(n) => print(rt, &text, n),
         Written::Short(_) => {}
     }
 }
 
 // A refusal with the records visited.
-fn refused_line(r: Refusal, visits: u32) {
-    put(b"refusal=", r.number() as u64);
-    line(b" visits=", visits as u64);
+fn refused_line(rt: &impl Print, r: Refusal, visits: u32) {
+    put(rt, b"refusal=", r.number() as u64);
+    line(rt, b" visits=", visits as u64);
 }
 
 // A refusal with the words that a short buffer needs.
-fn short_line(r: Refusal, need: u32) {
-    put(b"refusal=", r.number() as u64);
-    line(b" need=", need as u64);
+fn short_line(rt: &impl Print, r: Refusal, need: u32) {
+    put(rt, b"refusal=", r.number() as u64);
+    line(rt, b" need=", need as u64);
 }
 
 // A size with the records visited.
-fn size_line(s: Sized) {
+fn size_line(rt: &impl Print, s: Sized) {
     match s {
-        Sized::Refused(r, visits) => refused_line(r, visits),
+        Sized::Refused(r, visits) => refused_line(rt, r, visits),
         Sized::Size(n, visits) => {
-            put(b"size=", n);
-            line(b" visits=", visits as u64);
+            put(rt, b"size=", n);
+            line(rt, b" visits=", visits as u64);
         }
     }
 }
 
 // What a chunk's line says behind its place.
-fn lengths_line(valid: u32, shown: u32, visits: u32) {
-    put(b" valid=", valid as u64);
-    put(b" shown=", shown as u64);
-    line(b" visits=", visits as u64);
+fn lengths_line(rt: &impl Print, valid: u32, shown: u32, visits: u32) {
+    put(rt, b" valid=", valid as u64);
+    put(rt, b" shown=", shown as u64);
+    line(rt, b" visits=", visits as u64);
 }
 
 // A chunk's place with its lengths and the records visited.
-fn chunk_line(a: Looked) {
+fn chunk_line(rt: &impl Print, a: Looked) {
     match a {
-        Looked::Refused(r, visits, _) => refused_line(r, visits),
+        Looked::Refused(r, visits, _) => refused_line(rt, r, visits),
         Looked::Hole(shown, visits) => {
-            io::write_all(1, b"hole");
-            lengths_line(0, shown, visits);
+            print(rt, b"hole", 4);
+            lengths_line(rt, 0, shown, visits);
         }
         Looked::Copy(p, valid, shown, visits) => {
-            put(b"page=", p.0 as u64);
-            lengths_line(valid, shown, visits);
+            put(rt, b"page=", p.0 as u64);
+            lengths_line(rt, valid, shown, visits);
         }
     }
 }
 
 // A start or an addition says nothing, unless it is refused.
-fn added_line(a: Added) {
+fn added_line(rt: &impl Print, a: Added) {
     match a {
-        Added::Refused(r) => refuse(r),
+        Added::Refused(r) => refuse(rt, r),
         Added::Done => {}
     }
 }
 
 // The lines of chunks 1 to 6 of an object.
-fn chunk_lines(dump: &[u8], g: Geometry, cells: &[u32], o: ObjectId) {
-    let mut c: u32 = 1;
-    while c <= CHUNKS {
-        chunk_line(chunk(dump, g, cells, o, ChunkNumber(c)));
-        c += 1;
+fn chunk_lines(rt: &impl Print, dump: &[u8], g: Geometry, cells: &[u32], o: ObjectId) {
+    for c in 1..=CHUNKS {
+        chunk_line(rt, chunk(dump, g, cells, o, ChunkNumber(c)));
     }
 }
 
@@ -142,106 +140,98 @@ fn word_at(words: &[u32], i: usize) -> u32 {
 }
 
 // The line of a row of a table.
-fn row_line(words: &[u32], r: u32) {
+fn row_line(rt: &impl Print, words: &[u32], r: u32) {
     let i = 2 * (r as usize);
-    put(b"row=", word_at(words, i) as u64);
-    line(b"/", word_at(words, i + 1) as u64);
+    put(rt, b"row=", word_at(words, i) as u64);
+    line(rt, b"/", word_at(words, i + 1) as u64);
 }
 
 // The lines of so many rows of a table.
-fn row_lines(words: &[u32], count: u32) {
-    let mut r: u32 = 0;
-    while r < count {
-        row_line(words, r);
-        r += 1;
+fn row_lines(rt: &impl Print, words: &[u32], count: u32) {
+    for r in 0..count {
+        row_line(rt, words, r);
     }
 }
 
 // The lines of a file's table, or of its refusal where the table has more than 32 rows.
-fn table_lines(dump: &[u8], g: Geometry, cells: &[u32], o: ObjectId) {
+fn table_lines(rt: &impl Print, dump: &[u8], g: Geometry, cells: &[u32], o: ObjectId) {
     let mut words = [0u32; 64];
     let tabled = table(dump, g, cells, o, &mut words);
     match tabled {
-        Tabled::Refused(r, need) => short_line(r, need),
-        Tabled::Rows(_, count) => row_lines(&words, count),
+        Tabled::Refused(r, need) => short_line(rt, r, need),
+        Tabled::Rows(_, count) => row_lines(rt, &words, count),
     }
 }
 
 // The lines of an object.
-fn object_lines(dump: &[u8], g: Geometry, cells: &[u32], o: ObjectId) {
-    line(b"object=", o.0 as u64);
-    size_line(size(dump, g, cells, o));
-    chunk_lines(dump, g, cells, o);
-    table_lines(dump, g, cells, o);
+fn object_lines(rt: &impl Print, dump: &[u8], g: Geometry, cells: &[u32], o: ObjectId) {
+    line(rt, b"object=", o.0 as u64);
+    size_line(rt, size(dump, g, cells, o));
+    chunk_lines(rt, dump, g, cells, o);
+    table_lines(rt, dump, g, cells, o);
 }
 
 // The lines of so many listed objects.
-fn listed_lines(dump: &[u8], g: Geometry, cells: &[u32], ids: &[u32], count: u32) {
-    let mut i: u32 = 0;
-    while i < count {
-        object_lines(dump, g, cells, ObjectId(word_at(ids, i as usize)));
-        i += 1;
+fn listed_lines(rt: &impl Print, dump: &[u8], g: Geometry, cells: &[u32], ids: &[u32], count: u32) {
+    for i in 0..count {
+        object_lines(rt, dump, g, cells, ObjectId(word_at(ids, i as usize)));
     }
 }
 
 // The lines of the live objects: no more than the 124 smallest pages that the input has room for.
-fn live_lines(dump: &[u8], g: Geometry, cells: &[u32]) {
+fn live_lines(rt: &impl Print, dump: &[u8], g: Geometry, cells: &[u32]) {
     let mut ids = [0u32; 128];
     let listed = list(dump, g, cells, &mut ids);
     match listed {
-        Listed::Refused(r, need) => short_line(r, need),
-        Listed::Ids(count) => listed_lines(dump, g, cells, &ids, count),
+        Listed::Refused(r, need) => short_line(rt, r, need),
+        Listed::Ids(count) => listed_lines(rt, dump, g, cells, &ids, count),
     }
 }
 
 // Adds all pages, the last first, so that additions walk down the chains.
-fn add_pages(dump: &[u8], g: Geometry, pages: u32, cells: &mut [u32]) {
-    let mut p = pages;
-    while 0 < p {
-        p -= 1;
-        added_line(add(dump, g, cells, PageNumber(p)));
+fn add_pages(rt: &impl Print, dump: &[u8], g: Geometry, pages: u32, cells: &mut [u32]) {
+    for p in (0..pages).rev() {
+        added_line(rt, add(dump, g, cells, PageNumber(p)));
     }
 }
 
 // The line of the four words of a page in an index: its link, and three of the table of objects.
-fn cell_line(cells: &[u32], p: u32) {
+fn cell_line(rt: &impl Print, cells: &[u32], p: u32) {
     let i = link_at(PageNumber(p));
-    put(b"link=", word_at(cells, i) as u64);
-    put(b" table=", word_at(cells, i + 1) as u64);
-    put(b"/", word_at(cells, i + 2) as u64);
-    line(b"/", word_at(cells, i + 3) as u64);
+    put(rt, b"link=", word_at(cells, i) as u64);
+    put(rt, b" table=", word_at(cells, i + 1) as u64);
+    put(rt, b"/", word_at(cells, i + 2) as u64);
+    line(rt, b"/", word_at(cells, i + 3) as u64);
 }
 
 // The lines of an index of so many pages.
-fn cell_lines(cells: &[u32], pages: u32) {
-    let mut p: u32 = 0;
-    while p < pages {
-        cell_line(cells, p);
-        p += 1;
+fn cell_lines(rt: &impl Print, cells: &[u32], pages: u32) {
+    for p in 0..pages {
+        cell_line(rt, cells, p);
     }
 }
 
 // The lines of a dump whose layout was found: an index on the words lent, whatever they held, and the objects by it.
-fn dump_lines(dump: &[u8], g: Geometry, cells: &mut [u32]) {
+fn dump_lines(rt: &impl Print, dump: &[u8], g: Geometry, cells: &mut [u32]) {
     let opened = g.opened(dump.len());
     let Opened::Pages(pages) = opened else {
         return;
     };
-    added_line(start(dump, g, cells, 0));
-    add_pages(dump, g, pages, cells);
-    cell_lines(cells, pages);
-    live_lines(dump, g, cells);
-    object_lines(dump, g, cells, ObjectId(ALWAYS));
+    added_line(rt, start(dump, g, cells, 0));
+    add_pages(rt, dump, g, pages, cells);
+    cell_lines(rt, cells, pages);
+    live_lines(rt, dump, g, cells);
+    object_lines(rt, dump, g, cells, ObjectId(ALWAYS));
 }
 
 // The lines of a dump in blocks of so many pages: its report and, where its layout is found, all else.
-fn found_lines(dump: &[u8], block: u8, cells: &mut [u32]) {
+fn found_lines(rt: &impl Print, dump: &[u8], block: u8, cells: &mut [u32]) {
     let k = block as u32;
-    report_lines(dump, k);
+    report_lines(rt, dump, k);
     let found = find(dump, k);
     match found {
         Named::Refused(_) => {}
-        Named::Layout(layout) => dump_lines(dump, Geometry { layout, block: k }, cells),
+        Named::Layout(layout) => dump_lines(rt, dump, Geometry { layout, block: k }, cells),
     }
 }
 
@@ -253,7 +243,7 @@ fn length_of(a: u8, b: u8, c: u8) -> usize
 }
 
 // The lines of the first vector, and how many bytes it has: 0 where none is whole.
-fn vector_lines(input: &[u8], number: u64, cells: &mut [u32]) -> usize
+fn vector_lines(rt: &impl Print, input: &[u8], number: u64, cells: &mut [u32]) -> usize
     ensures { result ≤ length input.now }
 {
     if input.len() < AHEAD {
@@ -263,17 +253,17 @@ fn vector_lines(input: &[u8], number: u64, cells: &mut [u32]) -> usize
     if input.len() < end {
         return 0;
     }
-    line(b"vector=", number);
-    found_lines(&input[AHEAD..end], input[0], cells);
+    line(rt, b"vector=", number);
+    found_lines(rt, &input[AHEAD..end], input[0], cells);
     end
 }
 
 // The lines of all vectors.
-fn all_lines(input: &[u8], cells: &mut [u32]) {
+fn all_lines(rt: &impl Print, input: &[u8], cells: &mut [u32]) {
     let mut at: usize = 0;
     let mut number: u64 = 0;
     while at < input.len() {
-        let passed = vector_lines(&input[at..], number, cells);
+        let passed = vector_lines(rt, &input[at..], number, cells);
         if passed == 0 {
             return;
         }
@@ -283,22 +273,22 @@ fn all_lines(input: &[u8], cells: &mut [u32]) {
 }
 
 // The lines of an input.
-fn input_lines(input: &[u8]) {
+fn input_lines(rt: &impl Print, input: &[u8]) {
     if MOST < input.len() {
-        refuse(Refusal::BadLength);
+        refuse(rt, Refusal::BadLength);
         return;
     }
     let mut cells = [0u32; CELLS];
-    all_lines(input, &mut cells);
+    all_lines(rt, input, &mut cells);
 }
 
-fn main() {
+fn main(rt: HostRuntime) {
     let mut buffer = [0u8; 65537];
-    let input = read_all(0, &mut buffer);
+    let input = read_all(&mut rt.stdin(), &mut buffer);
     match input {
         Input::Failed => {
-            io::write_all(2, b"replay: the input could not be read\n");
+            let _ = rt.eprintln("replay: the input could not be read");
         }
-        Input::Bytes(n) => input_lines(&buffer[..n]),
+        Input::Bytes(n) => input_lines(&rt, &buffer[..n]),
     }
 }

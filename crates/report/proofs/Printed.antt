@@ -1,13 +1,9 @@
 -- What the program prints is never longer than the bytes that it has for it.
-use Prim.Native.Nat.{ℕ, ◌≤◌}
-use mathlib.Core.List.{List}
-use mathlib.Core.Path.{◌≡◌, ◌∙◌}
-use native.Mathlib.Nat.{le_trans}
-use lib.Dec.{ltb}
-use lib.ListN.{length}
+use Rattle.std.proofs.Common.{◌≡◌, ℕ, ◌<◌, ◌≤◌, List, [], ◌++◌, append-nil, length, length-append, length-take-le, take, arith, le_trans, ltb, lt-ltb, le-ltb, eq-or-lt_of_le, inl, inr, take_at, Option, None, Some, IfSome, refl, sym, ap, subst, ◌∙◌}
+use Rattle.std.specs.Io.KnownBytes.{Consumes, IsAtEnd}
 use Rattle.page.proofs.Searching.{by_test}
 use Rattle.page.specs.declared.refusal.Refusal.TheVariants.{BadLength}
-use Rattle.text.specs.Whole.{written_by}
+use Rattle.text.specs.Whole.{written_by, bytes_by}
 use Rattle.text.specs.declared.written.Written.{Written}
 use Rattle.text.specs.declared.written.Written.TheVariants.{Bytes}
 use Rattle.text.proofs.Writing.{fits}
@@ -24,3 +20,37 @@ printed_length input =
 pub printed_whole :
     (room : ℕ) (input : List ℕ) (w : Written) → w ≡ written_by room (printed_of input) → longest ≤ room → w ≡ Bytes (length (printed_of input))
 printed_whole room input w e h = e ∙ fits room (printed_of input) (le_trans (printed_length input) h)
+
+-- and stands in front
+pub printed_front :
+    (input before after : List ℕ) (n : ℕ) → n ≡ length (printed_of input) → after ≡ bytes_by (printed_of input) before → longest ≤ length before
+    → take n after ≡ printed_of input
+unfolding bytes_by
+printed_front input before after n e b h =
+    let room = le-ltb (length before) (length (printed_of input)) (le_trans (printed_length input) h) in
+    ap (take n) b ∙ rw room (take_at (printed_of input) _ n (sym e))
+
+-- an input that is longer than what is read is refused, however it goes on
+pub printed_longer : (input more : List ℕ) → most_read < length input → printed_of (input ++ more) ≡ printed_of input
+unfolding printed_of
+printed_longer input more h =
+    let l : most_read < length (input ++ more) = simp length-append (omega arith) in
+    rw (lt-ltb most_read (length (input ++ more)) l, lt-ltb most_read (length input) h) refl
+
+-- so what was read of a reader's bytes is reported on as all of them
+printed_read : (all rest bytes : List ℕ) (n : ℕ) → all ≡ take n bytes ++ rest → (n < length bytes → rest ≡ []) → n ≤ length bytes
+    → most_read < length bytes → printed_of (take n bytes) ≡ printed_of all
+printed_read all rest bytes n lost end within long =
+    let longer : n ≡ length bytes → most_read < length (take n bytes) = λ e. omega (arith, length-take-le n bytes within) in
+    elim (eq-or-lt_of_le within) as (λ _. printed_of (take n bytes) ≡ printed_of all) [
+      | inl e ↦ sym (ap printed_of lost ∙ printed_longer (take n bytes) rest (longer e))
+      | inr l ↦ ap printed_of (sym (lost ∙ ap (λ r. take n bytes ++ r) (end l) ∙ append-nil (take n bytes)))
+    ]
+
+pub printed_known :
+    (old new : Option (List ℕ)) (bytes : List ℕ) (n : ℕ) (P : List ℕ → Type 0)
+    → Consumes old new (take n bytes) → (n < length bytes → IsAtEnd new) → n ≤ length bytes → most_read < length bytes
+    → P (printed_of (take n bytes)) → IfSome old (λ all. P (printed_of all))
+printed_known None new bytes n P lost end within long p = tt
+printed_known (Some all) None bytes n P lost end within long p = absurd lost
+printed_known (Some all) (Some rest) bytes n P lost end within long p = subst P (printed_read all rest bytes n lost end within long) p

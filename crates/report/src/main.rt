@@ -1,16 +1,19 @@
 // The report: reads a dump of at most 65,536 bytes from standard input, in blocks of 4 pages, finds its layout and prints ten lines about it,
 // or the one line of a refusal. A dump of which a read failed is not reported on: standard output stays empty, and a sentence on standard error
-// says why. The status is 0 all the same, since a program has none of its own to give.
+// says why. The status is 0 all the same: whether standard output is empty tells.
 #![tactic(auto)]
 
-ghost use Rattle.std.specs.Prelude.{◌≡◌, ◌≤◌, length};
-ghost use Rattle.io.specs.Counts.{IsPrefixLen};
+ghost use Rattle.std.specs.Prelude.{◌≡◌, ◌≤◌, length, OnOk, IfSome, IsErrOf};
+ghost use Rattle.std.specs.Io.KnownBytes.{Appends};
+ghost use Rattle.input.specs.Within.{IsPrefixLen};
 ghost use Rattle.text.specs.Whole.{written_by, bytes_by};
 ghost use Rattle.summary.specs.Report.{longest};
 ghost use Rattle.report.specs.Printed.{printed_of};
 
 use input::{Input, read_all};
 use page::refusal::Refusal;
+use std::io;
+use std::io::{Read, Write};
 use summary::report::{LONGEST, write_refusal, write_report};
 use text::written::Written;
 
@@ -44,25 +47,51 @@ fn printed_in(input: &[u8], text: &mut [u8]) -> usize
     }
 }
 
-// Says a sentence on standard error.
-fn say(sentence: &[u8]) {
-    io::write_all(2, sentence);
-}
-
-// Prints the report on an input.
-fn print_report(input: &[u8]) {
+// Writes the report on an input, whole.
+fn print_report<W: Write>(writer: &mut W, input: &[u8]) -> io::Result<()>
+    ensures { OnOk result (Appends (W.contents writer.old) (W.contents writer.new) (printed_of input.now)) }
+{
     let mut text = [0u8; LONGEST];
     let n = printed_in(input, &mut text);
-    if !io::write_all(1, &text[..n]) {
-        say(b"report: the report could not be written\n");
+    writer.write_all(&text[..n])
+}
+
+// Why no report is printed.
+enum Failure {
+    // a read failed, and nothing was written
+    Unread,
+    // a write failed
+    Unwritten,
+}
+
+// Reads an input and writes the report on it. Where the bytes that a reader has are known, it is the report on all of them, and where a read fails
+// nothing is written.
+fn run<R: Read, W: Write>(reader: &mut R, writer: &mut W) -> Result<(), Failure>
+    ensures printed { OnOk result (IfSome (R.remaining reader.old)
+        (λ bytes. Appends (W.contents writer.old) (W.contents writer.new) (printed_of bytes))) }
+    ensures unread { IsErrOf result Failure.Unread → writer.new ≡ writer.old }
+{
+    let mut buffer = [0u8; 65537];
+    let input = read_all(reader, &mut buffer);
+    let Input::Bytes(n) = input else {
+        return Err(Failure::Unread);
+    };
+    match print_report(writer, &buffer[..n]) {
+        Ok(()) => Ok(()),
+        Err(_) => Err(Failure::Unwritten),
     }
 }
 
-fn main() {
-    let mut buffer = [0u8; 65537];
-    let input = read_all(0, &mut buffer);
-    match input {
-        Input::Failed => say(b"report: the input could not be read\n"),
-        Input::Bytes(n) => print_report(&buffer[..n]),
+// Says a sentence on standard error. Where it cannot be written, nobody is left to tell.
+fn say(rt: &impl Eprint, sentence: &str) {
+    let _ = rt.eprintln(sentence);
+}
+
+fn main(rt: HostRuntime) {
+    let ran = run(&mut rt.stdin(), &mut rt.stdout());
+    match ran {
+        Ok(()) => {}
+        Err(Failure::Unread) => say(&rt, "report: the input could not be read"),
+        Err(Failure::Unwritten) => say(&rt, "report: the report could not be written"),
     }
 }

@@ -1,11 +1,21 @@
-use Prim.Native.Nat.{◌≤◌, ◌-◌}
-use mathlib.Core.Path.{◌≡◌}
-use lib.ListN.{length, length-take}
-use borrow.Author.Rules.{rules}
+-- What a read adds is the first bytes of what is left of those lent, and the reader lost it after the others.
+use Rattle.std.proofs.Common.{rules, ◌≡◌, ℕ, ◌+◌, ◌≤◌, List, ◌++◌, length, take, sym, ap, ap₂, ◌∙◌, subst, le_refl, drop_at, length-take-le}
+use Rattle.std.proofs.lemmas.Slice.{take-put_mid_below}
+use Rattle.std.specs.Io.KnownBytes.{Consumes}
+use Rattle.std.proofs.KnownBytes.{Consumes-trans}
+use borrow.Rule.Slice.PartMut.{put_mid, post_of}
+use lib.Seq.{take-add, take-append-le}
 use Rattle.input.proofs.read_all.Goals as goal
 
-pub returns-then-more-eq0 : goal.returns-then-more-eq0
-returns-then-more-eq0 c = (search rules, simp length-take (search rules))
+take_more : (a k n : ℕ) (xs ys : List ℕ) → a ≤ length xs → n ≤ length ys → take (a + n) (put_mid a k xs ys) ≡ take a xs ++ take n ys
+take_more a k n xs ys h i =
+    let after = post_of a k xs in
+    let front = take-put_mid_below a k xs ys a (le_refl a) h in
+    let part = ap (take n) (drop_at (take a xs) (ys ++ after) a (length-take-le a xs h)) ∙ take-append-le n ys after i in
+    take-add a n (put_mid a k xs ys) ∙ ap₂ (λ u v. u ++ v) front part
 
-pub returns : goal.returns
-returns c = (search rules, simp length-take (search rules))
+pub loop-done-preserved : goal.loop-done-preserved
+loop-done-preserved g c =
+    let more = take_more c.loop-done.done _ c.in-Ok.more c.loop-done.buf c.read.new.buf c.loop-done.invariant.within c.in-Ok.ensures.bound.0 in
+    let lost = Consumes-trans _ _ _ _ _ c.loop-done.invariant.known c.in-Ok.ensures.bytes.0 in
+    record { within = search rules; kept = search rules; known = subst (Consumes _ _) (sym more) lost }
