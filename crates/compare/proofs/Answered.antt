@@ -21,7 +21,7 @@ use Rattle.compare.specs.Lists.{lists_report}
 use Rattle.compare.specs.Prepared as prepared
 use Rattle.compare.specs.Prepared.{records_in, records_of, order_of, copies_of, is_room, prepared_on, order_left, copies_left}
 use Rattle.compare.specs.Report.{whole_report}
-use Rattle.compare.specs.declared.prepare.Prepared.TheVariants.{Records, Refused}
+use Rattle.compare.specs.declared.prepare.Prepared.TheVariants.{Records}
 use Rattle.compare.proofs.Filling.{copies_length}
 use Rattle.compare.proofs.OrderWords.{order_length}
 use Rattle.compare.proofs.Reporting.{listed_good}

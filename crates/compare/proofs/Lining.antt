@@ -21,6 +21,7 @@ use Rattle.text.specs.Lines.{line_of}
 use Rattle.text.specs.Put.{most, counted, over, Put}
 use Rattle.text.specs.Quoted.{bytes_of}
 use Rattle.text.specs.Whole.{written_by, bytes_by}
+use Rattle.text.specs.declared.written.Written.{Written}
 use Rattle.text.specs.declared.written.Written.TheVariants.{Bytes, Short}
 use Rattle.text.proofs.Writing.{refused, accepted}
 use Rattle.text.proofs.Lines.{line_length}
@@ -261,13 +262,16 @@ module _ (o : ℕ) (ds : List Difference) {after : List ℕ} {next : ℕ} (p : P
       let q₁ = rw (measured p).0 at q in
       rw (object_some o ds (counted_some (length (joined lines_of ds)) (λ e. h ((measured p).1 ∙ e)))) (also q₁ s)
 
+-- what is answered of a text that is to be written whole, and what the bytes are then
+abbrev Told : (answer : Written) (text before after : List ℕ) → Type 0
+Told r text before after = record { value : r ≡ written_by (length before) text; buf_after : after ≡ bytes_by text before }
+
 -- a text that was measured and has no byte is written, whatever the bytes
-pub written_none : {text after : List ℕ} {next : ℕ} (bytes : List ℕ) → Put text [] 0 after next → next ≡ 0
-    → (Bytes 0 ≡ written_by (length bytes) text) × (after ++ bytes ≡ bytes_by text bytes)
+pub written_none : {text after : List ℕ} {next : ℕ} (bytes : List ℕ) → Put text [] 0 after next → next ≡ 0 → Told (Bytes 0) text bytes (after ++ bytes)
 unfolding written_by bytes_by
 written_none {text} {after} bytes p e =
     let z : text ≡ [] = length_none text (counted_none (length text) (sym (measured p).1 ∙ e)) in
-    (rw (z, le-ltb (length bytes) 0 zero-le), rw ((measured p).0, z, le-ltb (length bytes) 0 zero-le))
+    record { value = rw (z, le-ltb (length bytes) 0 zero-le); buf_after = rw ((measured p).0, z, le-ltb (length bytes) 0 zero-le) }
 
 -- an object's line and what differs, measured one behind the other; the line of an object is short, so that its length is counted as it is
 pub name_short : (o : ℕ) → o < 4294967296 → length (line_of (bytes_of "object=") o) ≤ 18
@@ -285,13 +289,12 @@ module _ (o : ℕ) (small : o < 4294967296) (ds : List Difference) {a b : List �
   both_empty = ((measured p).0, length_none b (kept q))
 
   -- nothing differs
-  pub written_nothing :
-      (bytes : List ℕ) → need ≡ line → (Bytes 0 ≡ written_by (length bytes) (object_lines o ds)) × (b ++ (a ++ bytes) ≡ bytes_by (object_lines o ds) bytes)
+  pub written_nothing : (bytes : List ℕ) → need ≡ line → Told (Bytes 0) (object_lines o ds) bytes (b ++ (a ++ bytes))
   unfolding written_by bytes_by counted
   written_nothing bytes e =
       let none : length (joined lines_of ds) ≡ 0 = omega (arith, q.behind, line_is, name_short o small) in
       let z = object_none o ds none in
-      (rw (z, le-ltb (length bytes) 0 zero-le), rw (both_empty.0, both_empty.1, z, le-ltb (length bytes) 0 zero-le))
+      record { value = rw (z, le-ltb (length bytes) 0 zero-le); buf_after = rw (both_empty.0, both_empty.1, z, le-ltb (length bytes) 0 zero-le) }
 
   -- something does: the whole text is measured
   pub measured_both : need ≢ line → Put (object_lines o ds) [] 0 b need
@@ -302,17 +305,17 @@ module _ (o : ℕ) (small : o < 4294967296) (ds : List Difference) {a b : List �
 
   -- it does not fit
   pub written_short :
-      (bytes : List ℕ) → need ≢ line → length (b ++ (a ++ bytes)) < need →
-      (Short need ≡ written_by (length bytes) (object_lines o ds)) × (b ++ (a ++ bytes) ≡ bytes_by (object_lines o ds) bytes)
+      (bytes : List ℕ) → need ≢ line → length (b ++ (a ++ bytes)) < need → Told (Short need) (object_lines o ds) bytes (b ++ (a ++ bytes))
   written_short bytes h k =
       let k₁ : length bytes < need = rw (both_empty.0, both_empty.1) at k in
-      rw both_empty.0 (refused bytes (measured_both h) k₁)
+      let told = refused bytes (measured_both h) k₁ in
+      record { value = told.0; buf_after = rw both_empty.0 told.1 }
 
   -- it fits, and is written behind the line
   pub written_both :
       (bytes : List ℕ) → need ≢ line → need ≤ length (b ++ (a ++ bytes)) → {c₁ c₂ : List ℕ} {m r : ℕ} →
       Put (line_of (bytes_of "object=") o) (b ++ (a ++ bytes)) 0 c₁ m → Put (joined lines_of ds) c₁ line c₂ r →
-      (Bytes need ≡ written_by (length bytes) (object_lines o ds)) × (c₂ ≡ bytes_by (object_lines o ds) bytes)
+      Told (Bytes need) (object_lines o ds) bytes c₂
   unfolding counted
   written_both bytes h k {c₁} {c₂} {m} {r} x y =
       let k₁ : need ≤ length bytes = rw (both_empty.0, both_empty.1) at k in
@@ -320,7 +323,8 @@ module _ (o : ℕ) (small : o < 4294967296) (ds : List Difference) {a b : List �
       let same : m ≡ line = x.behind ∙ omega (arith, line_is, name_short o small) in
       let x₁ = rw (both_empty.0, same) at x in
       let z : Put (object_lines o ds) (b ++ bytes) 0 c₂ r = rw (object_some o ds some) (also x₁ y) in
-      accepted bytes (measured_both h) k₁ z
+      let told = accepted bytes (measured_both h) k₁ z in
+      record { value = told.0; buf_after = told.1 }
 
 -- what differs put behind the place of the object's line, where both have room, and then the line before it
 module _ (o : ℕ) (small : o < 4294967296) (ds : List Difference) {a b : List ℕ} {line next : ℕ} (bytes : List ℕ)
@@ -346,17 +350,16 @@ module _ (o : ℕ) (small : o < 4294967296) (ds : List Difference) {a b : List �
   behind_all = q.behind ∙ omega (arith, behind_line, q.short, ap length lent)
 
   -- nothing differs: nothing was put, and nothing is written
-  pub straight_nothing : next ≡ line → (Bytes 0 ≡ written_by (length bytes) (object_lines o ds)) × (b ≡ bytes_by (object_lines o ds) bytes)
+  pub straight_nothing : next ≡ line → Told (Bytes 0) (object_lines o ds) bytes b
   unfolding written_by bytes_by over
   straight_nothing e =
       let none : length t ≡ 0 = omega (arith, behind_all, behind_line) in
       let z = object_none o ds none in
       let same : b ≡ bytes = q.holds ∙ rw (length_none t none, lent) in
-      (rw (z, le-ltb (length bytes) 0 zero-le), rw (same, z, le-ltb (length bytes) 0 zero-le))
+      record { value = rw (z, le-ltb (length bytes) 0 zero-le); buf_after = rw (same, z, le-ltb (length bytes) 0 zero-le) }
 
   -- something does: with the line in front of it the whole text is written
-  pub straight_both :
-      next ≢ line → {c : List ℕ} {m : ℕ} → Put s b 0 c m → (Bytes next ≡ written_by (length bytes) (object_lines o ds)) × (c ≡ bytes_by (object_lines o ds) bytes)
+  pub straight_both : next ≢ line → {c : List ℕ} {m : ℕ} → Put s b 0 c m → Told (Bytes next) (object_lines o ds) bytes c
   unfolding written_by bytes_by over
   straight_both h {c} x =
       let some : length t ≢ 0 = λ e. h (omega (arith, behind_all, behind_line)) in
@@ -370,4 +373,4 @@ module _ (o : ℕ) (small : o < 4294967296) (ds : List Difference) {a b : List �
       let after : c ≡ (s ++ t) ++ drop (length (s ++ t)) bytes =
       whole x (omega arith) ∙ rw (rest, all) (sym (append_assoc s t (drop (length s + length t) bytes))) in
       let fit = le-ltb (length bytes) (length (s ++ t)) (omega arith) in
-      rw (object_some o ds some) (rw (fit, behind_all, all), rw fit after)
+      rw (object_some o ds some) (record { value = rw (fit, behind_all, all); buf_after = rw fit after })

@@ -36,21 +36,23 @@ module _ (g : Geometry) (dump words rows work : List ℕ) where
   -- an answer, and what the three slices are left as
   abbrev pub Answered : Prepared → (words rows work : List ℕ) → Type 0
   Answered r words₁ rows₁ work₁ =
-      (r ≡ prepared_on g dump (length words) (length rows) (length work))
-      × ((words₁ ≡ order_left g dump words (length rows) (length work))
-      × ((rows₁ ≡ copies_left g dump rows (length words) (length work))
-      × (work₁ ≡ work_left g dump work (length words) (length rows))))
+      record {
+        value : r ≡ prepared_on g dump (length words) (length rows) (length work);
+        order_after : words₁ ≡ order_left g dump words (length rows) (length work);
+        copies_after : rows₁ ≡ copies_left g dump rows (length words) (length work);
+        work_after : work₁ ≡ work_left g dump work (length words) (length rows);
+      }
 
   -- a refused dump
   pub dump_refused : (r : Refusal) → opened_of g (length dump) ≡ opened.Refused r → Answered (Refused r 0) words rows work
   unfolding prepared_on order_left copies_left work_left
-  dump_refused r e = (rw e, (rw e, (rw e, rw e)))
+  dump_refused r e = record { value = rw e; order_after = rw e; copies_after = rw e; work_after = rw e }
 
   module _ (n : ℕ) (o : opened_of g (length dump) ≡ opened.Pages n) (k : ℕ) (c : k ≡ records_in g dump n) where
     -- too few words for the records, which are k
     pub room_refused : is_room k (length words) (length rows) (length work) ≡ false → Answered (Refused ShortBuffer k) words rows work
     unfolding prepared_on order_left copies_left work_left
-    room_refused e = let f = rw c at e in (rw (c, o, f), (rw (o, f), (rw (o, f), rw (o, f))))
+    room_refused e = let f = rw c at e in record { value = rw (c, o, f); order_after = rw (o, f); copies_after = rw (o, f); work_after = rw (o, f) }
 
     -- enough of them: what was put in the fronts of the slices, and the front of the last cleared
     pub room_enough :
@@ -61,10 +63,5 @@ module _ (g : Geometry) (dump words rows work : List ℕ) where
     unfolding prepared_on order_left copies_left work_left
     room_enough e words₁ rows₁ work₁ a la b lb d =
         let f = rw c at e in
-        let z : work_for k - 0 ≡ work_for k = omega arith in (
-          rw (c, o, f),
-          (
-            rw (o, f, ← a, la),
-            (rw (o, f, ← b, lb), rw (o, f, ← c, z, d)),
-          ),
-        )
+        let z : work_for k - 0 ≡ work_for k = omega arith in
+        record { value = rw (c, o, f); order_after = rw (o, f, ← a, la); copies_after = rw (o, f, ← b, lb); work_after = rw (o, f, ← c, z, d) }

@@ -2,12 +2,9 @@
 -- a block, decides.
 use Prim.Native.Nat.{◌≤◌, ◌-◌}
 use mathlib.Core.Path.{◌≡◌}
-use native.Mathlib.Omega.{arith}
-use borrow.Author.Rules.{rules}
 use lib.ListN.{length}
 use Rattle.compare.specs.Views.{byte_of}
-use Rattle.compare.specs.Parts.{block, differing, zeros}
-use Rattle.compare.proofs.Differing.{differing_none, differ_found, differing_on, differ_last}
+use Rattle.compare.specs.Parts.{differing, zeros}
 use Rattle.compare.proofs.bytes.any_set.Given as goal
 
 abbrev pub invariant-loop-i : goal.invariant-loop-i

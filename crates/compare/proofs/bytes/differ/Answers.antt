@@ -2,7 +2,6 @@
 use Prim.Native.Nat.{max}
 use mathlib.Core.Path.{◌≡◌, ◌∙◌, ap}
 use native.Mathlib.Omega.{arith}
-use borrow.Author.Rules.{rules}
 use lib.ListN.{length}
 use Rattle.compare.specs.Views.{byte_of}
 use Rattle.compare.specs.Differences.{differ_in}

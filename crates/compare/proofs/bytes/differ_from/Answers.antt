@@ -1,10 +1,7 @@
-use Prim.Native.Nat.{◌≤◌, ◌-◌}
-use mathlib.Core.Path.{◌≡◌, ◌∙◌}
+use mathlib.Core.Path.{◌∙◌}
 use native.Mathlib.Omega.{arith}
 use borrow.Author.Rules.{rules}
-use lib.ListN.{length}
-use Rattle.compare.specs.Views.{byte_of}
-use Rattle.compare.specs.Parts.{block, differing}
+use Rattle.compare.specs.Parts.{block}
 use Rattle.compare.proofs.Differing.{differing_none, differ_found, differing_on, differ_behind}
 use Rattle.compare.proofs.bytes.differ_from.Goals as goal
 

@@ -1,12 +1,9 @@
 -- The loop's invariant: none of the first i bytes differ. Behind the end of the shorter part zeros stand, so the longer differs there where it is set.
 use Prim.Native.Nat.{◌≤◌, ◌-◌}
-use mathlib.Core.Path.{◌≡◌, ◌∙◌}
-use native.Mathlib.Omega.{arith}
-use borrow.Author.Rules.{rules}
+use mathlib.Core.Path.{◌≡◌}
 use lib.ListN.{length}
 use Rattle.compare.specs.Views.{byte_of}
-use Rattle.compare.specs.Parts.{block, differing}
-use Rattle.compare.proofs.Differing.{differing_none, differ_found, differing_on, differ_behind}
+use Rattle.compare.specs.Parts.{differing}
 use Rattle.compare.proofs.bytes.differ_from.Given as goal
 
 abbrev pub invariant-loop-i : goal.invariant-loop-i

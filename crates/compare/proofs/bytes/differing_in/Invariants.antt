@@ -1,12 +1,8 @@
 -- The loop's invariant: the count is that of the first i bytes from the place on. So it is no more than i, and a block of 128 fits the count.
 use Prim.Native.Nat.{◌≤◌, ◌-◌}
-use mathlib.Core.Path.{◌≡◌, sym}
-use native.Mathlib.Nat.{le_antisymm}
-use native.Mathlib.Omega.{arith}
-use borrow.Author.Rules.{rules}
+use mathlib.Core.Path.{◌≡◌}
 use Rattle.compare.specs.Views.{byte_of}
 use Rattle.compare.specs.Parts.{differing}
-use Rattle.compare.proofs.Differing.{differing_none, counted, counted_le}
 use Rattle.compare.proofs.bytes.differing_in.Given as goal
 
 abbrev pub invariant-loop-i : goal.invariant-loop-i

@@ -1,6 +1,5 @@
 -- What is left behind the place, or as much as is asked for.
 use native.Mathlib.Nat.{add-sub_cancel_left}
-use borrow.Author.Rules.{rules}
 use Rattle.compare.proofs.Parting.{clipped}
 use Rattle.compare.proofs.bytes.part.Goals as goal
 

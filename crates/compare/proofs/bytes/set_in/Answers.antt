@@ -1,10 +1,9 @@
-use Prim.Native.Nat.{◌≤◌, ◌-◌}
-use mathlib.Core.Path.{◌≡◌, sym}
+use mathlib.Core.Path.{sym}
 use native.Mathlib.Nat.{le_antisymm}
 use native.Mathlib.Omega.{arith}
 use borrow.Author.Rules.{rules}
 use Rattle.compare.specs.Views.{byte_of}
-use Rattle.compare.specs.Parts.{differing, zeros}
+use Rattle.compare.specs.Parts.{zeros}
 use Rattle.compare.proofs.Differing.{differing_none, counted, counted_le}
 use Rattle.compare.proofs.bytes.set_in.Goals as goal
 

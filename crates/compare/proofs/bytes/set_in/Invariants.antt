@@ -1,13 +1,9 @@
 -- As `differing_in`, with zeros on the other side. The loop's invariant: the count is that of the first i bytes from the place on, and so no more than
 -- i.
 use Prim.Native.Nat.{◌≤◌, ◌-◌}
-use mathlib.Core.Path.{◌≡◌, sym}
-use native.Mathlib.Nat.{le_antisymm}
-use native.Mathlib.Omega.{arith}
-use borrow.Author.Rules.{rules}
+use mathlib.Core.Path.{◌≡◌}
 use Rattle.compare.specs.Views.{byte_of}
 use Rattle.compare.specs.Parts.{differing, zeros}
-use Rattle.compare.proofs.Differing.{differing_none, counted, counted_le}
 use Rattle.compare.proofs.bytes.set_in.Given as goal
 
 abbrev pub invariant-loop-i : goal.invariant-loop-i

@@ -5,7 +5,6 @@ use mathlib.Core.List.{List}
 use mathlib.Core.Path.{◌≡◌, ◌∙◌}
 use lib.ListN.{length, take, drop}
 use native.Mathlib.Omega.{arith}
-use borrow.Author.Rules.{rules}
 use Rattle.text.proofs.Putting.{nothing, kept}
 use Rattle.compare.specs.Differences.{differ_in, field_differs}
 use Rattle.compare.specs.Fields.{place_of, length_of}

@@ -1,14 +1,10 @@
-use Prim.Native.Nat.{◌≤◌, ◌-◌}
 use native.Mathlib.Nat.{le_antisymm}
 use native.Mathlib.Omega.{arith}
 use borrow.Author.Rules.{rules}
-use Rattle.text.specs.Put.{Put}
 use Rattle.text.proofs.Putting.{nothing, also, kept}
-use Rattle.compare.specs.Differences.{field, field_differs}
-use Rattle.compare.specs.Fields.{fields, place_of}
 use Rattle.compare.specs.Lines.{field_lines}
 use Rattle.compare.specs.Report.{lines_of}
-use Rattle.compare.proofs.PassedLines.{lines_to, lines_none, lines_more}
+use Rattle.compare.proofs.PassedLines.{lines_none, lines_more}
 use Rattle.compare.proofs.fields.put_fields.Goals as goal
 
 pub loop-i-init : goal.loop-i-init

@@ -1,15 +1,10 @@
 -- Field by field. The loop's invariant: the lines of those of the first i fields that differ were put.
 use Prim.Native.Nat.{◌≤◌, ◌-◌}
-use native.Mathlib.Nat.{le_antisymm}
-use native.Mathlib.Omega.{arith}
-use borrow.Author.Rules.{rules}
 use Rattle.text.specs.Put.{Put}
-use Rattle.text.proofs.Putting.{nothing, also, kept}
 use Rattle.compare.specs.Differences.{field, field_differs}
 use Rattle.compare.specs.Fields.{fields, place_of}
-use Rattle.compare.specs.Lines.{field_lines}
 use Rattle.compare.specs.Report.{lines_of}
-use Rattle.compare.proofs.PassedLines.{lines_to, lines_none, lines_more}
+use Rattle.compare.proofs.PassedLines.{lines_to}
 use Rattle.compare.proofs.fields.put_fields.Given as goal
 
 abbrev pub invariant-loop-i : goal.invariant-loop-i

@@ -1,6 +1,5 @@
 -- A page that is no data ends nowhere.
 use native.Mathlib.Omega.{arith}
-use borrow.Author.Rules.{rules}
 use Rattle.compare.proofs.head.end_after.Goals as goal
 
 pub returns-in-Other : goal.returns-in-Other

@@ -1,11 +1,5 @@
-use mathlib.Core.Path.{◌≡◌, refl, sym, ap, ◌∙◌}
-use Prim.Native.Nat.{◌-◌}
-use mathlib.Core.List.{map}
-use lib.ListN.{length, drop}
-use borrow.Author.Rules.{rules}
+use mathlib.Core.Path.{refl, sym, ap, ◌∙◌}
 use Rattle.page.specs.Records.{is_header, record_at}
-use Rattle.sort.specs.Packed.{value_of}
-use Rattle.compare.specs.Heads.{head_from}
 use Rattle.compare.proofs.Heads.{head_none, head_here, head_on_lem}
 use Rattle.compare.proofs.head.head_of.Goals as goal
 

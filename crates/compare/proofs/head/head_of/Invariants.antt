@@ -1,14 +1,12 @@
 -- The loop's invariant: what is found from the first record on is what is found from record i on, with the largest end so far. The first header ends
 -- the search; data before it adds its end.
-use mathlib.Core.Path.{◌≡◌, refl, sym, ap, ◌∙◌}
+use mathlib.Core.Path.{◌≡◌}
 use Prim.Native.Nat.{◌-◌}
 use mathlib.Core.List.{map}
 use lib.ListN.{length, drop}
-use borrow.Author.Rules.{rules}
-use Rattle.page.specs.Records.{is_header, record_at}
+use Rattle.page.specs.Records.{record_at}
 use Rattle.sort.specs.Packed.{value_of}
 use Rattle.compare.specs.Heads.{head_from}
-use Rattle.compare.proofs.Heads.{head_none, head_here, head_on_lem}
 use Rattle.compare.proofs.head.head_of.Given as goal
 
 abbrev pub invariant-loop-i : goal.invariant-loop-i

@@ -1,5 +1,4 @@
 -- By what the page is.
-use borrow.Author.Rules.{rules}
 use Rattle.compare.proofs.head.is_file.Goals as goal
 
 pub returns-in-Header : goal.returns-in-Header

@@ -1,6 +1,5 @@
 -- The newest headers and the sizes are found on both sides. What differs between the headers is put, and then what differs between the files: that is
 -- all.
-use borrow.Author.Rules.{rules}
 use Rattle.text.proofs.Putting.{also}
 use Rattle.compare.proofs.Lining.{found_both}
 use Rattle.compare.proofs.object.put_both.Goals as goal

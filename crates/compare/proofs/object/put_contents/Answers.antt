@@ -1,6 +1,5 @@
 -- Where one side is no live file nothing is compared. Of two live files the sizes are put, and then the stretches up to the smaller size.
 use native.Mathlib.Omega.{arith}
-use borrow.Author.Rules.{rules}
 use Rattle.text.proofs.Putting.{nothing, also}
 use Rattle.compare.proofs.Lining.{contents_first, contents_second, contents_both}
 use Rattle.compare.proofs.object.put_contents.Goals as goal

@@ -1,5 +1,4 @@
 -- Where one side has no words of the object, only that is told. Where both have some, what differs is.
-use borrow.Author.Rules.{rules}
 use Rattle.compare.proofs.Lining.{lines_first, lines_second}
 use Rattle.compare.proofs.object.put_differences.Goals as goal
 

@@ -1,7 +1,6 @@
 -- Where a header is missing no field is compared. Of two headers the bytes are lent from the dumps, and the fields that differ are put.
 use mathlib.Core.Path.{sym, ◌∙◌}
 use native.Mathlib.Omega.{arith}
-use borrow.Author.Rules.{rules}
 use Rattle.text.proofs.Putting.{nothing, kept}
 use Rattle.compare.specs.Heads.{page_of}
 use Rattle.compare.proofs.Lining.{fields_first, fields_second, fields_both}

@@ -1,5 +1,4 @@
 -- The lines one after the other: that the object is deleted on one side, that it has no header on one side, and the fields.
-use borrow.Author.Rules.{rules}
 use Rattle.text.proofs.Putting.{also}
 use Rattle.compare.specs.Lines.{header_lines}
 use Rattle.compare.proofs.object.put_headers.Goals as goal

@@ -1,6 +1,5 @@
 -- A line is put exactly if the two tests differ, with the number of the side on which it is so.
 use native.Mathlib.Omega.{arith}
-use borrow.Author.Rules.{rules}
 use Rattle.text.proofs.Putting.{nothing, kept}
 use Rattle.compare.proofs.object.put_side.Goals as goal
 

@@ -1,6 +1,5 @@
 -- Two lines, if the sizes differ.
 use native.Mathlib.Omega.{arith}
-use borrow.Author.Rules.{rules}
 use Rattle.text.proofs.Putting.{nothing, also}
 use Rattle.compare.proofs.Lining.{sizes_same, sizes_other}
 use Rattle.compare.proofs.object.put_sizes.Goals as goal

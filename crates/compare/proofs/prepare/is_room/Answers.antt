@@ -1,5 +1,4 @@
 -- Each test that fails makes the answer no; behind them the last one is the answer.
-use borrow.Author.Rules.{rules}
 use borrow.Author.Tests.{le-leb, lt-leb}
 use Rattle.compare.proofs.prepare.is_room.Goals as goal
 

@@ -1,6 +1,5 @@
 -- A refused dump is refused before anything else, and nothing is written; another is prepared.
 use mathlib.Core.Path.{sym, ◌∙◌}
-use borrow.Author.Rules.{rules}
 use Rattle.compare.proofs.Preparing.{dump_refused}
 use Rattle.compare.proofs.prepare.prepare.Goals as goal
 

@@ -4,8 +4,6 @@ use Prim.Native.Nat.{ℕ, ◌≤◌}
 use mathlib.Core.Bool.{true}
 use mathlib.Core.Path.{◌≡◌, sym, ap, ◌∙◌}
 use native.Mathlib.Omega.{arith}
-use borrow.Author.Rules.{rules}
-use borrow.Author.Tests.{not-true, not-false}
 use lib.ListN.{length, take, replicate}
 use lib.Seq.{length-take-le}
 use Rattle.compare.specs.Prepared.{work_for, is_room}
@@ -21,30 +19,26 @@ returns-then-not-is_room c =
     room_refused a.g a.dump.now a.order.now a.copies.now a.work.now a.pages c.requires k.result k.ensures
     (sym r.ensures ∙ c.if-not-is_room.true)
 
+-- once there is room
 enough : (w : After-work_for-room) → is_room w.count_records-records.result (length w.args.order.now) (length w.args.copies.now) (length w.args.work.now) ≡ true
-enough w = let r = w.is_room in sym r.ensures ∙ w.if-not-is_room.false
+enough w = sym w.is_room.ensures ∙ w.if-not-is_room.false
 
 -- each slice has as many words
-has : (w : After-work_for-room) → (w.count_records-records.result ≤ length w.args.order.now) × (w.count_records-records.result ≤ length w.args.copies.now) × (w.work_for-room.result ≤ length w.args.work.now)
-has w =
-    let enough : is_room w.count_records-records.result (length w.args.order.now) (length w.args.copies.now) (length w.args.work.now) ≡ true = let r = w.is_room in sym r.ensures ∙ w.if-not-is_room.false in
-    let r = room_has _ _ _ _ enough in (r.0, r.1, omega (arith, w.work_for-room.ensures, r.2))
+has : (w : After-work_for-room) →
+    (w.count_records-records.result ≤ length w.args.order.now)
+    × (w.count_records-records.result ≤ length w.args.copies.now)
+    × (w.work_for-room.result ≤ length w.args.work.now)
+has w = let r = room_has _ _ _ _ (enough w) in (r.0, r.1, omega (arith, w.work_for-room.ensures, r.2))
 
 -- so that the fronts which are lent on are so long
 order-front : (w : After-work_for-room) → length (take w.count_records-records.result w.args.order.now) ≡ w.count_records-records.result
-order-front w =
-    let has : (w.count_records-records.result ≤ length w.args.order.now) × (w.count_records-records.result ≤ length w.args.copies.now) × (w.work_for-room.result ≤ length w.args.work.now) = let enough : is_room w.count_records-records.result (length w.args.order.now) (length w.args.copies.now) (length w.args.work.now) ≡ true = let r = w.is_room in sym r.ensures ∙ w.if-not-is_room.false in let r = room_has _ _ _ _ enough in (r.0, r.1, omega (arith, w.work_for-room.ensures, r.2)) in
-    length-take-le _ w.args.order.now has.0
+order-front w = length-take-le _ w.args.order.now (has w).0
 
 copies-front : (w : After-work_for-room) → length (take w.count_records-records.result w.args.copies.now) ≡ w.count_records-records.result
-copies-front w =
-    let has : (w.count_records-records.result ≤ length w.args.order.now) × (w.count_records-records.result ≤ length w.args.copies.now) × (w.work_for-room.result ≤ length w.args.work.now) = let enough : is_room w.count_records-records.result (length w.args.order.now) (length w.args.copies.now) (length w.args.work.now) ≡ true = let r = w.is_room in sym r.ensures ∙ w.if-not-is_room.false in let r = room_has _ _ _ _ enough in (r.0, r.1, omega (arith, w.work_for-room.ensures, r.2)) in
-    length-take-le _ w.args.copies.now has.1
+copies-front w = length-take-le _ w.args.copies.now (has w).1
 
 work-front : (w : After-work_for-room) → length (take w.work_for-room.result w.args.work.now) ≡ w.work_for-room.result
-work-front w =
-    let has : (w.count_records-records.result ≤ length w.args.order.now) × (w.count_records-records.result ≤ length w.args.copies.now) × (w.work_for-room.result ≤ length w.args.work.now) = let enough : is_room w.count_records-records.result (length w.args.order.now) (length w.args.copies.now) (length w.args.work.now) ≡ true = let r = w.is_room in sym r.ensures ∙ w.if-not-is_room.false in let r = room_has _ _ _ _ enough in (r.0, r.1, omega (arith, w.work_for-room.ensures, r.2)) in
-    length-take-le _ w.args.work.now has.2
+work-front w = length-take-le _ w.args.work.now (has w).2
 
 pub fill-requires : goal.fill-requires
 fill-requires c =

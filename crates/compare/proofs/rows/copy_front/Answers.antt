@@ -1,9 +1,8 @@
-use Prim.Native.Nat.{◌≤◌, ◌-◌}
 use mathlib.Core.Path.{◌≡◌}
-use lib.ListN.{length, length-set}
+use lib.ListN.{length-set}
 use native.Mathlib.Omega.{arith}
 use borrow.Author.Rules.{rules}
-use Rattle.chunk.proofs.Laying.{laid, laid_more}
+use Rattle.chunk.proofs.Laying.{laid_more}
 use Rattle.compare.proofs.rows.copy_front.Goals as goal
 
 pub loop-i-preserved : goal.loop-i-preserved

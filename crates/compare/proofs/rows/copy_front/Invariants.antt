@@ -1,10 +1,8 @@
 -- The loop's invariant: the first i words of the part are laid over the others.
 use Prim.Native.Nat.{◌≤◌, ◌-◌}
 use mathlib.Core.Path.{◌≡◌}
-use lib.ListN.{length, length-set}
-use native.Mathlib.Omega.{arith}
-use borrow.Author.Rules.{rules}
-use Rattle.chunk.proofs.Laying.{laid, laid_more}
+use lib.ListN.{length}
+use Rattle.chunk.proofs.Laying.{laid}
 use Rattle.compare.proofs.rows.copy_front.Given as goal
 
 abbrev pub invariant-loop-i : goal.invariant-loop-i

@@ -2,11 +2,10 @@ use Prim.Native.Nat.{ℕ, ◌+◌, ◌-◌}
 use mathlib.Core.List.{List, ◌++◌}
 use mathlib.Core.Path.{◌≡◌, refl, sym, ap, ◌∙◌}
 use native.Mathlib.Omega.{arith}
-use lib.ListN.{length, take, drop}
-use borrow.Author.Rules.{rules}
+use lib.ListN.{take, drop}
 use Rattle.page.specs.Records.{record_at}
 use Rattle.compare.specs.Rows.{copies_in}
-use Rattle.compare.proofs.Filling.{part_length, Filling, Turn, fill_start, turn_at, fill_end}
+use Rattle.compare.proofs.Filling.{part_length, Turn, fill_start, turn_at, fill_end}
 use Rattle.compare.proofs.rows.fill_copies.Goals as goal
 use Rattle.compare.proofs.rows.fill_copies.Goals.{After-run_of}
 
@@ -39,7 +38,7 @@ loop-i-preserved c =
     let t = turn (goal.at.loop-i-preserved c).After-run_of in
     let r : q.i + c.run_of.result - q.i ≡ c.run_of.result = omega arith in
     let e = rw r at c.fill_run.ensures in (
-      c.work-1.given ∙ q.invariant.0,
+      c.fill_run.auto.work ∙ q.invariant.0,
       t.onward _
           (rw r
           (ap (λ (l : List ℕ). take q.i q.copies ++ (l ++ drop c.run_of.result (drop q.i q.copies)))

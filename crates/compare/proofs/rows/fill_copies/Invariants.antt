@@ -1,14 +1,9 @@
 -- The loop's invariant is `Filling`: the rows of the objects before word i are written, and those of the objects whose words begin there are to come.
 -- Each turn writes those of one object.
-use Prim.Native.Nat.{ℕ, ◌+◌, ◌-◌}
-use mathlib.Core.List.{List, ◌++◌}
-use mathlib.Core.Path.{◌≡◌, refl, sym, ap, ◌∙◌}
-use native.Mathlib.Omega.{arith}
-use lib.ListN.{length, take, drop}
-use borrow.Author.Rules.{rules}
-use Rattle.page.specs.Records.{record_at}
-use Rattle.compare.specs.Rows.{copies_in}
-use Rattle.compare.proofs.Filling.{part_length, Filling, Turn, fill_start, turn_at, fill_end}
+use Prim.Native.Nat.{◌-◌}
+use mathlib.Core.Path.{◌≡◌}
+use lib.ListN.{length}
+use Rattle.compare.proofs.Filling.{Filling}
 use Rattle.compare.proofs.rows.fill_copies.Given as goal
 
 abbrev pub invariant-loop-i : goal.invariant-loop-i

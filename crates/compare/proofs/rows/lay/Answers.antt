@@ -1,6 +1,5 @@
 -- What is copied stands in front, and all behind it is cleared.
 use mathlib.Core.Path.{refl}
-use borrow.Author.Rules.{rules}
 use Rattle.compare.proofs.Filling.{laid_cleared}
 use Rattle.compare.proofs.rows.lay.Goals as goal
 

@@ -5,9 +5,7 @@ use mathlib.Core.List.{map}
 use mathlib.Core.Path.{◌≡◌, refl, sym, ap, ◌∙◌}
 use native.Mathlib.Omega.{arith}
 use lib.ListN.{length, take, length-map}
-use borrow.Author.Rules.{rules}
 use Rattle.page.specs.Records.{record_at}
-use Rattle.page.specs.declared.record.Record.{Record}
 use Rattle.page.proofs.Searching.{clash}
 use Rattle.sort.specs.Packed.{value_of}
 use Rattle.index.specs.Held.{from_list}
@@ -55,8 +53,11 @@ returns-in-Rows c =
     let p = c.requires in
     let L = shown_by t.g t.dump.now t.list.now c.in-Bytes.z in
     let m : c.in-Rows.m ≡ length L = rows_same _ _ (sym c.in-Rows.is ∙ accepted (goal.at.returns-in-Rows c).After-copies_along-a) in
-    let few = along_few (record_at c.args.g c.args.dump.now) t.g.layout.«data» c.in-Bytes.z (map value_of t.list.now) in record { upper_bound = omega (arith, m, few, length-map t.list.now value_of); work_after = rw (found (goal.at.returns-in-Rows c).After-size-s, c.in-Bytes.is)
+    let few = along_few (record_at c.args.g c.args.dump.now) t.g.layout.«data» c.in-Bytes.z (map value_of t.list.now) in record {
+      upper_bound = omega (arith, m, few, length-map t.list.now value_of);
+      work_after = rw (found (goal.at.returns-in-Rows c).After-size-s, c.in-Bytes.is)
           (ap (take c.in-Rows.m)
           (c.copies_along-a.ensures.rows_after
           ∙ along_left_lem t.g t.dump.now t.list.now c.in-Bytes.z t.pages t.work.now p.dump_value p.list_len_bound (omega (arith, p.list_in_bounds)))
-          ∙ room_front (map packed_copy L) _ _ _ (m ∙ sym (length-map L packed_copy))) }
+          ∙ room_front (map packed_copy L) _ _ _ (m ∙ sym (length-map L packed_copy)));
+    }

@@ -1,9 +1,5 @@
-use Prim.Native.Nat.{◌+◌, ◌-◌, ◌≤◌}
-use mathlib.Core.Path.{◌≡◌, sym, ◌∙◌}
+use mathlib.Core.Path.{sym, ◌∙◌}
 use native.Mathlib.Omega.{arith}
-use lib.ListN.{length, drop}
-use borrow.Author.Rules.{rules}
-use Rattle.compare.specs.Lists.{run_of}
 use Rattle.compare.proofs.Running.{run_on, run_off, run_end}
 use Rattle.compare.proofs.runs.run_of.Goals as goal
 

@@ -1,11 +1,8 @@
 -- The loop's invariant: the words passed are of the object, and the run from the next on is the rest of it.
 use Prim.Native.Nat.{◌+◌, ◌-◌, ◌≤◌}
-use mathlib.Core.Path.{◌≡◌, sym, ◌∙◌}
-use native.Mathlib.Omega.{arith}
+use mathlib.Core.Path.{◌≡◌}
 use lib.ListN.{length, drop}
-use borrow.Author.Rules.{rules}
 use Rattle.compare.specs.Lists.{run_of}
-use Rattle.compare.proofs.Running.{run_on, run_off, run_end}
 use Rattle.compare.proofs.runs.run_of.Given as goal
 
 abbrev pub invariant-loop-i : goal.invariant-loop-i

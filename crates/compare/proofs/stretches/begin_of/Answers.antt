@@ -1,6 +1,5 @@
 -- The chunk of the row's copy has that begin.
 use mathlib.Core.Path.{◌∙◌, ap}
-use borrow.Author.Rules.{rules}
 use Rattle.chunk.specs.Records.{base_of}
 use Rattle.file.specs.declared.copy.Copy.{Copy}
 use Rattle.compare.proofs.stretches.begin_of.Goals as goal

@@ -1,5 +1,4 @@
 -- Row i is the first of the rows from i on.
-use borrow.Author.Rules.{rules}
 use Rattle.compare.proofs.Stretching.{begins_row, begins_none}
 use Rattle.compare.proofs.stretches.begins_in.Goals as goal
 

@@ -1,7 +1,6 @@
 -- The begin of the copy, and its valid bytes.
 use mathlib.Core.Path.{ap}
 use native.Mathlib.Omega.{arith}
-use borrow.Author.Rules.{rules}
 use Rattle.file.specs.declared.copy.Copy.{Copy}
 use Rattle.compare.proofs.stretches.end_of.Goals as goal
 

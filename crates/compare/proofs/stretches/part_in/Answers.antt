@@ -1,6 +1,5 @@
 -- A row that begins behind the stretch's begin shows nothing in it, and another its valid bytes from there on.
 use native.Mathlib.Omega.{arith}
-use borrow.Author.Rules.{rules}
 use Rattle.compare.proofs.Stretching.{part_before, part_within}
 use Rattle.compare.proofs.stretches.part_in.Goals as goal
 

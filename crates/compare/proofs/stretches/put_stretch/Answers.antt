@@ -1,7 +1,6 @@
 -- The two parts show what both sides have of the stretch, so they differ where that does.
 use mathlib.Core.Path.{sym, ◌∙◌}
 use native.Mathlib.Omega.{arith}
-use borrow.Author.Rules.{rules}
 use Rattle.text.proofs.Putting.{nothing}
 use Rattle.compare.proofs.Differing.{shown_differ}
 use Rattle.compare.proofs.Stretching.{line_differs, line_same}
@@ -15,4 +14,4 @@ returns-then-differ c =
 pub returns : goal.returns
 returns c =
     let e = sym (shown_differ c.part_in-a.ensures c.part_in-b.ensures) ∙ sym c.differ.ensures ∙ c.if-differ.false in
-    rw (line_same _ _ e) (nothing _ _ (omega (arith, c.well-formed.1.1.1.1.1.1.1.1.0)) (omega (arith, c.ranges.at)))
+    rw (line_same _ _ e) (nothing _ _ (omega arith) (omega arith))

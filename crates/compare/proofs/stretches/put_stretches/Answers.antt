@@ -1,12 +1,11 @@
-use Prim.Native.Nat.{◌<◌, ◌-◌, ◌*◌}
+use Prim.Native.Nat.{◌<◌, ◌*◌}
 use native.Mathlib.Nat.{le_antisymm}
 use native.Mathlib.Omega.{arith}
-use borrow.Author.Rules.{rules}
 use Rattle.text.proofs.Putting.{nothing, kept}
 use Rattle.compare.specs.Differences.{stretch, stretch_bytes}
 use Rattle.compare.specs.Report.{lines_of}
 use Rattle.compare.proofs.PassedLines.{lines_none}
-use Rattle.compare.proofs.Stretching.{begins_below, stands_first, stands_at_lem, stands_on, turn, Sofar}
+use Rattle.compare.proofs.Stretching.{begins_below, stands_first, stands_at_lem, stands_on, turn}
 use Rattle.compare.proofs.stretches.put_stretches.Goals as goal
 use Rattle.compare.proofs.stretches.put_stretches.Goals.{In-loop-k}
 
@@ -16,7 +15,7 @@ loop-k-init c =
       inside = omega arith;
       one = stands_first _ _ 0;
       other = stands_first _ _ 0;
-      put = rw (lines_none lines_of stretch _ _) (nothing _ _ (omega (arith, c.well-formed.1.1.1.1.1.1.1.0)) (omega (arith, c.ranges.at)));
+      put = rw (lines_none lines_of stretch _ _) (nothing _ _ (omega arith) (omega arith));
     }
 
 -- the stretch of a turn begins below the size

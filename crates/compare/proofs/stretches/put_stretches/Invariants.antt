@@ -1,14 +1,7 @@
 -- The loop's invariant: the lines of the stretches below k were put, and the rows that stand at stretch k are found from rows i and j on. A turn compares
 -- stretch k by the first of them, and goes on to where one of them begins.
-use Prim.Native.Nat.{◌<◌, ◌-◌, ◌*◌}
-use native.Mathlib.Nat.{le_antisymm}
-use native.Mathlib.Omega.{arith}
-use borrow.Author.Rules.{rules}
-use Rattle.text.proofs.Putting.{nothing, kept}
-use Rattle.compare.specs.Differences.{stretch, stretch_bytes}
-use Rattle.compare.specs.Report.{lines_of}
-use Rattle.compare.proofs.PassedLines.{lines_none}
-use Rattle.compare.proofs.Stretching.{begins_below, stands_first, stands_at_lem, stands_on, turn, Sofar}
+use Prim.Native.Nat.{◌-◌}
+use Rattle.compare.proofs.Stretching.{Sofar}
 use Rattle.compare.proofs.stretches.put_stretches.Given as goal
 
 abbrev pub invariant-loop-k : goal.invariant-loop-k

@@ -1,8 +1,5 @@
-use Prim.Native.Nat.{◌≤◌, ◌-◌}
-use mathlib.Core.Path.{◌≡◌, refl, sym, ◌∙◌}
+use mathlib.Core.Path.{refl, sym, ◌∙◌}
 use borrow.Author.Rules.{rules}
-use lib.ListN.{length, drop}
-use Rattle.compare.specs.Sides.{standing}
 use Rattle.compare.proofs.Stretching.{standing_next, standing_here, standing_end}
 use Rattle.compare.proofs.stretches.standing_from.Goals as goal
 

@@ -1,11 +1,9 @@
 -- The loop's invariant: of the rows from the place on, those that stand are found from row i on. A row that ends at or before the stretch is passed
 -- over; the first that does not stands, and all behind it.
 use Prim.Native.Nat.{◌≤◌, ◌-◌}
-use mathlib.Core.Path.{◌≡◌, refl, sym, ◌∙◌}
-use borrow.Author.Rules.{rules}
+use mathlib.Core.Path.{◌≡◌}
 use lib.ListN.{length, drop}
 use Rattle.compare.specs.Sides.{standing}
-use Rattle.compare.proofs.Stretching.{standing_next, standing_here, standing_end}
 use Rattle.compare.proofs.stretches.standing_from.Given as goal
 
 abbrev pub invariant-loop-i : goal.invariant-loop-i

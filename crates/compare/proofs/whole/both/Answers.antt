@@ -1,6 +1,5 @@
 -- The four cases of the definition, by what each dump is.
 use mathlib.Core.Path.{sym, ◌∙◌}
-use borrow.Author.Rules.{rules}
 use Rattle.compare.proofs.whole.both.Goals as goal
 
 pub returns-in-Pages-other : goal.returns-in-Pages-other

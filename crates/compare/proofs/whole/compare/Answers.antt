@@ -1,6 +1,5 @@
 -- Refused dumps are refused before anything else, and nothing is written.
 use mathlib.Core.Path.{sym, ◌∙◌}
-use borrow.Author.Rules.{rules}
 use Rattle.compare.specs.Answers.{compared_on, bytes_left}
 use Rattle.compare.proofs.whole.compare.Goals as goal
 

@@ -1,5 +1,4 @@
 -- By what became of the text.
-use borrow.Author.Rules.{rules}
 use Rattle.compare.proofs.whole.compared_by.Goals as goal
 
 pub returns-in-Bytes : goal.returns-in-Bytes

@@ -1,5 +1,4 @@
 -- By the numbers of both.
-use borrow.Author.Rules.{rules}
 use borrow.Author.Tests.{lt-ltb, le-ltb}
 use Rattle.compare.proofs.whole.earlier.Goals as goal
 

@@ -1,7 +1,6 @@
 -- The cases of the definition, by whether both sides are live files. A size fits a word, so that the sum does too.
 use mathlib.Core.Path.{refl}
 use native.Mathlib.Omega.{arith}
-use borrow.Author.Rules.{rules}
 use Rattle.compare.proofs.whole.most_bytes.Goals as goal
 
 pub returns-in-Nothing : goal.returns-in-Nothing
@@ -11,4 +10,4 @@ pub returns-in-Nothing-other : goal.returns-in-Nothing-other
 returns-in-Nothing-other c = rw (c.in-Nothing-other.is, c.in-Bytes.is) record { value = refl; small = tt }
 
 pub returns-in-Bytes-other : goal.returns-in-Bytes-other
-returns-in-Bytes-other c = rw (c.in-Bytes.is, c.in-Bytes-other.is) record { value = rw (c.stretches_in.ensures, c.smaller.ensures); small = (omega (arith, c.known_told-1.given), omega (arith, c.known_told-in-Bytes-1.given)) }
+returns-in-Bytes-other c = rw (c.in-Bytes.is, c.in-Bytes-other.is) record { value = rw (c.stretches_in.ensures, c.smaller.ensures); small = (omega arith, omega arith) }

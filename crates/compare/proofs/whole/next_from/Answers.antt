@@ -1,5 +1,4 @@
 -- The object, and its words in both lists.
-use borrow.Author.Rules.{rules}
 use Rattle.compare.proofs.whole.next_from.Goals as goal
 
 pub returns : goal.returns

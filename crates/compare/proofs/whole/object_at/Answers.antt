@@ -1,6 +1,5 @@
 -- The four cases of the definition, by which lists are at their end.
 use mathlib.Core.Path.{sym, ◌∙◌}
-use borrow.Author.Rules.{rules}
 use Rattle.compare.proofs.Listing.{next_none, next_first, next_second, next_both}
 use Rattle.compare.proofs.whole.object_at.Goals as goal
 

@@ -1,14 +1,14 @@
-use Prim.Native.Nat.{◌+◌, ◌-◌, ◌≤◌}
+use Prim.Native.Nat.{◌+◌, ◌≤◌}
 use native.Mathlib.Omega.{arith}
 use borrow.Author.Rules.{rules}
 use lib.ListN.{length}
 use Rattle.text.proofs.Putting.{kept}
-use Rattle.compare.proofs.Listing.{Underway, under_start, under_end, turn_by, turn_few, turn_onward}
+use Rattle.compare.proofs.Listing.{under_start, under_end, turn_by, turn_few, turn_onward}
 use Rattle.compare.proofs.whole.put_reports.Goals as goal
 use Rattle.compare.proofs.whole.put_reports.Goals.{After-next_from-t}
 
 pub loop-i-init : goal.loop-i-init
-loop-i-init c = under_start _ _ _ _ _ _ _ _ _ _ (omega (arith, c.well-formed.1.1.1.1.1.1.1.1.0)) (omega (arith, c.ranges))
+loop-i-init c = under_start _ _ _ _ _ _ _ _ _ _ (omega arith) (omega arith)
 
 there : (n : After-next_from-t) → (n.loop-i.i + n.next_from-t.result.first ≤ length n.args.order.now)
     × (n.loop-i.j + n.next_from-t.result.second ≤ length n.args.order2.now)
@@ -25,12 +25,6 @@ overflow_add-f c = let h = (there (goal.at.overflow_add-f c).After-next_from-t).
 
 pub slice_bounds-put_object-end : goal.slice_bounds-put_object-end
 slice_bounds-put_object-end c = let h = (there (goal.at.slice_bounds-put_object-end c).After-next_from-t).0 in search rules
-
-pub offset_bounds-order2-j : goal.offset_bounds-order2-j
-offset_bounds-order2-j c =
-    let h = c.loop-i.invariant.second in
-    let g = c.well-formed.1.1.1.1.1.1.0 in
-    search rules
 
 pub slice_bounds-put_object-start-in-loop-i : goal.slice_bounds-put_object-start-in-loop-i
 slice_bounds-put_object-start-in-loop-i c = let h = c.loop-i.invariant.second in search rules

@@ -1,11 +1,8 @@
 -- Object by object. The loop's invariant is `Underway`: what was put, and what the words left give, are the whole report. Each turn takes as many words
 -- from the front of both lists as are of the next object, of which one list has some: so the words left get fewer.
-use Prim.Native.Nat.{◌+◌, ◌-◌, ◌≤◌}
-use native.Mathlib.Omega.{arith}
-use borrow.Author.Rules.{rules}
+use Prim.Native.Nat.{◌+◌, ◌-◌}
 use lib.ListN.{length}
-use Rattle.text.proofs.Putting.{kept}
-use Rattle.compare.proofs.Listing.{Underway, under_start, under_end, turn_by, turn_few, turn_onward}
+use Rattle.compare.proofs.Listing.{Underway}
 use Rattle.compare.proofs.whole.put_reports.Given as goal
 
 abbrev pub invariant-loop-i : goal.invariant-loop-i

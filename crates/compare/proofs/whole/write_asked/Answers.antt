@@ -1,5 +1,4 @@
 -- Each arm of the match writes the report of its case.
-use borrow.Author.Rules.{rules}
 use Rattle.compare.proofs.whole.write_asked.Goals as goal
 
 pub returns-in-All : goal.returns-in-All

@@ -1,14 +1,13 @@
 -- The object's line and what differs are measured on no bytes, one behind the other, and written if something differs and both fit.
 use Prim.Native.Nat.{◌<◌}
 use native.Mathlib.Omega.{arith}
-use borrow.Author.Rules.{rules}
 use Rattle.compare.proofs.Lining.{written_nothing, written_short, written_both}
 use Rattle.compare.proofs.whole.write_measured.Goals as goal
 use Rattle.compare.proofs.whole.write_measured.Goals.{After-put_name-line}
 
 -- an object's number is a word
 small : (n : After-put_name-line) → n.args.o.0 < 4294967296
-small n = omega (arith, n.good.0)
+small n = omega arith
 
 pub returns-then-need-line : goal.returns-then-need-line
 returns-then-need-line c = written_nothing _ (small (goal.at.returns-then-need-line c).After-put_name-line) _ c.put_name-line.ensures c.put_differences-need.ensures _ c.if-need-line.true

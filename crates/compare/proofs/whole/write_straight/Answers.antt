@@ -2,14 +2,13 @@
 -- were, and else the line is put into its place.
 use Prim.Native.Nat.{◌<◌}
 use native.Mathlib.Omega.{arith}
-use borrow.Author.Rules.{rules}
 use Rattle.compare.proofs.Lining.{straight_nothing, straight_both}
 use Rattle.compare.proofs.whole.write_straight.Goals as goal
 use Rattle.compare.proofs.whole.write_straight.Goals.{After-put_name-line}
 
 -- an object's number is a word
 small : (n : After-put_name-line) → n.args.o.0 < 4294967296
-small n = omega (arith, n.good.0)
+small n = omega arith
 
 pub returns-then-next-line : goal.returns-then-next-line
 returns-then-next-line c = straight_nothing _ (small (goal.at.returns-then-next-line c).After-put_name-line) _ _ c.requires c.put_name-line.ensures c.put_differences-next.ensures c.if-next-line.true

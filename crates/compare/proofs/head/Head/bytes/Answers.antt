@@ -1,5 +1,4 @@
 -- The header's bytes are a copy of so many valid bytes.
-use borrow.Author.Rules.{rules}
 use Rattle.chunk.specs.Answers.{part_by}
 use Rattle.compare.proofs.head.Head.bytes.Goals as goal
 

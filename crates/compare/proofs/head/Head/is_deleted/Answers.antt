@@ -1,6 +1,5 @@
 -- By whether there is a header.
 use mathlib.Core.Path.{ap, ◌∙◌}
-use borrow.Author.Rules.{rules}
 use Rattle.chunk.specs.Records.{is_gone}
 use Rattle.compare.proofs.head.Head.is_deleted.Goals as goal
 

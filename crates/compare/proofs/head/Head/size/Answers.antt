@@ -1,7 +1,6 @@
 -- No header, no size; a header that is gone, or is of no file, no size either. Of a live file the size is the larger of what its header says and the
 -- end of the data above it.
 use mathlib.Core.Path.{ap, sym, ◌∙◌}
-use borrow.Author.Rules.{rules}
 use Rattle.chunk.specs.Records.{is_gone, is_file, file_size}
 use Rattle.compare.proofs.head.Head.size.Goals as goal
 
