@@ -1,6 +1,6 @@
 //! The calls of the proved library: each answer, each declaration, and one
-//! safe wrapper for it. They are those of `crates/capi` and of
-//! `include/lohenarr.h`; a test compares the three.
+//! safe wrapper for it. They are those of `crates/capi`, which `crates/capi_c`
+//! exports, and of `include/lohenarr.h`; a test compares them.
 //!
 //! Every call takes any bytes and numbers. A layout is its number in the
 //! table. An answer begins with the refusal's number, 0 where nothing is

@@ -1,7 +1,8 @@
 //! The answers and calls of the library are declared three times: in
 //! `crates/capi`, in `src/ffi.rs` and in `include/lohenarr.h`. All must say
-//! the same, field by field and parameter by parameter. So must the numbers that
-//! have names: those of the crates, of the host, and of the header's enums.
+//! the same, field by field and parameter by parameter. So must `crates/capi_c`,
+//! which exports each of the calls, and the numbers that have names: those of the
+//! crates, of the host, and of the header's enums.
 
 use std::collections::BTreeMap;
 use std::fs;
@@ -9,6 +10,9 @@ use std::path::{Path, PathBuf};
 
 use lohenarr::ffi::AS_IT_STANDS;
 use lohenarr::refusal;
+
+/// What stands in front of the name of a function that C calls.
+const EXPORT: &str = "#[unsafe(no_mangle)]\npub extern \"C\" fn ";
 
 /// Each answer's fields and each call's parameters and result, by name, in order.
 type Declared = BTreeMap<String, Vec<String>>;
@@ -112,12 +116,20 @@ fn rust(text: &str, calls: &str, declared: &mut Declared) {
     }
 }
 
-fn rattle() -> Declared {
+/// What a crate declares, where its calls begin so.
+fn declared_in(of_crate: &str, calls: &str) -> Declared {
     let mut declared = Declared::new();
-    for file in fs::read_dir(root().join("crates/capi/src")).unwrap() {
-        let text = read(&file.unwrap().path());
-        rust(&text, "pub extern \"C\" fn ", &mut declared);
+    let folder = root().join("crates").join(of_crate).join("src");
+    for file in fs::read_dir(folder).unwrap() {
+        rust(&read(&file.unwrap().path()), calls, &mut declared);
     }
+    declared
+}
+
+/// The answers, which are those of `capi`, and the exports.
+fn rattle() -> Declared {
+    let mut declared = declared_in("capi", "no calls here");
+    declared.extend(declared_in("capi_c", EXPORT));
     declared
 }
 
@@ -181,6 +193,11 @@ fn c() -> Declared {
         declared.insert(name.to_string(), all);
     }
     declared
+}
+
+#[test]
+fn every_call_is_exported() {
+    assert_eq!(declared_in("capi", "pub fn "), rattle());
 }
 
 #[test]
