@@ -1,5 +1,4 @@
 -- The answer and the buffer are those of the chunk's read.
-use borrow.Author.Rules.{rules}
 use Rattle.capi.proofs.alone.lohenarr_dump_read.Goals as goal
 
 pub returns : goal.returns

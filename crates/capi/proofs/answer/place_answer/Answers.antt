@@ -1,5 +1,4 @@
 -- Each arm of the match is a case of the definition.
-use borrow.Author.Rules.{rules}
 use Rattle.capi.specs.Lookups.{place_answer}
 use Rattle.capi.proofs.answer.place_answer.Goals as goal
 

@@ -1,8 +1,7 @@
 -- The page lies in the dump, so that its place fits.
 use Prim.Native.Nat.{◌+◌, ◌*◌, ◌≤◌}
 use native.Mathlib.Omega.{arith}
-use borrow.Author.Rules.{rules}
-use borrow.Author.Tests.{not-true, not-false, le-leb, lt-leb}
+use borrow.Author.Tests.{le-leb, lt-leb}
 use Rattle.page.proofs.Lengths.{page_within}
 use Rattle.capi.proofs.answer.place_of.Goals as goal
 use Rattle.capi.proofs.answer.place_of.Goals.{After-page_len}

@@ -1,5 +1,4 @@
 -- Each arm of the match is a case of the definition.
-use borrow.Author.Rules.{rules}
 use Rattle.capi.proofs.answer.run_answer.Goals as goal
 
 pub returns-in-Stopped : goal.returns-in-Stopped

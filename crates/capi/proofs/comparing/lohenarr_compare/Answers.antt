@@ -1,5 +1,4 @@
 -- The answer and the bytes are those of the call.
-use borrow.Author.Rules.{rules}
 use Rattle.capi.proofs.comparing.lohenarr_compare.Goals as goal
 
 pub returns : goal.returns

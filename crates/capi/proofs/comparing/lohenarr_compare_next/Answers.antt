@@ -1,5 +1,4 @@
 -- Field by field.
-use borrow.Author.Rules.{rules}
 use Rattle.capi.proofs.comparing.lohenarr_compare_next.Goals as goal
 
 pub returns : goal.returns

@@ -1,5 +1,4 @@
 -- The number and the cells are those of the run.
-use borrow.Author.Rules.{rules}
 use mathlib.Core.Path.{ap}
 use Rattle.index.specs.Runs.{Ran}
 use Rattle.capi.specs.Lookups.{run_answer}

@@ -1,5 +1,4 @@
 -- The answer and the words are those of the copies.
-use borrow.Author.Rules.{rules}
 use Rattle.capi.proofs.indexed.lohenarr_copies.Goals as goal
 
 pub returns : goal.returns

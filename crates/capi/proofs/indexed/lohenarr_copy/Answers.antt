@@ -1,5 +1,4 @@
 -- The answer is the copy.
-use borrow.Author.Rules.{rules}
 use Rattle.capi.proofs.indexed.lohenarr_copy.Goals as goal
 
 pub returns : goal.returns

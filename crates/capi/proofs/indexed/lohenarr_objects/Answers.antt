@@ -1,5 +1,4 @@
 -- The answer is that of the call below on the layout of that number, as plain numbers.
-use borrow.Author.Rules.{rules}
 use Rattle.capi.proofs.indexed.lohenarr_objects.Goals as goal
 
 pub returns : goal.returns

@@ -1,6 +1,5 @@
 -- A row whose first word is below 2 names no bytes; of another the part is that of the page.
 use mathlib.Core.Path.{sym}
-use borrow.Author.Rules.{rules}
 use borrow.Author.Tests.{lt-ltb, le-ltb}
 use Rattle.file.proofs.Chunks.{row_none, row_page}
 use Rattle.capi.proofs.Places.{valid_here}

@@ -1,5 +1,4 @@
 -- The number and the cells are those of the outcome.
-use borrow.Author.Rules.{rules}
 use mathlib.Core.Path.{ap}
 use Rattle.index.specs.Additions.{Outcome}
 use Rattle.capi.specs.Lookups.{added_answer}

@@ -1,5 +1,4 @@
 -- The answer and the words are those of the table.
-use borrow.Author.Rules.{rules}
 use Rattle.capi.proofs.indexed.lohenarr_table.Goals as goal
 
 pub returns : goal.returns

@@ -1,5 +1,4 @@
 -- Each arm of the match is a case of the definition.
-use borrow.Author.Rules.{rules}
 use Rattle.capi.proofs.Marks.{as_number}
 use Rattle.capi.proofs.kind.kind_fields.Goals as goal
 

@@ -1,5 +1,4 @@
 -- The layout of the number, and K as it was given.
-use borrow.Author.Rules.{rules}
 use Rattle.capi.specs.Layouts.{geometry_at}
 use Rattle.capi.proofs.layout.geometry_at.Goals as goal
 

@@ -1,6 +1,5 @@
 -- Each arm of the match is a case of the definition.
 use mathlib.Core.Path.{sym, ◌∙◌}
-use borrow.Author.Rules.{rules}
 use Rattle.page.proofs.Naming.{numbered_layout, numbered_none}
 use Rattle.capi.proofs.layout.layout_at.Goals as goal
 

@@ -1,5 +1,4 @@
 -- The answer is that of the table by number, as plain numbers.
-use borrow.Author.Rules.{rules}
 use Rattle.capi.proofs.layout.lohenarr_layout.Goals as goal
 
 pub returns : goal.returns

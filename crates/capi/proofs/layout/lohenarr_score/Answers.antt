@@ -1,5 +1,4 @@
 -- The call, on the geometry of the numbers.
-use borrow.Author.Rules.{rules}
 use Rattle.capi.proofs.layout.lohenarr_score.Goals as goal
 
 pub returns : goal.returns

@@ -1,5 +1,4 @@
 -- The answer and the words are those of the call.
-use borrow.Author.Rules.{rules}
 use Rattle.capi.proofs.reasons.lohenarr_dump_why.Goals as goal
 
 pub returns : goal.returns

@@ -1,5 +1,4 @@
 -- The answer is the span of the row.
-use borrow.Author.Rules.{rules}
 use Rattle.capi.proofs.reasons.lohenarr_span.Goals as goal
 
 pub returns : goal.returns

@@ -1,5 +1,4 @@
 -- Field by field.
-use borrow.Author.Rules.{rules}
 use Rattle.capi.proofs.reasons.span_answer.Goals as goal
 
 pub returns : goal.returns

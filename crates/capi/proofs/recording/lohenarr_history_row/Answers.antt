@@ -1,5 +1,4 @@
 -- Field by field.
-use borrow.Author.Rules.{rules}
 use Rattle.capi.proofs.recording.lohenarr_history_row.Goals as goal
 
 pub returns : goal.returns

@@ -1,5 +1,4 @@
 -- The answer is the standing that the two words tell.
-use borrow.Author.Rules.{rules}
 use Rattle.capi.proofs.recording.lohenarr_standing.Goals as goal
 
 pub returns : goal.returns

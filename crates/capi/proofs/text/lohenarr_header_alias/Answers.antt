@@ -1,5 +1,4 @@
 -- The text is at the place that the answer names.
-use borrow.Author.Rules.{rules}
 use Rattle.capi.specs.Layouts.{geometry_at}
 use Rattle.page.specs.declared.fields.Text.TheVariants.{Alias}
 use Rattle.capi.proofs.Places.{text_here}

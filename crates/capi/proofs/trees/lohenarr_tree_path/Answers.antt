@@ -1,5 +1,4 @@
 -- The answer and the bytes are those of the call.
-use borrow.Author.Rules.{rules}
 use Rattle.capi.proofs.trees.lohenarr_tree_path.Goals as goal
 
 pub returns : goal.returns
