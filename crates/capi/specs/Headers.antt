@@ -10,7 +10,7 @@ use Rattle.page.specs.declared.fields.Text.{Text}
 use Rattle.page.specs.declared.header.Headed.{Headed}
 use Rattle.page.specs.declared.header.Headed.TheVariants as headed
 use Rattle.capi.specs.declared.header.HeaderAnswer.{HeaderAnswer}
-use Rattle.capi.specs.declared.text.PartAnswer.{PartAnswer}
+use Rattle.capi.specs.declared.texts.PartAnswer.{PartAnswer}
 
 abbrev pub refused_header : ℕ → HeaderAnswer
 refused_header refusal = record {

@@ -13,5 +13,5 @@ pub mod layout;
 mod moment;
 pub mod reasons;
 pub mod recording;
-pub mod text;
+pub mod texts;
 pub mod trees;

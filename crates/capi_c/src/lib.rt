@@ -10,5 +10,5 @@ mod kind;
 mod layout;
 mod reasons;
 mod recording;
-mod text;
+mod texts;
 mod trees;

@@ -54,6 +54,7 @@ impl Cut {
 }
 
 // Where a header cuts, which is the newest or not.
+#[tactic(auto, unfolding(crate::specs::Cuts::cut_of))]
 pub fn cut_of(newest: bool, h: Header) -> Cut
     ensures { result ≡ cut_of newest (Record.Header h) }
 {

@@ -6,7 +6,7 @@ ghost use Rattle.page.specs.declared.fields.Text.TheVariants.{Name, Alias, Reser
 ghost use Rattle.capi.specs.Headers.{text_answer};
 
 use capi::layout::Geometry;
-use capi::text::PartAnswer;
+use capi::texts::PartAnswer;
 
 // The name in a header, 256 bytes.
 #[unsafe(no_mangle)]
@@ -14,7 +14,7 @@ pub extern "C" fn lohenarr_header_name(dump: &[u8], geometry: Geometry, page: u3
     ensures value { result ≡ text_answer Name (geometry_at geometry) dump.now page }
     ensures dump_value { take result.length (drop result.offset dump.now) ≡ text_at Name (geometry_at geometry) dump.now page }
 {
-    capi::text::lohenarr_header_name(dump, geometry, page)
+    capi::texts::lohenarr_header_name(dump, geometry, page)
 }
 
 // The alias in a header, 160 bytes.
@@ -23,7 +23,7 @@ pub extern "C" fn lohenarr_header_alias(dump: &[u8], geometry: Geometry, page: u
     ensures value { result ≡ text_answer Alias (geometry_at geometry) dump.now page }
     ensures dump_value { take result.length (drop result.offset dump.now) ≡ text_at Alias (geometry_at geometry) dump.now page }
 {
-    capi::text::lohenarr_header_alias(dump, geometry, page)
+    capi::texts::lohenarr_header_alias(dump, geometry, page)
 }
 
 // The reserved bytes of a header, 4 bytes.
@@ -32,5 +32,5 @@ pub extern "C" fn lohenarr_header_reserved(dump: &[u8], geometry: Geometry, page
     ensures value { result ≡ text_answer Reserved (geometry_at geometry) dump.now page }
     ensures dump_value { take result.length (drop result.offset dump.now) ≡ text_at Reserved (geometry_at geometry) dump.now page }
 {
-    capi::text::lohenarr_header_reserved(dump, geometry, page)
+    capi::texts::lohenarr_header_reserved(dump, geometry, page)
 }

@@ -2,7 +2,7 @@
 use Rattle.capi.specs.Layouts.{geometry_at}
 use Rattle.page.specs.declared.fields.Text.TheVariants.{Alias}
 use Rattle.capi.proofs.Places.{text_here}
-use Rattle.capi.proofs.text.lohenarr_header_alias.Goals as goal
+use Rattle.capi.proofs.texts.lohenarr_header_alias.Goals as goal
 
 pub returns : goal.returns
 returns c =

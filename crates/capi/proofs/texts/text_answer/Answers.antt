@@ -7,8 +7,8 @@ use Rattle.page.proofs.Lengths.{page_within}
 use Rattle.page.proofs.Sound.{text_fits}
 use Rattle.page.proofs.Texts.{headed_in}
 use Rattle.capi.specs.Headers.{text_answer}
-use Rattle.capi.proofs.text.text_answer.Goals as goal
-use Rattle.capi.proofs.text.text_answer.Goals.{After-page_len}
+use Rattle.capi.proofs.texts.text_answer.Goals as goal
+use Rattle.capi.proofs.texts.text_answer.Goals.{After-page_len}
 
 -- the page ends within the dump
 page-place : (c : After-page_len) → let a = c.args in
