@@ -5,7 +5,8 @@
 pub struct Rule {
     pub number: &'static str,
     pub says: &'static str,
-    /// The crate and the theorem in it that says what the rule means.
+    /// The crate and the theorem in it that says what the rule means, as certificates
+    /// write its name: with hyphens, where the crate has underscores.
     pub proved_in: &'static str,
     pub theorem: &'static str,
 }
@@ -62,7 +63,7 @@ mod tests {
             let (_, behind) = text.split_once(&number).expect(rule.number);
             let its = behind.split("\n- **").next().unwrap();
             let place = format!("`crates/{}/proofs/", rule.proved_in);
-            let theorem = format!("`{}`", rule.theorem);
+            let theorem = format!("`{}`", rule.theorem.replace('-', "_"));
             let is_there = its.contains(&place) && its.contains(&theorem);
             assert!(is_there, "{} {}", rule.number, rule.theorem);
         }

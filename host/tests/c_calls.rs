@@ -1,5 +1,6 @@
 //! `include/lohenarr.h`, compiled and called from C and C++ on the shelf dump W.
 
+use std::collections::BTreeSet;
 use std::env;
 use std::fs::{self, File};
 use std::mem::{offset_of, size_of};
@@ -187,7 +188,15 @@ fn cpp_calls_the_library() {
     assert_eq!(printed(program), format!("{ANSWERS}{}", places()));
 }
 
-/// The header says that it has no variables and calls memset alone.
+/// The names of the functions that the header declares.
+fn declared(header: &str) -> BTreeSet<&str> {
+    let lines = header.lines().filter(|line| line.ends_with(");"));
+    let heads = lines.map(|line| line.split_once('(').unwrap().0);
+    heads.map(|head| head.rsplit_once(' ').unwrap().1).collect()
+}
+
+/// The header says that it has no variables and calls memset alone. It exports what the
+/// header declares, and nothing else.
 #[test]
 fn the_library_stands_by_itself() {
     let mut nm = Command::new("nm");
@@ -198,7 +207,11 @@ fn the_library_stands_by_itself() {
     let symbols = symbols.lines().map(|line| line.split_whitespace());
     let symbols = symbols.filter_map(|mut words| Some((words.next()?, words.next()?)));
     let (others, own): (Vec<_>, Vec<_>) = symbols.partition(|(_, letter)| *letter == "U");
-    assert!(own.len() > 100);
+    let exported = own.iter().filter(|(_, letter)| *letter == "T");
+    let exported: BTreeSet<&str> = exported.map(|(name, _)| *name).collect();
+    let header = fs::read_to_string(Path::new(HOST).join("../include/lohenarr.h")).unwrap();
+    assert_eq!(exported, declared(&header));
+    assert!(exported.len() > 40);
     let variables = own.iter().find(|(_, letter)| !"TtRr".contains(letter));
     assert_eq!(variables, None);
     assert_eq!(others, [("memset", "U")]);
