@@ -102,7 +102,7 @@ impl Definitions {
             let inside = now
                 .clone()
                 .filter(|(_, from, is_type)| *is_type && indented > *from);
-            let marks = ["pub", "abbrev", "unfoldable"];
+            let marks = ["pub", "pattern", "abbrev", "unfoldable"];
             let mut rest = code
                 .split_whitespace()
                 .skip_while(|word| marks.contains(word));
@@ -174,6 +174,11 @@ fn believed(mut from: Vec<(File, String)>) -> BTreeMap<(File, String), usize> {
         let of = specs
             .get(&file)
             .unwrap_or_else(|| panic!("no file {file:?}"));
+        // a whole module under another name brings all that it has
+        if name == format!("Rattle.{}.specs.{}", file.0, file.1) {
+            from.extend(of.lines.keys().map(|name| (file.clone(), name.clone())));
+            continue;
+        }
         let name = of
             .within
             .get(&name)

@@ -236,9 +236,9 @@ const NUMBERS: [Numbers; 6] = [
         c_enum: "lohenarr_refusal",
         prefix: "LOHENARR_",
         file: "page/src/refusal.rt",
-        within: ("fn number(self)", "\n    }\n"),
-        name: "Refusal::",
-        number: &["=> "],
+        within: ("pub enum Refusal {", "\n}\n"),
+        name: "\n    ",
+        number: &["= "],
         others: &[("OK", 0)],
         host: ("refusal.rs", "/// Refusals that a command acts on"),
     },
@@ -246,9 +246,9 @@ const NUMBERS: [Numbers; 6] = [
         c_enum: "lohenarr_page_kind",
         prefix: "LOHENARR_KIND_",
         file: "capi/src/kind.rt",
-        within: ("fn kind_fields(", "\n}\n"),
+        within: ("fn from(answer: Result<Kind, Refusal>)", "\n    }\n"),
         name: "Kind::",
-        number: &["bare(0, ", "kind: "],
+        number: &["kind: "],
         others: &[],
         host: ("ffi.rs", "impl KindAnswer {"),
     },
@@ -266,9 +266,9 @@ const NUMBERS: [Numbers; 6] = [
         c_enum: "lohenarr_stands",
         prefix: "LOHENARR_STANDS_",
         file: "records/src/standing.rt",
-        within: ("fn kind(self)", "\n    }\n"),
-        name: "Standing::",
-        number: &["=> "],
+        within: ("pub enum Standing {", "\nimpl "),
+        name: "const ",
+        number: &["= "],
         others: &[],
         host: ("ffi.rs", "impl StandingAnswer {"),
     },
@@ -276,9 +276,9 @@ const NUMBERS: [Numbers; 6] = [
         c_enum: "lohenarr_no_path",
         prefix: "LOHENARR_TREE_",
         file: "tree/src/reason.rt",
-        within: ("fn number(self)", "\n    }\n"),
-        name: "Reason::",
-        number: &["=> "],
+        within: ("pub enum Reason {", "\n}\n"),
+        name: "\n    ",
+        number: &["= "],
         others: &[],
         host: ("ffi.rs", "impl RowAnswer {"),
     },
@@ -286,7 +286,7 @@ const NUMBERS: [Numbers; 6] = [
         c_enum: "lohenarr_place",
         prefix: "LOHENARR_PLACE_",
         file: "file/src/table.rt",
-        within: ("pub enum Tabled", "\nfn "),
+        within: ("pub type Tabled", "\npub(crate) fn "),
         name: "const ",
         number: &["= "],
         others: &[("HOLE", 0)],
@@ -331,6 +331,8 @@ impl Numbers {
     /// As the crate has them.
     fn rattle(&self) -> Numbered {
         let text = bare(&read(&root().join("crates").join(self.file)));
+        let lines = text.lines().filter(|line| !line.trim().is_empty());
+        let text = lines.collect::<Vec<_>>().join("\n");
         let (text, _) = between(&text, self.within.0, self.within.1);
         let mut all = numbered(text, self.name, self.number);
         let others = self.others.iter();

@@ -116,7 +116,7 @@ fn has(path: &str, text: &str, name: &str) -> bool {
 /// A definition, a law, a type, or a case or field of one.
 fn declares_in_antt(line: &str, name: &str) -> bool {
     let words = line.split_whitespace();
-    let words = words.skip_while(|word| ["pub", "abbrev", "unfoldable"].contains(word));
+    let words = words.skip_while(|word| ["pub", "pattern", "abbrev", "unfoldable"].contains(word));
     match words.collect::<Vec<_>>()[..] {
         ["record" | "data", first, ..] | [first, ":", ..] => first == name,
         _ => false,
@@ -129,7 +129,7 @@ fn declares_in_code(line: &str, name: &str) -> bool {
     let words = line.split_whitespace();
     let words = words.skip_while(|word| ["pub", "pub(crate)", "extern", "\"C\""].contains(word));
     match words.collect::<Vec<_>>()[..] {
-        ["fn" | "const" | "struct" | "enum" | "impl", first, ..] => {
+        ["fn" | "const" | "struct" | "enum" | "type" | "impl", first, ..] => {
             let end = |c: char| !(c.is_alphanumeric() || c == '_');
             first.split(end).next() == Some(name)
         }
@@ -208,11 +208,12 @@ fn cited_rules_are_there() {
     assert!(left.is_empty(), "no sentence became {left:?}");
 }
 
-/// README and the documents, but for the notes of landings, which tell what was.
+/// README and the documents, but for the notes of landings, which tell what was, and a
+/// patch, which names what it brings.
 fn documents() -> Vec<PathBuf> {
     let documents = fs::read_dir(root().join("docs")).unwrap();
     let documents = documents.map(|entry| entry.unwrap().path());
-    let documents = documents.filter(|path| path.is_file());
+    let documents = documents.filter(|path| path.extension().is_some_and(|end| end == "md"));
     documents.chain([root().join("README.md")]).collect()
 }
 

@@ -1,6 +1,7 @@
 -- Which number stands in which field of an answer, computed from the definitions, with values that are all different. No law says it: a field is what
 -- its definition makes it, and what C reads there is told by these lines.
 use Prim.Native.Nat.{ℕ}
+use Rattle.std.specs.Prelude.{Ok, Err}
 use mathlib.Core.Bool.{true}
 use mathlib.Core.List.{List, [], ◌∷◌, map}
 use mathlib.Core.Path.{◌≡◌, refl}
@@ -10,11 +11,7 @@ use Rattle.page.specs.Pages.{page_at}
 use Rattle.page.specs.Refusals.{refusal_number}
 use Rattle.page.specs.Search.{first_from}
 use Rattle.page.specs.Shelf.{shelf_geometry, word_bytes, tagged, header_page, data_page, blank_page, shelf_pages, dump_of, shelf}
-use Rattle.page.specs.declared.count.Counted.TheVariants as counted
-use Rattle.page.specs.declared.geometry.Opened.TheVariants as opened
-use Rattle.page.specs.declared.header.Headed.TheVariants as headed
 use Rattle.page.specs.declared.kind.Kind.TheVariants.{Blank, Foreign, Damaged, Header, Data}
-use Rattle.page.specs.declared.kind.Told.TheVariants as kind
 use Rattle.page.specs.declared.refusal.Refusal.{Refusal}
 use Rattle.page.specs.declared.refusal.Refusal.TheVariants.{
   BadLayout,
@@ -34,25 +31,23 @@ use Rattle.page.specs.declared.refusal.Refusal.TheVariants.{
   AlreadyAdded,
   NotHeader,
 }
-use Rattle.chunk.specs.declared.answer.Listed.TheVariants as listed
-use Rattle.chunk.specs.declared.answer.Looked.TheVariants as looked
-use Rattle.chunk.specs.declared.answer.Sized.TheVariants as sized
-use Rattle.chunk.specs.declared.answer.Tallied.TheVariants as tallied
+use Rattle.chunk.specs.Listed as listed
+use Rattle.chunk.specs.Looked as looked
+use Rattle.chunk.specs.Sized as sized
 use Rattle.chunk.specs.declared.moment.Moment.TheVariants.{Now, Before}
-use Rattle.index.specs.declared.additions.Added.TheVariants as added
-use Rattle.index.specs.declared.runs.Run.TheVariants as run
-use Rattle.file.specs.declared.copies.Copied.TheVariants as copied
-use Rattle.file.specs.declared.table.Tabled.TheVariants as tabled
-use Rattle.why.specs.declared.byte.Told.TheVariants as told
+use Rattle.index.specs.Run as run
+use Rattle.file.specs.Copied as copied
+use Rattle.file.specs.Tabled as tabled
+use Rattle.why.specs.Told as told
 use Rattle.why.specs.declared.reason.Reason.TheVariants as reason
-use Rattle.why.specs.declared.spans.Spanned.TheVariants as spanned
+use Rattle.why.specs.Spanned as spanned
 use Rattle.records.specs.declared.standing.Standing.TheVariants as standing
-use Rattle.records.specs.declared.written.Recorded.TheVariants as recorded
-use Rattle.tree.specs.declared.texts.Texted.TheVariants as texted
-use Rattle.tree.specs.declared.whole.Grown.TheVariants as grown
-use Rattle.compare.specs.declared.answer.Compared.TheVariants as compared
-use Rattle.compare.specs.declared.prepare.Prepared.TheVariants as prepared
-use Rattle.capi.specs.Comparing.{prepared_answer, next_answer, compared_answer}
+use Rattle.records.specs.Recorded as recorded
+use Rattle.tree.specs.Texted as texted
+use Rattle.tree.specs.Grown as grown
+use Rattle.compare.specs.Compared as compared
+use Rattle.compare.specs.Preparing as prepared
+use Rattle.capi.specs.Comparing.{prepared_answer, next_answer}
 use Rattle.capi.specs.Counts.{counts_answer}
 use Rattle.capi.specs.Headers.{header_answer, part_answer}
 use Rattle.capi.specs.Kinds.{kind_answer}
@@ -90,8 +85,8 @@ pub layout_fields :
     (geometry_at (record { layout = 2; block = 64 }) ≡ record { layout = record { «data» = 2048; spare = 64; tag = 30 }; block = 64 })
     × (layout_answer (by_number 2) ≡ record { refusal = 0; number = 2; «data» = 2048; spare = 64; tag = 30 })
     × (layout_answer (by_number 13) ≡ record { refusal = 1; number = 13; «data» = 0; spare = 0; tag = 0 })
-    × (pages_answer (opened.Pages 8) ≡ record { refusal = 0; pages = 8 })
-    × (pages_answer (opened.Refused BadLength) ≡ record { refusal = 2; pages = 0 })
+    × (pages_answer (Ok 8) ≡ record { refusal = 0; pages = 8 })
+    × (pages_answer (Err BadLength) ≡ record { refusal = 2; pages = 0 })
 unfolding geometry_at layout_at data_sizes spare_sizes tag_offsets by_number number_of_sizes has_sizes first_from
 layout_fields = (refl, refl, refl, refl, refl)
 
@@ -102,9 +97,9 @@ moment_numbers = (refl, refl, refl)
 
 -- the counts
 pub count_fields :
-    (counts_answer (counted.Counts (record { blank = 1; foreign = 2; damaged = 3; headers = 4; «data» = 5 }))
+    (counts_answer (Ok (record { blank = 1; foreign = 2; damaged = 3; headers = 4; «data» = 5 }))
     ≡ record { refusal = 0; blank = 1; foreign = 2; damaged = 3; headers = 4; «data» = 5 })
-    × (counts_answer (counted.Refused BadLayout) ≡ record { refusal = 1; blank = 0; foreign = 0; damaged = 0; headers = 0; «data» = 0 })
+    × (counts_answer (Err BadLayout) ≡ record { refusal = 1; blank = 0; foreign = 0; damaged = 0; headers = 0; «data» = 0 })
 count_fields = (refl, refl)
 
 -- the kinds
@@ -123,9 +118,9 @@ bare refusal kind = record {
 }
 
 pub kind_fields_lem :
-    (kind_answer (kind.Refused BadPage) ≡ bare 14 0) × (kind_answer (kind.Kind Blank) ≡ bare 0 1) × (kind_answer (kind.Kind Foreign) ≡ bare 0 2)
-    × (kind_answer (kind.Kind Damaged) ≡ bare 0 3)
-    × (kind_answer (kind.Kind (Header (record {
+    (kind_answer (Err BadPage) ≡ bare 14 0) × (kind_answer (Ok Blank) ≡ bare 0 1) × (kind_answer (Ok Foreign) ≡ bare 0 2)
+    × (kind_answer (Ok Damaged) ≡ bare 0 3)
+    × (kind_answer (Ok (Header (record {
       sequence = 4097;
       object = record { 0 = 257 };
       page_type = 3;
@@ -145,7 +140,7 @@ pub kind_fields_lem :
       chunk = 0;
       count = 0;
     })
-    × (kind_answer (kind.Kind (Data (record { sequence = 4097; object = record { 0 = 257 }; chunk = record { 0 = 3 }; count = 10 })))
+    × (kind_answer (Ok (Data (record { sequence = 4097; object = record { 0 = 257 }; chunk = record { 0 = 3 }; count = 10 })))
     ≡ record {
       refusal = 0;
       kind = 5;
@@ -162,7 +157,7 @@ kind_fields_lem = (refl, refl, refl, refl, refl, refl)
 
 -- the fields of a header, and where one of them that is bytes stands
 pub header_fields :
-    (header_answer (headed.Fields (record {
+    (header_answer (Ok (record {
       page_type = 1;
       parent = 2;
       unused1 = 3;
@@ -209,7 +204,7 @@ pub header_fields :
       shadowed_id = 20;
       shrink = 21;
     })
-    × (part_answer (headed.Refused NotHeader) 10 256 ≡ record { refusal = 16; offset = 0; length = 0 })
+    × (part_answer (Err NotHeader) 10 256 ≡ record { refusal = 16; offset = 0; length = 0 })
 header_fields = (refl, refl)
 
 -- lookups
@@ -236,15 +231,15 @@ place_fields = (refl, refl, refl, refl, refl, refl)
 pub list_fields :
     (list_answer (listed.Refused ShortBuffer 7) ≡ record { refusal = 11; need = 7; count = 0 })
     × (list_answer (listed.Ids 7) ≡ record { refusal = 0; need = 0; count = 7 })
-    × (tally_answer (tallied.Refused IndexDamaged) ≡ record { refusal = 13; count = 0 })
-    × (tally_answer (tallied.Count 7) ≡ record { refusal = 0; count = 7 })
+    × (tally_answer (Err IndexDamaged) ≡ record { refusal = 13; count = 0 })
+    × (tally_answer (Ok 7) ≡ record { refusal = 0; count = 7 })
     × (table_answer (tabled.Refused ShortBuffer 6) ≡ record { refusal = 11; need = 6; size = 0; rows = 0 })
     × (table_answer (tabled.Rows 1034 3) ≡ record { refusal = 0; need = 0; size = 1034; rows = 3 })
     × (copies_answer (copied.Refused ShortBuffer 4) ≡ record { refusal = 11; count = 0; size = 0; need = 4; damaged = 0 })
     × (copies_answer (copied.Rows 1034 2 true) ≡ record { refusal = 0; count = 2; size = 1034; need = 0; damaged = 1 })
     × (copy_answer (record { chunk = 3; page = 6; valid = 10 }) ≡ record { chunk = 3; page = 6; valid = 10 })
-    × (added_answer (added.Refused AlreadyAdded) ≡ 15)
-    × (added_answer added.Done ≡ 0)
+    × (added_answer (Err AlreadyAdded) ≡ 15)
+    × (added_answer (Ok tt) ≡ 0)
     × (run_answer (run.Stopped (record { 0 = 4 }) ShortIndex) ≡ record { refusal = 12; page = 4 })
     × (run_answer run.Done ≡ record { refusal = 0; page = 0 })
 list_fields = (refl, refl, refl, refl, refl, refl, refl, refl, refl, refl, refl, refl, refl)
@@ -290,6 +285,6 @@ pub compare_fields :
     (prepared_answer (prepared.Refused ShortBuffer 7) ≡ record { refusal = 11; need = 7; records = 0 })
     × (prepared_answer (prepared.Records 7) ≡ record { refusal = 0; need = 0; records = 7 })
     × (next_answer (record { object = 257; first = 7; second = 6 }) ≡ record { object = 257; first = 7; second = 6 })
-    × (compared_answer (compared.Refused ShortBuffer 90) ≡ record { refusal = 11; need = 90; length = 0 })
-    × (compared_answer (compared.Written 90) ≡ record { refusal = 0; need = 0; length = 90 })
+    × (texted_answer (compared.Refused ShortBuffer 90) ≡ record { refusal = 11; need = 90; length = 0 })
+    × (texted_answer (compared.Written 90) ≡ record { refusal = 0; need = 0; length = 90 })
 compare_fields = (refl, refl, refl, refl, refl)

@@ -1,5 +1,6 @@
 -- The fields of a header, as the exports give them.
-use Rattle.std.specs.Prelude.{ℕ, ◌+◌, ◌*◌, List}
+use Rattle.std.specs.Prelude.{ℕ, ◌+◌, ◌*◌, List, Result, Ok, Err}
+use Rattle.page.specs.declared.refusal.Refusal.{Refusal}
 use Rattle.page.specs.Refusals.{refusal_number}
 use Rattle.page.specs.Layouts.{page_len}
 use Rattle.page.specs.Headers.{text_place, text_length}
@@ -7,8 +8,6 @@ use Rattle.page.specs.Asked.{headed_of}
 use Rattle.page.specs.declared.geometry.Geometry.{Geometry}
 use Rattle.page.specs.declared.fields.Fields.{Fields}
 use Rattle.page.specs.declared.fields.Text.{Text}
-use Rattle.page.specs.declared.header.Headed.{Headed}
-use Rattle.page.specs.declared.header.Headed.TheVariants as headed
 use Rattle.capi.specs.declared.header.HeaderAnswer.{HeaderAnswer}
 use Rattle.capi.specs.declared.texts.PartAnswer.{PartAnswer}
 
@@ -64,14 +63,14 @@ fields_answer f = record {
   shrink = f.shrink;
 }
 
-abbrev pub header_answer : Headed → HeaderAnswer
-header_answer (headed.Refused r) = refused_header (refusal_number r)
-header_answer (headed.Fields f) = fields_answer f
+abbrev pub header_answer : Result Fields Refusal → HeaderAnswer
+header_answer (Err r) = refused_header (refusal_number r)
+header_answer (Ok f) = fields_answer f
 
 -- a part of the dump at a place; an empty one where the page is refused
-abbrev pub part_answer : Headed → (offset length : ℕ) → PartAnswer
-part_answer (headed.Refused r) offset length = record { refusal = refusal_number r; offset = 0; length = 0 }
-part_answer (headed.Fields f) offset length = record { refusal = 0; offset = offset; length = length }
+abbrev pub part_answer : Result Fields Refusal → (offset length : ℕ) → PartAnswer
+part_answer (Err r) offset length = record { refusal = refusal_number r; offset = 0; length = 0 }
+part_answer (Ok f) offset length = record { refusal = 0; offset = offset; length = length }
 
 -- where the field f of page i that is bytes stands in the dump
 unfoldable pub text_answer : Text → Geometry → (dump : List ℕ) (page : ℕ) → PartAnswer

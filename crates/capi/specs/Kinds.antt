@@ -1,10 +1,9 @@
 -- The kind of a page, as the exports give it: 1 blank, 2 foreign, 3 damaged, 4 header, 5 data; 0 beside a refusal.
-use Rattle.std.specs.Prelude.{ℕ, cond}
+use Rattle.std.specs.Prelude.{ℕ, cond, Result, Ok, Err}
+use Rattle.page.specs.declared.refusal.Refusal.{Refusal}
 use Rattle.page.specs.Refusals.{refusal_number}
 use Rattle.page.specs.declared.kind.Kind.{Kind}
 use Rattle.page.specs.declared.kind.Kind.TheVariants.{Blank, Foreign, Damaged, Header, Data}
-use Rattle.page.specs.declared.kind.Told.{Told}
-use Rattle.page.specs.declared.kind.Told.TheVariants as told
 use Rattle.capi.specs.declared.kind.KindAnswer.{KindAnswer}
 
 -- a refusal, or a kind that has no fields
@@ -52,6 +51,6 @@ kind_fields (Data d) = record {
   count = d.count;
 }
 
-abbrev pub kind_answer : Told → KindAnswer
-kind_answer (told.Refused r) = bare_kind (refusal_number r) 0
-kind_answer (told.Kind k) = kind_fields k
+abbrev pub kind_answer : Result Kind Refusal → KindAnswer
+kind_answer (Err r) = bare_kind (refusal_number r) 0
+kind_answer (Ok k) = kind_fields k

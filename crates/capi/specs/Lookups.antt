@@ -1,27 +1,21 @@
 -- What the lookups of an object, listings, tables, copies, counts of objects, starts and additions answer, as the exports give it.
-use Rattle.std.specs.Prelude.{ℕ, ◌-◌, ◌*◌, ◌&&◌, cond, leb, ltb}
+use Rattle.std.specs.Prelude.{ℕ, ◌-◌, ◌*◌, ◌&&◌, cond, leb, ltb, Result, Ok, Err}
+use Rattle.page.specs.declared.refusal.Refusal.{Refusal}
 use Rattle.page.specs.Choice.{pick}
 use Rattle.page.specs.Refusals.{refusal_number}
 use Rattle.page.specs.Layouts.{page_len}
 use Rattle.page.specs.Lengths.{page_in}
 use Rattle.page.specs.declared.geometry.Geometry.{Geometry}
-use Rattle.chunk.specs.declared.answer.Sized.{Sized}
-use Rattle.chunk.specs.declared.answer.Sized.TheVariants as sized
-use Rattle.chunk.specs.declared.answer.Looked.{Looked}
-use Rattle.chunk.specs.declared.answer.Looked.TheVariants as looked
-use Rattle.chunk.specs.declared.answer.Listed.{Listed}
-use Rattle.chunk.specs.declared.answer.Listed.TheVariants as listed
-use Rattle.chunk.specs.declared.answer.Tallied.{Tallied}
-use Rattle.chunk.specs.declared.answer.Tallied.TheVariants as tallied
-use Rattle.index.specs.declared.additions.Added.{Added}
-use Rattle.index.specs.declared.additions.Added.TheVariants as added
-use Rattle.index.specs.declared.runs.Run.{Run}
-use Rattle.index.specs.declared.runs.Run.TheVariants as run
-use Rattle.file.specs.declared.copies.Copied.{Copied}
-use Rattle.file.specs.declared.copies.Copied.TheVariants as copied
+use Rattle.chunk.specs.Sized.{Sized}
+use Rattle.chunk.specs.Looked.{Looked}
+use Rattle.chunk.specs.Looked as looked
+use Rattle.chunk.specs.Listed.{Listed}
+use Rattle.chunk.specs.Listed as listed
+use Rattle.index.specs.Run.{Run}
+use Rattle.index.specs.Run as run
+use Rattle.file.specs.Copied.{Copied}
 use Rattle.file.specs.declared.copy.Copy.{Copy}
-use Rattle.file.specs.declared.table.Tabled.{Tabled}
-use Rattle.file.specs.declared.table.Tabled.TheVariants as tabled
+use Rattle.file.specs.Tabled.{Tabled}
 use Rattle.capi.specs.declared.answer.SizeAnswer.{SizeAnswer}
 use Rattle.capi.specs.declared.answer.ChunkAnswer.{ChunkAnswer}
 use Rattle.capi.specs.declared.answer.PlaceAnswer.{PlaceAnswer}
@@ -33,15 +27,15 @@ use Rattle.capi.specs.declared.answer.RunAnswer.{RunAnswer}
 use Rattle.capi.specs.declared.answer.TallyAnswer.{TallyAnswer}
 
 abbrev pub size_answer : Sized → SizeAnswer
-size_answer (sized.Refused r v) = record { refusal = refusal_number r; visits = v; size = 0 }
-size_answer (sized.Size n v) = record { refusal = 0; visits = v; size = n }
+size_answer (Err e) = record { refusal = refusal_number e.answer; visits = e.visits; size = 0 }
+size_answer (Ok x) = record { refusal = 0; visits = x.visits; size = x.answer }
 
 -- a copy is marked by 1, a hole by 0
 abbrev pub chunk_answer : Looked → ChunkAnswer
-chunk_answer (looked.Refused r v n) = record {
-  refusal = refusal_number r;
-  visits = v;
-  need = n;
+chunk_answer (Err e) = record {
+  refusal = refusal_number e.answer.refusal;
+  visits = e.visits;
+  need = e.answer.need;
   copy = 0;
   page = 0;
   valid = 0;
@@ -76,7 +70,7 @@ place_of g n p valid = pick (page_in g n p && leb valid g.layout.«data») (reco
 
 -- where the valid bytes of a chunk stand; nowhere for a hole or a refusal
 unfoldable pub place_answer : Geometry → ℕ → Looked → PlaceAnswer
-place_answer g n (looked.Refused r v m) = no_place
+place_answer g n (Err e) = no_place
 place_answer g n (looked.Hole s v) = no_place
 place_answer g n (looked.Copy p a s v) = place_of g n p.0 a
 
@@ -85,31 +79,31 @@ abbrev pub row_place : Geometry → (length place valid : ℕ) → PlaceAnswer
 row_place g n place valid = pick (ltb place 2) no_place (place_of g n (place - 2) valid)
 
 abbrev pub list_answer : Listed → ListAnswer
-list_answer (listed.Refused r n) = record { refusal = refusal_number r; need = n; count = 0 }
+list_answer (Err e) = record { refusal = refusal_number e.refusal; need = e.need; count = 0 }
 list_answer (listed.Ids m) = record { refusal = 0; need = 0; count = m }
 
-abbrev pub tally_answer : Tallied → TallyAnswer
-tally_answer (tallied.Refused r) = record { refusal = refusal_number r; count = 0 }
-tally_answer (tallied.Count m) = record { refusal = 0; count = m }
+abbrev pub tally_answer : Result ℕ Refusal → TallyAnswer
+tally_answer (Err r) = record { refusal = refusal_number r; count = 0 }
+tally_answer (Ok m) = record { refusal = 0; count = m }
 
 abbrev pub table_answer : Tabled → TableAnswer
-table_answer (tabled.Refused r n) = record { refusal = refusal_number r; need = n; size = 0; rows = 0 }
-table_answer (tabled.Rows z m) = record { refusal = 0; need = 0; size = z; rows = m }
+table_answer (Err e) = record { refusal = refusal_number e.refusal; need = e.need; size = 0; rows = 0 }
+table_answer (Ok x) = record { refusal = 0; need = 0; size = x.size; rows = x.rows }
 
 -- a damaged link is marked by 1
 abbrev pub copies_answer : Copied → CopiesAnswer
-copies_answer (copied.Refused r n) = record { refusal = refusal_number r; count = 0; size = 0; need = n; damaged = 0 }
-copies_answer (copied.Rows z m d) = record { refusal = 0; count = m; size = z; need = 0; damaged = cond d 1 0 }
+copies_answer (Err e) = record { refusal = refusal_number e.refusal; count = 0; size = 0; need = e.need; damaged = 0 }
+copies_answer (Ok x) = record { refusal = 0; count = x.count; size = x.size; need = 0; damaged = cond x.damaged 1 0 }
 
 abbrev pub copy_answer : Copy → CopyAnswer
 copy_answer x = record { chunk = x.chunk; page = x.page; valid = x.valid }
 
 -- the number of a refused start or addition; 0 where it was done
-abbrev pub added_answer : Added → ℕ
-added_answer (added.Refused r) = refusal_number r
-added_answer added.Done = 0
+abbrev pub added_answer : Result Unit Refusal → ℕ
+added_answer (Err r) = refusal_number r
+added_answer (Ok tt) = 0
 
 -- how a run of additions ended
 abbrev pub run_answer : Run → RunAnswer
-run_answer (run.Stopped p r) = record { refusal = refusal_number r; page = p.0 }
+run_answer (Err e) = record { refusal = refusal_number e.refusal; page = e.page.0 }
 run_answer run.Done = record { refusal = 0; page = 0 }

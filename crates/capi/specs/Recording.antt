@@ -1,17 +1,17 @@
 -- The records of an object, as the exports give them.
-use Rattle.std.specs.Prelude.{ℕ}
+use Rattle.std.specs.Prelude.{ℕ, Err}
 use Rattle.page.specs.Refusals.{refusal_number}
 use Rattle.sort.specs.Packed.{key_of, value_of}
 use Rattle.records.specs.Rows.{kind_of, by_of, from_of, until_of}
 use Rattle.records.specs.declared.standing.Standing.{Standing}
-use Rattle.records.specs.declared.written.Recorded.{Recorded}
-use Rattle.records.specs.declared.written.Recorded.TheVariants as recorded
+use Rattle.records.specs.Recorded.{Recorded}
+use Rattle.records.specs.Recorded as recorded
 use Rattle.capi.specs.declared.recording.RecordsAnswer.{RecordsAnswer}
 use Rattle.capi.specs.declared.recording.StandingAnswer.{StandingAnswer}
 use Rattle.capi.specs.declared.recording.HistoryAnswer.{HistoryAnswer}
 
 abbrev pub records_answer : Recorded → RecordsAnswer
-records_answer (recorded.Refused r n) = record { refusal = refusal_number r; need = n; count = 0 }
+records_answer (Err e) = record { refusal = refusal_number e.refusal; need = e.need; count = 0 }
 records_answer (recorded.Records k) = record { refusal = 0; need = 0; count = k }
 
 -- the record on a page, with P data bytes to a page

@@ -1,21 +1,20 @@
 -- The tree of a dump's live objects, as the exports give it.
-use Rattle.std.specs.Prelude.{ℕ}
+use Rattle.std.specs.Prelude.{ℕ, Ok, Err}
 use Rattle.page.specs.Refusals.{refusal_number}
 use Rattle.sort.specs.Packed.{key_of, value_of}
-use Rattle.tree.specs.declared.texts.Texted.{Texted}
-use Rattle.tree.specs.declared.texts.Texted.TheVariants as texted
-use Rattle.tree.specs.declared.whole.Grown.{Grown}
-use Rattle.tree.specs.declared.whole.Grown.TheVariants as grown
+use Rattle.tree.specs.Texted.{Texted}
+use Rattle.tree.specs.Texted as texted
+use Rattle.tree.specs.Grown.{Grown}
 use Rattle.capi.specs.declared.trees.TreeAnswer.{TreeAnswer}
 use Rattle.capi.specs.declared.trees.TextAnswer.{TextAnswer}
 use Rattle.capi.specs.declared.trees.RowAnswer.{RowAnswer}
 
 abbrev pub tree_answer : Grown → TreeAnswer
-tree_answer (grown.Refused r n) = record { refusal = refusal_number r; need = n; listed = 0; others = 0 }
-tree_answer (grown.Rows a b) = record { refusal = 0; need = 0; listed = a; others = b }
+tree_answer (Err e) = record { refusal = refusal_number e.refusal; need = e.need; listed = 0; others = 0 }
+tree_answer (Ok x) = record { refusal = 0; need = 0; listed = x.listed; others = x.others }
 
 abbrev pub texted_answer : Texted → TextAnswer
-texted_answer (texted.Refused r n) = record { refusal = refusal_number r; need = n; length = 0 }
+texted_answer (Err e) = record { refusal = refusal_number e.refusal; need = e.need; length = 0 }
 texted_answer (texted.Written n) = record { refusal = 0; need = 0; length = n }
 
 abbrev pub row_answer : (row : ℕ) → RowAnswer

@@ -6,10 +6,7 @@ ghost use Rattle.chunk.specs.Answers.{size_on, chunk_on, read_by, buffer_by, par
 ghost use Rattle.chunk.specs.Lists.{list_on, live_on, words_by, live_count_on, object_count_on};
 ghost use Rattle.capi.specs.Lookups.{size_answer, chunk_answer, place_answer, list_answer, tally_answer};
 
-use crate::answer::{
-    ChunkAnswer, ListAnswer, PlaceAnswer, SizeAnswer, TallyAnswer, chunk_answer, list_answer,
-    place_answer, size_answer, tally_answer,
-};
+use crate::answer::{ChunkAnswer, ListAnswer, PlaceAnswer, SizeAnswer, TallyAnswer, place_answer};
 use crate::layout::{Geometry, geometry_at};
 use chunk::list::{list, live_count, object_count};
 use chunk::lookup::{chunk, size};
@@ -20,19 +17,20 @@ use page::number::{ChunkNumber, ObjectId};
 pub fn lohenarr_dump_size(dump: &[u8], geometry: Geometry, object: u32) -> SizeAnswer
     ensures { result ≡ size_answer (size_on (geometry_at geometry) dump.now object) }
 {
-    size_answer(size(dump, geometry_at(geometry), ObjectId(object)))
+    size(dump, geometry_at(geometry), ObjectId(object)).into()
 }
 
 // A chunk of an object.
 pub fn lohenarr_dump_chunk(dump: &[u8], geometry: Geometry, object: u32, n: u32) -> ChunkAnswer
     ensures { result ≡ chunk_answer (chunk_on (geometry_at geometry) dump.now object n) }
 {
-    chunk_answer(chunk(
+    chunk(
         dump,
         geometry_at(geometry),
         ObjectId(object),
         ChunkNumber(n),
-    ))
+    )
+    .into()
 }
 
 // A chunk of an object, read into a buffer: the valid bytes, then zeros up to the shown length. Bytes past that stay, and a refusal writes
@@ -47,13 +45,14 @@ pub fn lohenarr_dump_read(
     ensures value { result ≡ chunk_answer (read_by (length buffer.old) (chunk_on (geometry_at geometry) dump.now object n)) }
     ensures buffer_after { buffer.new ≡ buffer_by (geometry_at geometry) dump.now buffer.old (read_by (length buffer.old) (chunk_on (geometry_at geometry) dump.now object n)) }
 {
-    chunk_answer(read(
+    read(
         dump,
         geometry_at(geometry),
         ObjectId(object),
         ChunkNumber(n),
         buffer,
-    ))
+    )
+    .into()
 }
 
 // The valid bytes of a chunk of an object, as a part of the dump; an empty part for a hole or a refusal.
@@ -74,19 +73,19 @@ pub fn lohenarr_dump_list(dump: &[u8], geometry: Geometry, words: &mut [u32]) ->
     ensures value { result ≡ list_answer (list_on (geometry_at geometry) dump.now (length words.old)) }
     ensures words_after { words.new ≡ words_by (live_on (geometry_at geometry) dump.now) words.old (list_on (geometry_at geometry) dump.now (length words.old)) }
 {
-    list_answer(list(dump, geometry_at(geometry), words))
+    list(dump, geometry_at(geometry), words).into()
 }
 
 // How many objects are live.
 pub fn lohenarr_dump_live(dump: &[u8], geometry: Geometry) -> TallyAnswer
     ensures { result ≡ tally_answer (live_count_on (geometry_at geometry) dump.now) }
 {
-    tally_answer(live_count(dump, geometry_at(geometry)))
+    live_count(dump, geometry_at(geometry)).into()
 }
 
 // How many objects have records.
 pub fn lohenarr_dump_objects(dump: &[u8], geometry: Geometry) -> TallyAnswer
     ensures { result ≡ tally_answer (object_count_on (geometry_at geometry) dump.now) }
 {
-    tally_answer(object_count(dump, geometry_at(geometry)))
+    object_count(dump, geometry_at(geometry)).into()
 }

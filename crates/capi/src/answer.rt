@@ -2,18 +2,18 @@
 ghost use Rattle.std.specs.Prelude.{◌≡◌};
 ghost use Rattle.capi.specs.Lookups.{size_answer, chunk_answer, place_of, place_answer, list_answer, tally_answer, table_answer, copies_answer, copy_answer, added_answer, run_answer};
 
-use chunk::answer::{Listed, Looked, Sized, Tallied};
+use chunk::answer::{Chunk, Listed, Looked, Sized};
 use file::copies::Copied;
 use file::copy::Copy;
 use file::table::Tabled;
-use index::additions::Added;
 use index::runs::Run;
 use page::geometry::Geometry;
 use page::number::PageNumber;
+use page::refusal::Refusal;
 
 // The size of a file, and the records visited.
 #[repr(C)]
-#[derive(Clone, Copy)]
+#[derive(Clone, Copy, Default)]
 pub struct SizeAnswer {
     pub refusal: u32,
     pub visits: u32,
@@ -23,7 +23,7 @@ pub struct SizeAnswer {
 // A chunk of a file: 1 in `copy` and the page that holds it, or a hole; the valid and the shown length. Beside ShortBuffer `need` is the
 // length needed, and 0 else.
 #[repr(C)]
-#[derive(Clone, Copy)]
+#[derive(Clone, Copy, Default)]
 pub struct ChunkAnswer {
     pub refusal: u32,
     pub visits: u32,
@@ -36,7 +36,7 @@ pub struct ChunkAnswer {
 
 // A part of the dump: where it begins and how long it is. An empty one is at 0.
 #[repr(C)]
-#[derive(Clone, Copy)]
+#[derive(Clone, Copy, Default)]
 pub struct PlaceAnswer {
     pub offset: usize,
     pub length: usize,
@@ -44,7 +44,7 @@ pub struct PlaceAnswer {
 
 // How many ids a listing wrote. Beside ShortBuffer `need` is how many words it needs, and 0 else.
 #[repr(C)]
-#[derive(Clone, Copy)]
+#[derive(Clone, Copy, Default)]
 pub struct ListAnswer {
     pub refusal: u32,
     pub need: u32,
@@ -53,7 +53,7 @@ pub struct ListAnswer {
 
 // The size of a file and how many rows its table has. Beside ShortBuffer `need` is how many words it needs, and 0 else.
 #[repr(C)]
-#[derive(Clone, Copy)]
+#[derive(Clone, Copy, Default)]
 pub struct TableAnswer {
     pub refusal: u32,
     pub need: u32,
@@ -64,7 +64,7 @@ pub struct TableAnswer {
 // The size of a file and how many rows its copies are; 1 in `damaged` if a damaged link keeps one of its chunks from being found. Beside
 // ShortBuffer `need` is how many words it needs, and 0 else.
 #[repr(C)]
-#[derive(Clone, Copy)]
+#[derive(Clone, Copy, Default)]
 pub struct CopiesAnswer {
     pub refusal: u32,
     pub count: u32,
@@ -75,7 +75,7 @@ pub struct CopiesAnswer {
 
 // The copy of a chunk: the page that holds it, and how many of its bytes are valid.
 #[repr(C)]
-#[derive(Clone, Copy)]
+#[derive(Clone, Copy, Default)]
 pub struct CopyAnswer {
     pub chunk: u32,
     pub page: u32,
@@ -84,7 +84,7 @@ pub struct CopyAnswer {
 
 // How a run of additions ended: with 0 all were done, else the addition of this page was refused, and those before it stand.
 #[repr(C)]
-#[derive(Clone, Copy)]
+#[derive(Clone, Copy, Default)]
 pub struct RunAnswer {
     pub refusal: u32,
     pub page: u32,
@@ -92,60 +92,60 @@ pub struct RunAnswer {
 
 // A number of objects.
 #[repr(C)]
-#[derive(Clone, Copy)]
+#[derive(Clone, Copy, Default)]
 pub struct TallyAnswer {
     pub refusal: u32,
     pub count: u32,
 }
 
-pub(crate) fn size_answer(s: Sized) -> SizeAnswer
-    ensures { result ≡ size_answer s }
-{
-    match s {
-        Sized::Refused(r, visits) => SizeAnswer {
-            refusal: r.number(),
-            visits,
-            size: 0,
-        },
-        Sized::Size(size, visits) => SizeAnswer {
-            refusal: 0,
-            visits,
-            size,
-        },
+impl From<Sized> for SizeAnswer {
+    ghost from_gives = { λ a r. r ≡ size_answer a };
+
+    fn from(answer: Sized) -> SizeAnswer
+        ensures { result ≡ size_answer answer }
+    {
+        match answer {
+            Err(e) => SizeAnswer {
+                refusal: e.answer.number(),
+                visits: e.visits,
+                ..SizeAnswer::default()
+            },
+            Ok(size) => SizeAnswer {
+                visits: size.visits,
+                size: size.answer,
+                ..SizeAnswer::default()
+            },
+        }
     }
 }
 
-pub(crate) fn chunk_answer(a: Looked) -> ChunkAnswer
-    ensures { result ≡ chunk_answer a }
-{
-    match a {
-        Looked::Refused(r, visits, need) => ChunkAnswer {
-            refusal: r.number(),
-            visits,
-            need,
-            copy: 0,
-            page: 0,
-            valid: 0,
-            shown: 0,
-        },
-        Looked::Hole(shown, visits) => ChunkAnswer {
-            refusal: 0,
-            visits,
-            need: 0,
-            copy: 0,
-            page: 0,
-            valid: 0,
-            shown,
-        },
-        Looked::Copy(p, valid, shown, visits) => ChunkAnswer {
-            refusal: 0,
-            visits,
-            need: 0,
-            copy: 1,
-            page: p.0,
-            valid,
-            shown,
-        },
+impl From<Looked> for ChunkAnswer {
+    ghost from_gives = { λ a r. r ≡ chunk_answer a };
+
+    fn from(answer: Looked) -> ChunkAnswer
+        ensures { result ≡ chunk_answer answer }
+    {
+        match answer {
+            Err(e) => ChunkAnswer {
+                refusal: e.answer.refusal.number(),
+                visits: e.visits,
+                need: e.answer.need,
+                ..ChunkAnswer::default()
+            },
+            Ok(Chunk::Hole { shown, visits }) => ChunkAnswer {
+                visits,
+                shown,
+                ..ChunkAnswer::default()
+            },
+            Ok(chunk @ Chunk::Copy { page, valid, .. }) => ChunkAnswer {
+                visits: chunk.visits(),
+                copy: 1,
+                page: page.0,
+                valid,
+                shown: chunk.shown(),
+                ..ChunkAnswer::default()
+            },
+        }
     }
 }
 
@@ -153,17 +153,8 @@ pub(crate) fn chunk_answer(a: Looked) -> ChunkAnswer
 pub(crate) fn place_of(g: Geometry, len: usize, p: PageNumber, valid: u32) -> PlaceAnswer
     ensures { result ≡ place_of g len p.0 valid }
 {
-    if !g.holds(len, p) {
-        return PlaceAnswer {
-            offset: 0,
-            length: 0,
-        };
-    }
-    if g.layout.data < valid {
-        return PlaceAnswer {
-            offset: 0,
-            length: 0,
-        };
+    if !g.holds(len, p) || g.layout.data < valid {
+        return PlaceAnswer::default();
     }
     PlaceAnswer {
         offset: (p.0 as usize) * g.layout.page_len(),
@@ -172,122 +163,134 @@ pub(crate) fn place_of(g: Geometry, len: usize, p: PageNumber, valid: u32) -> Pl
 }
 
 // Where in a dump of this length the valid bytes of a chunk that was looked up stand; nowhere for a hole or a refusal.
+#[tactic(auto, unfolding(crate::specs::Lookups::place_answer))]
 pub(crate) fn place_answer(g: Geometry, len: usize, a: Looked) -> PlaceAnswer
     ensures { result ≡ place_answer g len a }
 {
     match a {
-        Looked::Refused(_, _, _) => PlaceAnswer {
-            offset: 0,
-            length: 0,
-        },
-        Looked::Hole(_, _) => PlaceAnswer {
-            offset: 0,
-            length: 0,
-        },
-        Looked::Copy(p, valid, _, _) => place_of(g, len, p, valid),
+        Ok(Chunk::Copy { page, valid, .. }) => place_of(g, len, page, valid),
+        _ => PlaceAnswer::default(),
     }
 }
 
-pub(crate) fn list_answer(a: Listed) -> ListAnswer
-    ensures { result ≡ list_answer a }
-{
-    match a {
-        Listed::Refused(r, need) => ListAnswer {
-            refusal: r.number(),
-            need,
-            count: 0,
-        },
-        Listed::Ids(count) => ListAnswer {
-            refusal: 0,
-            need: 0,
-            count,
-        },
+impl From<Listed> for ListAnswer {
+    ghost from_gives = { λ a r. r ≡ list_answer a };
+
+    fn from(answer: Listed) -> ListAnswer
+        ensures { result ≡ list_answer answer }
+    {
+        match answer {
+            Err(e) => ListAnswer {
+                refusal: e.refusal.number(),
+                need: e.need,
+                ..ListAnswer::default()
+            },
+            Ok(count) => ListAnswer {
+                count,
+                ..ListAnswer::default()
+            },
+        }
     }
 }
 
-pub(crate) fn table_answer(t: Tabled) -> TableAnswer
-    ensures { result ≡ table_answer t }
-{
-    match t {
-        Tabled::Refused(r, need) => TableAnswer {
-            refusal: r.number(),
-            need,
-            size: 0,
-            rows: 0,
-        },
-        Tabled::Rows(size, rows) => TableAnswer {
-            refusal: 0,
-            need: 0,
-            size,
-            rows,
-        },
+impl From<Tabled> for TableAnswer {
+    ghost from_gives = { λ a r. r ≡ table_answer a };
+
+    fn from(answer: Tabled) -> TableAnswer
+        ensures { result ≡ table_answer answer }
+    {
+        match answer {
+            Err(e) => TableAnswer {
+                refusal: e.refusal.number(),
+                need: e.need,
+                ..TableAnswer::default()
+            },
+            Ok(table) => TableAnswer {
+                size: table.size,
+                rows: table.rows,
+                ..TableAnswer::default()
+            },
+        }
     }
 }
 
-pub(crate) fn copies_answer(a: Copied) -> CopiesAnswer
-    ensures { result ≡ copies_answer a }
-{
-    match a {
-        Copied::Refused(r, need) => CopiesAnswer {
-            refusal: r.number(),
-            count: 0,
-            size: 0,
-            need,
-            damaged: 0,
-        },
-        Copied::Rows(size, count, damaged) => CopiesAnswer {
-            refusal: 0,
-            count,
-            size,
-            need: 0,
-            damaged: damaged as u32,
-        },
+impl From<Copied> for CopiesAnswer {
+    ghost from_gives = { λ a r. r ≡ copies_answer a };
+
+    fn from(answer: Copied) -> CopiesAnswer
+        ensures { result ≡ copies_answer answer }
+    {
+        match answer {
+            Err(e) => CopiesAnswer {
+                refusal: e.refusal.number(),
+                need: e.need,
+                ..CopiesAnswer::default()
+            },
+            Ok(copies) => CopiesAnswer {
+                count: copies.count,
+                size: copies.size,
+                damaged: copies.damaged as u32,
+                ..CopiesAnswer::default()
+            },
+        }
     }
 }
 
-pub(crate) fn copy_answer(x: Copy) -> CopyAnswer
-    ensures { result ≡ copy_answer x }
-{
-    CopyAnswer {
-        chunk: x.chunk,
-        page: x.page,
-        valid: x.valid,
+impl From<Copy> for CopyAnswer {
+    ghost from_gives = { λ c r. r ≡ copy_answer c };
+
+    fn from(copy: Copy) -> CopyAnswer
+        ensures { result ≡ copy_answer copy }
+    {
+        CopyAnswer {
+            chunk: copy.chunk,
+            page: copy.page,
+            valid: copy.valid,
+        }
     }
 }
 
-pub(crate) fn tally_answer(t: Tallied) -> TallyAnswer
-    ensures { result ≡ tally_answer t }
-{
-    match t {
-        Tallied::Refused(r) => TallyAnswer {
-            refusal: r.number(),
-            count: 0,
-        },
-        Tallied::Count(count) => TallyAnswer { refusal: 0, count },
+impl From<Result<u32, Refusal>> for TallyAnswer {
+    ghost from_gives = { λ a r. r ≡ tally_answer a };
+
+    fn from(answer: Result<u32, Refusal>) -> TallyAnswer
+        ensures { result ≡ tally_answer answer }
+    {
+        match answer {
+            Err(r) => TallyAnswer {
+                refusal: r.number(),
+                ..TallyAnswer::default()
+            },
+            Ok(count) => TallyAnswer {
+                count,
+                ..TallyAnswer::default()
+            },
+        }
     }
 }
 
 // The number of a refused start or addition; 0 where it was done.
-pub(crate) fn added_answer(a: Added) -> u32
-    ensures { result ≡ added_answer a }
+pub(crate) fn added_answer(added: Result<(), Refusal>) -> u32
+    ensures { result ≡ added_answer added }
 {
-    match a {
-        Added::Refused(r) => r.number(),
-        Added::Done => 0,
+    match added {
+        Err(r) => r.number(),
+        Ok(()) => 0,
     }
 }
 
-pub(crate) fn run_answer(a: Run) -> RunAnswer
-    ensures { result ≡ run_answer a }
-{
-    match a {
-        Run::Stopped(p, r) => RunAnswer {
-            refusal: r.number(),
-            page: p.0,
-        },
-        Run::Done => RunAnswer {
-            refusal: 0,
-            page: 0,
-        },
+impl From<Run> for RunAnswer {
+    ghost from_gives = { λ a r. r ≡ run_answer a };
+
+    fn from(answer: Run) -> RunAnswer
+        ensures { result ≡ run_answer answer }
+    {
+        match answer {
+            Err(e) => RunAnswer {
+                refusal: e.refusal.number(),
+                page: e.page.0,
+            },
+            Ok(()) => RunAnswer::default(),
+        }
     }
 }

@@ -3,12 +3,13 @@ ghost use Rattle.std.specs.Prelude.{◌≡◌, length};
 ghost use Rattle.compare.specs.Answers.{compared_on, bytes_left};
 ghost use Rattle.compare.specs.Lists.{next_in, sides_report, lists_report};
 ghost use Rattle.compare.specs.Prepared.{prepared_on, order_left, copies_left, work_left};
-ghost use Rattle.capi.specs.Comparing.{prepared_answer, next_answer, compared_answer};
+ghost use Rattle.capi.specs.Comparing.{prepared_answer, next_answer};
 ghost use Rattle.capi.specs.Layouts.{geometry_at};
+ghost use Rattle.capi.specs.Trees.{texted_answer};
 
 use crate::layout::{Geometry, geometry_at};
 use crate::trees::TextAnswer;
-use compare::answer::{Compared, Which};
+use compare::answer::Which;
 use compare::prepare::Prepared;
 use compare::whole::next;
 use dumps::both::compare_dumps;
@@ -17,7 +18,7 @@ use page::number::ObjectId;
 
 // How many records the dump has. Beside ShortBuffer `need` is that number, and 0 else.
 #[repr(C)]
-#[derive(Clone, Copy)]
+#[derive(Clone, Copy, Default)]
 pub struct PreparedAnswer {
     pub refusal: u32,
     pub need: u32,
@@ -26,44 +27,30 @@ pub struct PreparedAnswer {
 
 // The object that comes next, 0 where there are no words, and how many words at the front of each list are of it.
 #[repr(C)]
-#[derive(Clone, Copy)]
+#[derive(Clone, Copy, Default)]
 pub struct NextAnswer {
     pub object: u32,
     pub first: u64,
     pub second: u64,
 }
 
-fn prepared_answer(p: Prepared) -> PreparedAnswer
-    ensures { result ≡ prepared_answer p }
-{
-    match p {
-        Prepared::Refused(r, need) => PreparedAnswer {
-            refusal: r.number(),
-            need,
-            records: 0,
-        },
-        Prepared::Records(records) => PreparedAnswer {
-            refusal: 0,
-            need: 0,
-            records,
-        },
-    }
-}
+impl From<Prepared> for PreparedAnswer {
+    ghost from_gives = { λ a r. r ≡ prepared_answer a };
 
-fn compared_answer(a: Compared) -> TextAnswer
-    ensures { result ≡ compared_answer a }
-{
-    match a {
-        Compared::Refused(r, need) => TextAnswer {
-            refusal: r.number(),
-            need,
-            length: 0,
-        },
-        Compared::Written(length) => TextAnswer {
-            refusal: 0,
-            need: 0,
-            length,
-        },
+    fn from(answer: Prepared) -> PreparedAnswer
+        ensures { result ≡ prepared_answer answer }
+    {
+        match answer {
+            Err(e) => PreparedAnswer {
+                refusal: e.refusal.number(),
+                need: e.need,
+                ..PreparedAnswer::default()
+            },
+            Ok(records) => PreparedAnswer {
+                records,
+                ..PreparedAnswer::default()
+            },
+        }
     }
 }
 
@@ -82,7 +69,7 @@ pub fn lohenarr_compare_prepare(
     ensures copies_after { copies.new ≡ copies_left (geometry_at geometry) dump.now copies.old (length order.old) (length work.old) }
     ensures work_after { work.new ≡ work_left (geometry_at geometry) dump.now work.old (length order.old) (length copies.old) }
 {
-    prepared_answer(prepare_dump(dump, geometry_at(geometry), order, copies, work))
+    prepare_dump(dump, geometry_at(geometry), order, copies, work).into()
 }
 
 // The object that comes next in the words of two dumps, and how many words at the front of each list are of it.
@@ -110,10 +97,10 @@ pub fn lohenarr_compare_object(
     object: u32,
     buf: &mut [u8],
 ) -> TextAnswer
-    ensures value { result ≡ compared_answer (compared_on (geometry_at geometry1) (length dump1.now) (geometry_at geometry2) (length dump2.now) (sides_report (geometry_at geometry1) dump1.now (geometry_at geometry2) dump2.now object order1.now copies1.now order2.now copies2.now) (length buf.old)) }
+    ensures value { result ≡ texted_answer (compared_on (geometry_at geometry1) (length dump1.now) (geometry_at geometry2) (length dump2.now) (sides_report (geometry_at geometry1) dump1.now (geometry_at geometry2) dump2.now object order1.now copies1.now order2.now copies2.now) (length buf.old)) }
     ensures buf_after { buf.new ≡ bytes_left (geometry_at geometry1) (length dump1.now) (geometry_at geometry2) (length dump2.now) (sides_report (geometry_at geometry1) dump1.now (geometry_at geometry2) dump2.now object order1.now copies1.now order2.now copies2.now) buf.old }
 {
-    compared_answer(compare_dumps(
+    compare_dumps(
         Which::One(ObjectId(object)),
         dump1,
         geometry_at(geometry1),
@@ -124,7 +111,8 @@ pub fn lohenarr_compare_object(
         order2,
         copies2,
         buf,
-    ))
+    )
+    .into()
 }
 
 // Writes the whole report of two prepared dumps, object after object. Bytes past the report stay, and a refusal writes nothing.
@@ -139,10 +127,10 @@ pub fn lohenarr_compare(
     copies2: &[u64],
     buf: &mut [u8],
 ) -> TextAnswer
-    ensures value { result ≡ compared_answer (compared_on (geometry_at geometry1) (length dump1.now) (geometry_at geometry2) (length dump2.now) (lists_report (geometry_at geometry1) dump1.now (geometry_at geometry2) dump2.now order1.now copies1.now order2.now copies2.now) (length buf.old)) }
+    ensures value { result ≡ texted_answer (compared_on (geometry_at geometry1) (length dump1.now) (geometry_at geometry2) (length dump2.now) (lists_report (geometry_at geometry1) dump1.now (geometry_at geometry2) dump2.now order1.now copies1.now order2.now copies2.now) (length buf.old)) }
     ensures buf_after { buf.new ≡ bytes_left (geometry_at geometry1) (length dump1.now) (geometry_at geometry2) (length dump2.now) (lists_report (geometry_at geometry1) dump1.now (geometry_at geometry2) dump2.now order1.now copies1.now order2.now copies2.now) buf.old }
 {
-    compared_answer(compare_dumps(
+    compare_dumps(
         Which::All,
         dump1,
         geometry_at(geometry1),
@@ -153,5 +141,6 @@ pub fn lohenarr_compare(
         order2,
         copies2,
         buf,
-    ))
+    )
+    .into()
 }

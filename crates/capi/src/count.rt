@@ -5,10 +5,11 @@ ghost use Rattle.page.specs.Counts.{counted_of};
 ghost use Rattle.capi.specs.Counts.{counts_answer};
 
 use crate::layout::{Geometry, geometry_at};
-use page::count::{Counted, count_kinds};
+use page::count::{Counts, count_kinds};
+use page::refusal::Refusal;
 
 #[repr(C)]
-#[derive(Clone, Copy)]
+#[derive(Clone, Copy, Default)]
 pub struct CountsAnswer {
     pub refusal: u32,
     pub blank: u32,
@@ -18,26 +19,26 @@ pub struct CountsAnswer {
     pub data: u32,
 }
 
-fn counts_answer(c: Counted) -> CountsAnswer
-    ensures { result ≡ counts_answer c }
-{
-    match c {
-        Counted::Refused(r) => CountsAnswer {
-            refusal: r.number(),
-            blank: 0,
-            foreign: 0,
-            damaged: 0,
-            headers: 0,
-            data: 0,
-        },
-        Counted::Counts(n) => CountsAnswer {
-            refusal: 0,
-            blank: n.blank,
-            foreign: n.foreign,
-            damaged: n.damaged,
-            headers: n.headers,
-            data: n.data,
-        },
+impl From<Result<Counts, Refusal>> for CountsAnswer {
+    ghost from_gives = { λ a r. r ≡ counts_answer a };
+
+    fn from(answer: Result<Counts, Refusal>) -> CountsAnswer
+        ensures { result ≡ counts_answer answer }
+    {
+        match answer {
+            Err(r) => CountsAnswer {
+                refusal: r.number(),
+                ..CountsAnswer::default()
+            },
+            Ok(n) => CountsAnswer {
+                refusal: 0,
+                blank: n.blank,
+                foreign: n.foreign,
+                damaged: n.damaged,
+                headers: n.headers,
+                data: n.data,
+            },
+        }
     }
 }
 
@@ -45,5 +46,5 @@ fn counts_answer(c: Counted) -> CountsAnswer
 pub fn lohenarr_counts(dump: &[u8], geometry: Geometry) -> CountsAnswer
     ensures { result ≡ counts_answer (counted_of (geometry_at geometry) dump.now) }
 {
-    counts_answer(count_kinds(dump, geometry_at(geometry)))
+    count_kinds(dump, geometry_at(geometry)).into()
 }

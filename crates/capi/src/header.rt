@@ -2,16 +2,17 @@
 ghost use Rattle.std.specs.Prelude.{◌≡◌};
 ghost use Rattle.capi.specs.Layouts.{geometry_at};
 ghost use Rattle.page.specs.Asked.{headed_of};
-ghost use Rattle.capi.specs.Headers.{refused_header, fields_answer, header_answer};
+ghost use Rattle.capi.specs.Headers.{header_answer};
 
 use crate::layout::{Geometry, geometry_at};
 use page::fields::Fields;
-use page::header::{Headed, header};
+use page::header::header;
 use page::number::PageNumber;
+use page::refusal::Refusal;
 
 // The fields in the table's order.
 #[repr(C)]
-#[derive(Clone, Copy)]
+#[derive(Clone, Copy, Default)]
 pub struct HeaderAnswer {
     pub refusal: u32,
     pub page_type: u32,
@@ -37,70 +38,42 @@ pub struct HeaderAnswer {
     pub shrink: u32,
 }
 
-fn refused_header(refusal: u32) -> HeaderAnswer
-    ensures { result ≡ refused_header refusal }
-{
-    HeaderAnswer {
-        refusal,
-        page_type: 0,
-        parent: 0,
-        unused1: 0,
-        unused2: 0,
-        mode: 0,
-        uid: 0,
-        gid: 0,
-        accessed: 0,
-        modified: 0,
-        created: 0,
-        file_size: 0,
-        equivalent_id: 0,
-        rdev: 0,
-        win_created: 0,
-        win_accessed: 0,
-        win_modified: 0,
-        inband_shadow: 0,
-        inband_shrink: 0,
-        size_high: 0,
-        shadowed_id: 0,
-        shrink: 0,
-    }
-}
+impl From<Result<Fields, Refusal>> for HeaderAnswer {
+    ghost from_gives = { λ a r. r ≡ header_answer a };
 
-fn fields_answer(f: Fields) -> HeaderAnswer
-    ensures { result ≡ fields_answer f }
-{
-    HeaderAnswer {
-        refusal: 0,
-        page_type: f.page_type,
-        parent: f.parent,
-        unused1: f.unused1 as u32,
-        unused2: f.unused2 as u32,
-        mode: f.mode,
-        uid: f.uid,
-        gid: f.gid,
-        accessed: f.accessed,
-        modified: f.modified,
-        created: f.created,
-        file_size: f.file_size,
-        equivalent_id: f.equivalent_id,
-        rdev: f.rdev,
-        win_created: f.win_created,
-        win_accessed: f.win_accessed,
-        win_modified: f.win_modified,
-        inband_shadow: f.inband_shadow,
-        inband_shrink: f.inband_shrink,
-        size_high: f.size_high,
-        shadowed_id: f.shadowed_id,
-        shrink: f.shrink,
-    }
-}
-
-fn header_answer(h: Headed) -> HeaderAnswer
-    ensures { result ≡ header_answer h }
-{
-    match h {
-        Headed::Refused(r) => refused_header(r.number()),
-        Headed::Fields(f) => fields_answer(f),
+    fn from(answer: Result<Fields, Refusal>) -> HeaderAnswer
+        ensures { result ≡ header_answer answer }
+    {
+        match answer {
+            Err(r) => HeaderAnswer {
+                refusal: r.number(),
+                ..HeaderAnswer::default()
+            },
+            Ok(f) => HeaderAnswer {
+                refusal: 0,
+                page_type: f.page_type,
+                parent: f.parent,
+                unused1: f.unused1 as u32,
+                unused2: f.unused2 as u32,
+                mode: f.mode,
+                uid: f.uid,
+                gid: f.gid,
+                accessed: f.accessed,
+                modified: f.modified,
+                created: f.created,
+                file_size: f.file_size,
+                equivalent_id: f.equivalent_id,
+                rdev: f.rdev,
+                win_created: f.win_created,
+                win_accessed: f.win_accessed,
+                win_modified: f.win_modified,
+                inband_shadow: f.inband_shadow,
+                inband_shrink: f.inband_shrink,
+                size_high: f.size_high,
+                shadowed_id: f.shadowed_id,
+                shrink: f.shrink,
+            },
+        }
     }
 }
 
@@ -108,5 +81,5 @@ fn header_answer(h: Headed) -> HeaderAnswer
 pub fn lohenarr_header(dump: &[u8], geometry: Geometry, page: u32) -> HeaderAnswer
     ensures { result ≡ header_answer (headed_of (geometry_at geometry) dump.now page) }
 {
-    header_answer(header(dump, geometry_at(geometry), PageNumber(page)))
+    header(dump, geometry_at(geometry), PageNumber(page)).into()
 }

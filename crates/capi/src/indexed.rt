@@ -16,8 +16,7 @@ ghost use Rattle.capi.specs.Lookups.{size_answer, chunk_answer, place_answer, ro
 
 use crate::answer::{
     ChunkAnswer, CopiesAnswer, CopyAnswer, ListAnswer, PlaceAnswer, RunAnswer, SizeAnswer,
-    TableAnswer, TallyAnswer, added_answer, chunk_answer, copies_answer, copy_answer, list_answer,
-    place_answer, place_of, run_answer, size_answer, table_answer, tally_answer,
+    TableAnswer, TallyAnswer, added_answer, place_answer, place_of,
 };
 use crate::layout::{Geometry, geometry_at};
 use file::copies::copies;
@@ -65,13 +64,14 @@ pub fn lohenarr_add_run(
     ensures value { result ≡ run_answer (run_of (geometry_at geometry) dump.now cells.old from to).answer }
     ensures cells_after { cells.new ≡ (run_of (geometry_at geometry) dump.now cells.old from to).cells }
 {
-    run_answer(add_run(
+    add_run(
         dump,
         geometry_at(geometry),
         cells,
         PageNumber(from),
         PageNumber(to),
-    ))
+    )
+    .into()
 }
 
 // Adds of the pages from one to before another the records that are older than a given one to the index, one after the other, until one is
@@ -87,21 +87,22 @@ pub fn lohenarr_add_older(
     ensures value { result ≡ run_answer (older_of (geometry_at geometry) dump.now cells.old from to before).answer }
     ensures cells_after { cells.new ≡ (older_of (geometry_at geometry) dump.now cells.old from to before).cells }
 {
-    run_answer(add_older(
+    add_older(
         dump,
         geometry_at(geometry),
         cells,
         PageNumber(from),
         PageNumber(to),
         PageNumber(before),
-    ))
+    )
+    .into()
 }
 
 // The size of an object.
 pub fn lohenarr_size(dump: &[u8], geometry: Geometry, cells: &[u32], object: u32) -> SizeAnswer
     ensures { result ≡ size_answer (size_from (geometry_at geometry) dump.now cells.now object) }
 {
-    size_answer(size(dump, geometry_at(geometry), cells, ObjectId(object)))
+    size(dump, geometry_at(geometry), cells, ObjectId(object)).into()
 }
 
 // A chunk of an object.
@@ -114,13 +115,14 @@ pub fn lohenarr_chunk(
 ) -> ChunkAnswer
     ensures { result ≡ chunk_answer (chunk_from (geometry_at geometry) dump.now cells.now object n) }
 {
-    chunk_answer(chunk(
+    chunk(
         dump,
         geometry_at(geometry),
         cells,
         ObjectId(object),
         ChunkNumber(n),
-    ))
+    )
+    .into()
 }
 
 // A chunk of an object, read into a buffer: the valid bytes, then zeros up to the shown length. Bytes past that stay, and a refusal writes
@@ -136,14 +138,15 @@ pub fn lohenarr_read(
     ensures value { result ≡ chunk_answer (read_by (length buffer.old) (chunk_from (geometry_at geometry) dump.now cells.now object n)) }
     ensures buffer_after { buffer.new ≡ buffer_by (geometry_at geometry) dump.now buffer.old (read_by (length buffer.old) (chunk_from (geometry_at geometry) dump.now cells.now object n)) }
 {
-    chunk_answer(read(
+    read(
         dump,
         geometry_at(geometry),
         cells,
         ObjectId(object),
         ChunkNumber(n),
         buffer,
-    ))
+    )
+    .into()
 }
 
 // The valid bytes of a chunk of an object, as a part of the dump; an empty part for a hole or a refusal.
@@ -175,7 +178,7 @@ pub fn lohenarr_list(
     ensures value { result ≡ list_answer (list_from (geometry_at geometry) dump.now cells.now (length words.old)) }
     ensures words_after { words.new ≡ words_by (ids_from (geometry_at geometry) dump.now cells.now) words.old (list_from (geometry_at geometry) dump.now cells.now (length words.old)) }
 {
-    list_answer(list(dump, geometry_at(geometry), cells, words))
+    list(dump, geometry_at(geometry), cells, words).into()
 }
 
 // The pages of the records of an object, written to words from the newest to the oldest. Words past them stay, and a refusal writes nothing.
@@ -189,14 +192,14 @@ pub fn lohenarr_records(
     ensures value { result ≡ list_answer (records_from (geometry_at geometry) dump.now cells.now object (length words.old)) }
     ensures words_after { words.new ≡ words_by (pages_from (geometry_at geometry) dump.now cells.now object) words.old (records_from (geometry_at geometry) dump.now cells.now object (length words.old)) }
 {
-    list_answer(records(dump, geometry_at(geometry), cells, ObjectId(object), words))
+    records(dump, geometry_at(geometry), cells, ObjectId(object), words).into()
 }
 
 // How many objects have an added record.
 pub fn lohenarr_objects(dump: &[u8], geometry: Geometry, cells: &[u32]) -> TallyAnswer
     ensures { result ≡ tally_answer (objects_from (geometry_at geometry) dump.now cells.now) }
 {
-    tally_answer(objects(dump, geometry_at(geometry), cells))
+    objects(dump, geometry_at(geometry), cells).into()
 }
 
 // The chunks of a file, written to a table of two words for each: where its copy is, 0 for a hole, 1 where a link of the index is damaged
@@ -211,7 +214,7 @@ pub fn lohenarr_table(
     ensures value { result ≡ table_answer (table_from (geometry_at geometry) dump.now cells.now object (length words.old)) }
     ensures words_after { words.new ≡ filled_by (chunk_from (geometry_at geometry) dump.now cells.now object) words.old (table_from (geometry_at geometry) dump.now cells.now object (length words.old)) }
 {
-    table_answer(table(dump, geometry_at(geometry), cells, ObjectId(object), words))
+    table(dump, geometry_at(geometry), cells, ObjectId(object), words).into()
 }
 
 // The valid bytes of the copy that a row of a table names, as a part of the dump; an empty part where it names none.
@@ -220,10 +223,7 @@ pub fn lohenarr_row(dump: &[u8], geometry: Geometry, place: u32, valid: u32) -> 
     ensures dump_value { take result.length (drop result.offset dump.now) ≡ row_part (geometry_at geometry) dump.now place valid }
 {
     if place < 2 {
-        return PlaceAnswer {
-            offset: 0,
-            length: 0,
-        };
+        return PlaceAnswer::default();
     }
     place_of(
         geometry_at(geometry),
@@ -245,12 +245,12 @@ pub fn lohenarr_copies(
     ensures value { result ≡ copies_answer (copied_from (geometry_at geometry) dump.now cells.now object (length rows.old)) }
     ensures rows_after { rows.new ≡ rows_from (geometry_at geometry) dump.now cells.now object rows.old (copied_from (geometry_at geometry) dump.now cells.now object (length rows.old)) }
 {
-    copies_answer(copies(dump, geometry_at(geometry), cells, ObjectId(object), rows))
+    copies(dump, geometry_at(geometry), cells, ObjectId(object), rows).into()
 }
 
 // The copy that a row of copies tells.
 pub fn lohenarr_copy(row: u64) -> CopyAnswer
     ensures { result ≡ copy_answer (copy_of row) }
 {
-    copy_answer(Copy::of(row))
+    Copy::of(row).into()
 }

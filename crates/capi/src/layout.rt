@@ -7,8 +7,8 @@ ghost use Rattle.page.specs.Leaving.{at_least};
 ghost use Rattle.capi.specs.Layouts.{geometry_at, layout_answer, pages_answer};
 
 use page::find::{find, score};
-use page::geometry::Opened;
-use page::layout::{Layout, Named};
+use page::layout::Layout;
+use page::refusal::Refusal;
 
 // How a dump is read: the number of its layout in the table, and how many pages a block has.
 #[repr(C)]
@@ -20,7 +20,7 @@ pub struct Geometry {
 
 // A layout with its number in the table; beside a refusal that is 13, which the table lacks.
 #[repr(C)]
-#[derive(Clone, Copy)]
+#[derive(Clone, Copy, Default)]
 pub struct LayoutAnswer {
     pub refusal: u32,
     pub number: u32,
@@ -30,56 +30,62 @@ pub struct LayoutAnswer {
 }
 
 #[repr(C)]
-#[derive(Clone, Copy)]
+#[derive(Clone, Copy, Default)]
 pub struct PagesAnswer {
     pub refusal: u32,
     pub pages: u32,
 }
 
-fn layout_answer(n: Named) -> LayoutAnswer
-    ensures { result ≡ layout_answer n }
-{
-    match n {
-        Named::Refused(r) => LayoutAnswer {
-            refusal: r.number(),
-            number: Layout::COUNT,
-            data: 0,
-            spare: 0,
-            tag: 0,
-        },
-        Named::Layout(l) => LayoutAnswer {
-            refusal: 0,
-            number: l.number(),
-            data: l.data,
-            spare: l.spare,
-            tag: l.tag,
-        },
+impl From<Result<Layout, Refusal>> for LayoutAnswer {
+    ghost from_gives = { λ a r. r ≡ layout_answer a };
+
+    fn from(answer: Result<Layout, Refusal>) -> LayoutAnswer
+        ensures { result ≡ layout_answer answer }
+    {
+        match answer {
+            Err(r) => LayoutAnswer {
+                refusal: r.number(),
+                number: Layout::COUNT,
+                ..LayoutAnswer::default()
+            },
+            Ok(l) => LayoutAnswer {
+                refusal: 0,
+                number: l.number(),
+                data: l.data,
+                spare: l.spare,
+                tag: l.tag,
+            },
+        }
     }
 }
 
-fn pages_answer(o: Opened) -> PagesAnswer
-    ensures { result ≡ pages_answer o }
-{
-    match o {
-        Opened::Refused(r) => PagesAnswer {
-            refusal: r.number(),
-            pages: 0,
-        },
-        Opened::Pages(n) => PagesAnswer {
-            refusal: 0,
-            pages: n,
-        },
+impl From<Result<u32, Refusal>> for PagesAnswer {
+    ghost from_gives = { λ a r. r ≡ pages_answer a };
+
+    fn from(answer: Result<u32, Refusal>) -> PagesAnswer
+        ensures { result ≡ pages_answer answer }
+    {
+        match answer {
+            Err(r) => PagesAnswer {
+                refusal: r.number(),
+                ..PagesAnswer::default()
+            },
+            Ok(pages) => PagesAnswer {
+                pages,
+                ..PagesAnswer::default()
+            },
+        }
     }
 }
 
 // The layout with a number; where the table has none, sizes of 0, which every call refuses as BadLayout.
+#[tactic(auto, unfolding(page::specs::Layouts::by_number))]
 fn layout_at(number: u32) -> Layout
     ensures { result ≡ layout_at number }
 {
-    let n = Layout::numbered(number);
-    match n {
-        Named::Layout(l) => l,
-        Named::Refused(_) => Layout {
+    match Layout::numbered(number) {
+        Ok(layout) => layout,
+        Err(_) => Layout {
             data: 0,
             spare: 0,
             tag: 0,
@@ -87,7 +93,8 @@ fn layout_at(number: u32) -> Layout
     }
 }
 
-// How the dump is read that has the layout of this number.
+// How the dump is read that has the layout of this number; the contracts of the exports say this name.
+#[tactic(auto, unfolding(crate::specs::Layouts::geometry_at))]
 pub(crate) fn geometry_at(geometry: Geometry) -> page::geometry::Geometry
     ensures { result ≡ geometry_at geometry }
 {
@@ -108,21 +115,21 @@ pub fn lohenarr_most_bytes() -> usize
 pub fn lohenarr_layout(number: u32) -> LayoutAnswer
     ensures { result ≡ layout_answer (by_number number) }
 {
-    layout_answer(Layout::numbered(number))
+    Layout::numbered(number).into()
 }
 
 // The layout with these sizes and this tag offset.
 pub fn lohenarr_layout_sized(data: u32, spare: u32, tag: u32) -> LayoutAnswer
     ensures { result ≡ layout_answer (by_sizes «data» spare tag) }
 {
-    layout_answer(Layout::sized(data, spare, tag))
+    Layout::sized(data, spare, tag).into()
 }
 
 // The layout of a dump in blocks of k pages.
 pub fn lohenarr_find(dump: &[u8], k: u32) -> LayoutAnswer
     ensures { result ≡ layout_answer (find_of dump.now k) }
 {
-    layout_answer(find(dump, k))
+    find(dump, k).into()
 }
 
 // The score of finding the layout, for a dump that is read so: how many good pages bear their block's sequence, if it fits and they are at least
@@ -137,5 +144,5 @@ pub fn lohenarr_score(dump: &[u8], geometry: Geometry, need: u32) -> u32
 pub fn lohenarr_pages(dump: &[u8], geometry: Geometry) -> PagesAnswer
     ensures { result ≡ pages_answer (opened_of (geometry_at geometry) (length dump.now)) }
 {
-    pages_answer(geometry_at(geometry).opened(dump.len()))
+    geometry_at(geometry).opened(dump.len()).into()
 }

@@ -13,7 +13,8 @@ pub(crate) fn moment_at(before: u32) -> Moment
     ensures { result ≡ moment_at before }
 {
     if before == NOW {
-        return Moment::Now;
+        Moment::Now
+    } else {
+        Moment::Before(PageNumber(before))
     }
-    Moment::Before(PageNumber(before))
 }

@@ -9,13 +9,15 @@ ghost use Rattle.capi.specs.Reasons.{why_answer, spans_answer, span_answer};
 use crate::layout::{Geometry, geometry_at};
 use crate::moment::moment_at;
 use page::number::ObjectId;
-use why::byte::{Span, Told, shown, why};
-use why::spans::{Spanned, spans};
+use page::refusal::Short;
+use why::answer::{Spans, Why};
+use why::byte::{Span, shown, why};
+use why::spans::spans;
 
 // Why a byte is what it is: the number of the reason's kind, the page that it goes by, the data byte of a held one, the byte that is shown, and up to
 // where the reason and its page hold. Beside ShortBuffer `need` is how many words it needs, and 0 else.
 #[repr(C)]
-#[derive(Clone, Copy)]
+#[derive(Clone, Copy, Default)]
 pub struct WhyAnswer {
     pub refusal: u32,
     pub need: u32,
@@ -28,7 +30,7 @@ pub struct WhyAnswer {
 
 // The size of a file and how many rows its spans are. Beside ShortBuffer `need` is how many words it needs, and 0 else.
 #[repr(C)]
-#[derive(Clone, Copy)]
+#[derive(Clone, Copy, Default)]
 pub struct SpansAnswer {
     pub refusal: u32,
     pub need: u32,
@@ -38,7 +40,7 @@ pub struct SpansAnswer {
 
 // A span of a file: where it begins, the number of the reason's kind, the page that it goes by, and the data byte of a held one.
 #[repr(C)]
-#[derive(Clone, Copy)]
+#[derive(Clone, Copy, Default)]
 pub struct SpanAnswer {
     pub from: u64,
     pub reason: u32,
@@ -46,59 +48,59 @@ pub struct SpanAnswer {
     pub byte: u32,
 }
 
-fn why_answer(dump: &[u8], geometry: Geometry, t: Told) -> WhyAnswer
-    ensures { result ≡ why_answer (geometry_at geometry) dump.now t }
+fn why_answer(dump: &[u8], geometry: Geometry, told: Result<Why, Short<u32>>) -> WhyAnswer
+    ensures { result ≡ why_answer (geometry_at geometry) dump.now told }
 {
-    match t {
-        Told::Refused(r, need) => WhyAnswer {
-            refusal: r.number(),
-            need,
-            reason: 0,
-            page: 0,
-            byte: 0,
-            value: 0,
-            until: 0,
+    match told {
+        Err(e) => WhyAnswer {
+            refusal: e.refusal.number(),
+            need: e.need,
+            ..WhyAnswer::default()
         },
-        Told::Because(reason, until) => WhyAnswer {
-            refusal: 0,
-            need: 0,
-            reason: reason.kind(),
-            page: reason.page(),
-            byte: reason.byte(),
-            value: shown(dump, geometry_at(geometry), reason) as u32,
-            until,
+        Ok(why) => WhyAnswer {
+            reason: why.reason.kind(),
+            page: why.reason.page(),
+            byte: why.reason.byte(),
+            value: shown(dump, geometry_at(geometry), why.reason) as u32,
+            until: why.until,
+            ..WhyAnswer::default()
         },
     }
 }
 
-fn spans_answer(a: Spanned) -> SpansAnswer
-    ensures { result ≡ spans_answer a }
-{
-    match a {
-        Spanned::Refused(r, need) => SpansAnswer {
-            refusal: r.number(),
-            need,
-            size: 0,
-            count: 0,
-        },
-        Spanned::Rows(size, count) => SpansAnswer {
-            refusal: 0,
-            need: 0,
-            size,
-            count,
-        },
+impl From<Result<Spans, Short<u32>>> for SpansAnswer {
+    ghost from_gives = { λ a r. r ≡ spans_answer a };
+
+    fn from(answer: Result<Spans, Short<u32>>) -> SpansAnswer
+        ensures { result ≡ spans_answer answer }
+    {
+        match answer {
+            Err(e) => SpansAnswer {
+                refusal: e.refusal.number(),
+                need: e.need,
+                ..SpansAnswer::default()
+            },
+            Ok(spans) => SpansAnswer {
+                size: spans.size,
+                count: spans.rows,
+                ..SpansAnswer::default()
+            },
+        }
     }
 }
 
-fn span_answer(s: Span) -> SpanAnswer
-    ensures { result ≡ span_answer s }
-{
-    let reason = s.reason;
-    SpanAnswer {
-        from: s.from,
-        reason: reason.kind(),
-        page: reason.page(),
-        byte: reason.byte(),
+impl From<Span> for SpanAnswer {
+    ghost from_gives = { λ s r. r ≡ span_answer s };
+
+    fn from(span: Span) -> SpanAnswer
+        ensures { result ≡ span_answer span }
+    {
+        SpanAnswer {
+            from: span.from,
+            reason: span.reason.kind(),
+            page: span.reason.page(),
+            byte: span.reason.byte(),
+        }
     }
 }
 
@@ -137,18 +139,19 @@ pub fn lohenarr_dump_spans(
     ensures value { result ≡ spans_answer (spans_on (geometry_at geometry) dump.now (moment_at before) object (length rows.old)) }
     ensures rows_after { rows.new ≡ spans_left (geometry_at geometry) dump.now (moment_at before) object rows.old }
 {
-    spans_answer(spans(
+    spans(
         dump,
         geometry_at(geometry),
         moment_at(before),
         ObjectId(object),
         rows,
-    ))
+    )
+    .into()
 }
 
 // The span that a row of spans tells.
 pub fn lohenarr_span(geometry: Geometry, row: u64) -> SpanAnswer
     ensures { result ≡ span_answer (span_of (geometry_at geometry).layout.«data» row) }
 {
-    span_answer(Span::of(geometry_at(geometry), row))
+    Span::of(geometry_at(geometry), row).into()
 }

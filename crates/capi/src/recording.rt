@@ -18,7 +18,7 @@ use sort::rows::{key_of, value_of};
 
 // How many records an object has. Beside ShortBuffer `need` is that number, which is how many words each slice needs, and 0 else.
 #[repr(C)]
-#[derive(Clone, Copy)]
+#[derive(Clone, Copy, Default)]
 pub struct RecordsAnswer {
     pub refusal: u32,
     pub need: u32,
@@ -27,7 +27,7 @@ pub struct RecordsAnswer {
 
 // How a record stands: its page, the number of the kind, the page that supersedes or cuts it, and from where up to where it holds bytes of the file.
 #[repr(C)]
-#[derive(Clone, Copy)]
+#[derive(Clone, Copy, Default)]
 pub struct StandingAnswer {
     pub from: u64,
     pub until: u64,
@@ -38,27 +38,30 @@ pub struct StandingAnswer {
 
 // What the file was after a record: the record's page, the size, or the number of the refusal.
 #[repr(C)]
-#[derive(Clone, Copy)]
+#[derive(Clone, Copy, Default)]
 pub struct HistoryAnswer {
     pub size: u64,
     pub page: u32,
     pub refusal: u32,
 }
 
-fn records_answer(a: Recorded) -> RecordsAnswer
-    ensures { result ≡ records_answer a }
-{
-    match a {
-        Recorded::Refused(r, need) => RecordsAnswer {
-            refusal: r.number(),
-            need,
-            count: 0,
-        },
-        Recorded::Records(count) => RecordsAnswer {
-            refusal: 0,
-            need: 0,
-            count,
-        },
+impl From<Recorded> for RecordsAnswer {
+    ghost from_gives = { λ a r. r ≡ records_answer a };
+
+    fn from(answer: Recorded) -> RecordsAnswer
+        ensures { result ≡ records_answer answer }
+    {
+        match answer {
+            Err(e) => RecordsAnswer {
+                refusal: e.refusal.number(),
+                need: e.need,
+                ..RecordsAnswer::default()
+            },
+            Ok(count) => RecordsAnswer {
+                count,
+                ..RecordsAnswer::default()
+            },
+        }
     }
 }
 
@@ -94,7 +97,7 @@ pub fn lohenarr_dump_stands(
     ensures work_after { work.new ≡ work_left (geometry_at geometry) dump.now (moment_at before) object
         (min (length rows.old) (min (length details.old) (length work.old))) work.old }
 {
-    records_answer(stands(
+    stands(
         dump,
         geometry_at(geometry),
         moment_at(before),
@@ -102,7 +105,8 @@ pub fn lohenarr_dump_stands(
         rows,
         details,
         work,
-    ))
+    )
+    .into()
 }
 
 // How the record stands that a row and its second word tell.
@@ -129,14 +133,15 @@ pub fn lohenarr_dump_history(
     ensures sizes_after { sizes.new ≡ sizes_left (geometry_at geometry) dump.now (moment_at before) object
         (min (length rows.old) (length sizes.old)) sizes.old }
 {
-    records_answer(history(
+    history(
         dump,
         geometry_at(geometry),
         moment_at(before),
         ObjectId(object),
         rows,
         sizes,
-    ))
+    )
+    .into()
 }
 
 // What a row of a history and the size beside it tell.

@@ -7,30 +7,29 @@ ghost use Rattle.capi.specs.Headers.{text_answer};
 
 use crate::layout::{Geometry, geometry_at};
 use page::fields::Text;
-use page::header::{Headed, header};
+use page::header::header;
 use page::number::PageNumber;
 
 // A part of the dump: where it begins and how long it is. Beside a refusal it is empty, at 0.
 #[repr(C)]
-#[derive(Clone, Copy)]
+#[derive(Clone, Copy, Default)]
 pub struct PartAnswer {
     pub refusal: u32,
     pub offset: usize,
     pub length: usize,
 }
 
+#[tactic(auto, unfolding(crate::specs::Headers::text_answer))]
 fn text_answer(dump: &[u8], geometry: Geometry, page: u32, f: Text) -> PartAnswer
     ensures { result ≡ text_answer f (geometry_at geometry) dump.now page }
 {
     let g = geometry_at(geometry);
-    let h = header(dump, g, PageNumber(page));
-    match h {
-        Headed::Refused(r) => PartAnswer {
+    match header(dump, g, PageNumber(page)) {
+        Err(r) => PartAnswer {
             refusal: r.number(),
-            offset: 0,
-            length: 0,
+            ..PartAnswer::default()
         },
-        Headed::Fields(_) => PartAnswer {
+        Ok(_) => PartAnswer {
             refusal: 0,
             offset: (page as usize) * g.layout.page_len() + f.place(),
             length: f.length(),
@@ -38,7 +37,7 @@ fn text_answer(dump: &[u8], geometry: Geometry, page: u32, f: Text) -> PartAnswe
     }
 }
 
-// The name in a header, 256 bytes.
+// The name in a header, 256 bytes. C has a function for each of the three texts.
 pub fn lohenarr_header_name(dump: &[u8], geometry: Geometry, page: u32) -> PartAnswer
     ensures value { result ≡ text_answer Name (geometry_at geometry) dump.now page }
     ensures dump_value { take result.length (drop result.offset dump.now) ≡ text_at Name (geometry_at geometry) dump.now page }

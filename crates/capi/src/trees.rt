@@ -14,7 +14,7 @@ use tree::whole::{Grown, tree};
 
 // How many rows the first list has, and the second. Beside ShortBuffer `need` is how many words each slice needs, and 0 else.
 #[repr(C)]
-#[derive(Clone, Copy)]
+#[derive(Clone, Copy, Default)]
 pub struct TreeAnswer {
     pub refusal: u32,
     pub need: u32,
@@ -24,7 +24,7 @@ pub struct TreeAnswer {
 
 // How many bytes were written. Beside ShortBuffer `need` is how many it needs, and 0 else.
 #[repr(C)]
-#[derive(Clone, Copy)]
+#[derive(Clone, Copy, Default)]
 pub struct TextAnswer {
     pub refusal: u32,
     pub need: u64,
@@ -33,45 +33,51 @@ pub struct TextAnswer {
 
 // A row of the tree: its key, and the page of its object's newest header.
 #[repr(C)]
-#[derive(Clone, Copy)]
+#[derive(Clone, Copy, Default)]
 pub struct RowAnswer {
     pub key: u32,
     pub page: u32,
 }
 
-fn tree_answer(a: Grown) -> TreeAnswer
-    ensures { result ≡ tree_answer a }
-{
-    match a {
-        Grown::Refused(r, need) => TreeAnswer {
-            refusal: r.number(),
-            need,
-            listed: 0,
-            others: 0,
-        },
-        Grown::Rows(listed, others) => TreeAnswer {
-            refusal: 0,
-            need: 0,
-            listed,
-            others,
-        },
+impl From<Grown> for TreeAnswer {
+    ghost from_gives = { λ a r. r ≡ tree_answer a };
+
+    fn from(answer: Grown) -> TreeAnswer
+        ensures { result ≡ tree_answer answer }
+    {
+        match answer {
+            Err(e) => TreeAnswer {
+                refusal: e.refusal.number(),
+                need: e.need,
+                ..TreeAnswer::default()
+            },
+            Ok(lists) => TreeAnswer {
+                listed: lists.listed,
+                others: lists.others,
+                ..TreeAnswer::default()
+            },
+        }
     }
 }
 
-fn texted_answer(t: Texted) -> TextAnswer
-    ensures { result ≡ texted_answer t }
-{
-    match t {
-        Texted::Refused(r, need) => TextAnswer {
-            refusal: r.number(),
-            need,
-            length: 0,
-        },
-        Texted::Written(length) => TextAnswer {
-            refusal: 0,
-            need: 0,
-            length,
-        },
+// What became of a text or of a report.
+impl From<Texted> for TextAnswer {
+    ghost from_gives = { λ a r. r ≡ texted_answer a };
+
+    fn from(answer: Texted) -> TextAnswer
+        ensures { result ≡ texted_answer answer }
+    {
+        match answer {
+            Err(e) => TextAnswer {
+                refusal: e.refusal.number(),
+                need: e.need,
+                ..TextAnswer::default()
+            },
+            Ok(length) => TextAnswer {
+                length,
+                ..TextAnswer::default()
+            },
+        }
     }
 }
 
@@ -90,14 +96,15 @@ pub fn lohenarr_dump_tree(
     ensures heads_after { heads.new ≡ work_left (geometry_at geometry) dump.now (moment_at before) (length rows.old) (length heads.old) (length work.old) heads.old }
     ensures work_after { work.new ≡ work_left (geometry_at geometry) dump.now (moment_at before) (length rows.old) (length heads.old) (length work.old) work.old }
 {
-    tree_answer(tree(
+    tree(
         dump,
         geometry_at(geometry),
         moment_at(before),
         rows,
         heads,
         work,
-    ))
+    )
+    .into()
 }
 
 // Writes the text of the tree's rows, of which the first `listed` are of the first list. Bytes past the text stay, and a refusal writes nothing.
@@ -111,7 +118,7 @@ pub fn lohenarr_tree_text(
     ensures value { result ≡ texted_answer (text_on (geometry_at geometry) dump.now rows.now listed (length buf.old)) }
     ensures buf_after { buf.new ≡ text_left (geometry_at geometry) dump.now rows.now listed buf.old }
 {
-    texted_answer(text(dump, geometry_at(geometry), rows, listed, buf))
+    text(dump, geometry_at(geometry), rows, listed, buf).into()
 }
 
 // Writes the path of a row of the first list; no bytes where there is no such row. Bytes past the path stay, and a refusal writes nothing.
@@ -125,7 +132,7 @@ pub fn lohenarr_tree_path(
     ensures value { result ≡ texted_answer (path_on (geometry_at geometry) dump.now rows.now row (length buf.old)) }
     ensures buf_after { buf.new ≡ path_left (geometry_at geometry) dump.now rows.now row buf.old }
 {
-    texted_answer(path(dump, geometry_at(geometry), rows, row, buf))
+    path(dump, geometry_at(geometry), rows, row, buf).into()
 }
 
 // What a row of the tree holds.

@@ -3,7 +3,8 @@ ghost use Rattle.std.specs.Prelude.{◌≡◌, length};
 ghost use Rattle.compare.specs.Answers.{compared_on, bytes_left};
 ghost use Rattle.compare.specs.Lists.{next_in, sides_report, lists_report};
 ghost use Rattle.compare.specs.Prepared.{prepared_on, order_left, copies_left, work_left};
-ghost use Rattle.capi.specs.Comparing.{prepared_answer, next_answer, compared_answer};
+ghost use Rattle.capi.specs.Comparing.{prepared_answer, next_answer};
+ghost use Rattle.capi.specs.Trees.{texted_answer};
 ghost use Rattle.capi.specs.Layouts.{geometry_at};
 
 use capi::comparing::{NextAnswer, PreparedAnswer};
@@ -51,7 +52,7 @@ pub extern "C" fn lohenarr_compare_object(
     object: u32,
     buf: &mut [u8],
 ) -> TextAnswer
-    ensures value { result ≡ compared_answer (compared_on (geometry_at geometry1) (length dump1.now) (geometry_at geometry2) (length dump2.now) (sides_report (geometry_at geometry1) dump1.now (geometry_at geometry2) dump2.now object order1.now copies1.now order2.now copies2.now) (length buf.old)) }
+    ensures value { result ≡ texted_answer (compared_on (geometry_at geometry1) (length dump1.now) (geometry_at geometry2) (length dump2.now) (sides_report (geometry_at geometry1) dump1.now (geometry_at geometry2) dump2.now object order1.now copies1.now order2.now copies2.now) (length buf.old)) }
     ensures buf_after { buf.new ≡ bytes_left (geometry_at geometry1) (length dump1.now) (geometry_at geometry2) (length dump2.now) (sides_report (geometry_at geometry1) dump1.now (geometry_at geometry2) dump2.now object order1.now copies1.now order2.now copies2.now) buf.old }
 {
     capi::comparing::lohenarr_compare_object(
@@ -72,7 +73,7 @@ pub extern "C" fn lohenarr_compare(
     copies2: &[u64],
     buf: &mut [u8],
 ) -> TextAnswer
-    ensures value { result ≡ compared_answer (compared_on (geometry_at geometry1) (length dump1.now) (geometry_at geometry2) (length dump2.now) (lists_report (geometry_at geometry1) dump1.now (geometry_at geometry2) dump2.now order1.now copies1.now order2.now copies2.now) (length buf.old)) }
+    ensures value { result ≡ texted_answer (compared_on (geometry_at geometry1) (length dump1.now) (geometry_at geometry2) (length dump2.now) (lists_report (geometry_at geometry1) dump1.now (geometry_at geometry2) dump2.now order1.now copies1.now order2.now copies2.now) (length buf.old)) }
     ensures buf_after { buf.new ≡ bytes_left (geometry_at geometry1) (length dump1.now) (geometry_at geometry2) (length dump2.now) (lists_report (geometry_at geometry1) dump1.now (geometry_at geometry2) dump2.now order1.now copies1.now order2.now copies2.now) buf.old }
 {
     capi::comparing::lohenarr_compare(

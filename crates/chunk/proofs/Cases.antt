@@ -1,8 +1,8 @@
 -- What each answer is, case by case. The crates above cite these laws, and open no definition of this crate.
+use Rattle.std.specs.Prelude.{Some, None}
 use Prim.Native.Nat.{ℕ, ◌≤◌, ◌<◌, max}
 use mathlib.Core.Bool.{true, false, ◌&&◌}
 use mathlib.Core.List.{List, []}
-use mathlib.Core.Option.{none, some}
 use mathlib.Core.Path.{◌≡◌, refl}
 use lib.Dec.{eqb, ltb, leb}
 use lib.ListN.{length, take}
@@ -25,11 +25,11 @@ use Rattle.chunk.specs.Visits.{copy, hole, headless, headed, visits}
 use Rattle.chunk.specs.Lookups.{file_at, file_by, file_of, sized_by, sized_of, shown_of, valid_of, copy_at, copy_by, chunk_by, looked_by, looked_of}
 use Rattle.chunk.specs.Answers.{valid_part, part_by}
 use Rattle.chunk.specs.Lists.{listed_by, in_front, words_by}
-use Rattle.chunk.specs.declared.answer.File.{File}
-use Rattle.chunk.specs.declared.answer.File.TheVariants as file
-use Rattle.chunk.specs.declared.answer.Sized.TheVariants as sized
-use Rattle.chunk.specs.declared.answer.Looked.TheVariants as looked
-use Rattle.chunk.specs.declared.answer.Listed.TheVariants as listed
+use Rattle.chunk.specs.File.{File}
+use Rattle.chunk.specs.File as file
+use Rattle.chunk.specs.Sized as sized
+use Rattle.chunk.specs.Looked as looked
+use Rattle.chunk.specs.Listed as listed
 
 -- ---- the file
 
@@ -41,12 +41,12 @@ file_cases k h v X f g = by_test (is_gone k) _ (λ t. rw t (f _)) (λ t. rw t (b
 
 module _ (says : ℕ → Record) (o n : ℕ) where
   -- without a header, by whether there is any record
-  pub file_headless : newest_header says o n ≡ none → file_of says o n ≡ pick (eqb (records says o n) 0) (file.Refused NoObject 0) (file.Refused NoHeader (visits says o n headless))
+  pub file_headless : newest_header says o n ≡ None → file_of says o n ≡ pick (eqb (records says o n) 0) (file.Refused NoObject 0) (file.Refused NoHeader (visits says o n headless))
   unfolding file_of file_by
   file_headless e = rw e
 
   -- with one, by what the newest says
-  pub file_headed : (h : ℕ) → (records says o n ≡ 0 → ⊥) → newest_header says o n ≡ some h → file_of says o n ≡ file_at (says h) h (visits says o n (headed h))
+  pub file_headed : (h : ℕ) → (records says o n ≡ 0 → ⊥) → newest_header says o n ≡ Some h → file_of says o n ≡ file_at (says h) h (visits says o n (headed h))
   unfolding file_of file_by
   file_headed h s e = rw (ne_eqb _ _ s, e)
 
@@ -81,17 +81,17 @@ module _ (says : ℕ → Record) (o n : ℕ) where
     module _ (c : ℕ) where
       -- no copy, a copy that a later header hides, and one that is in sight
       module _ (h shown : ℕ) where
-        pub copy_missing : copy_by says o n P c h shown none ≡ looked.Hole shown (visits says o n hole)
+        pub copy_missing : copy_by says o n P c h shown None ≡ looked.Hole shown (visits says o n hole)
         unfolding copy_by
         copy_missing = refl
 
-        pub copy_hidden : (q : ℕ) → hides (lowest_cut says o h (age_of says q) n) (base_of P c) ≡ true → copy_by says o n P c h shown (some q) ≡ looked.Hole shown (visits says o n hole)
+        pub copy_hidden : (q : ℕ) → hides (lowest_cut says o h (age_of says q) n) (base_of P c) ≡ true → copy_by says o n P c h shown (Some q) ≡ looked.Hole shown (visits says o n hole)
         unfolding copy_by copy_at
         copy_hidden q i = rw i
 
         pub copy_shown :
             (q : ℕ) → hides (lowest_cut says o h (age_of says q) n) (base_of P c) ≡ false →
-            copy_by says o n P c h shown (some q)
+            copy_by says o n P c h shown (Some q)
             ≡ looked.Copy (record { 0 = q }) (valid_of P c (says q) shown (lowest_cut says o h (age_of says q) n)) shown (visits says o n (copy h q))
         unfolding copy_by copy_at
         copy_shown q i = rw i

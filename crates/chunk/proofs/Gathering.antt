@@ -1,7 +1,7 @@
 -- What one page more makes of each gathering: all that a scan's loop, and a walk along sorted records, need to know of its definition.
 use Prim.Native.Nat.{ℕ, suc, ◌+◌, ◌<◌, ◌≤◌, max}
+use Rattle.std.specs.Prelude.{Option, None, Some}
 use mathlib.Core.Bool.{Bool, true, false, ◌&&◌}
-use mathlib.Core.Option.{Option, none, some}
 use mathlib.Core.Path.{◌≡◌, refl, ap, ◌∙◌}
 use native.Mathlib.Numerals.{add-one}
 use borrow.Author.Tests.{le-leb, lt-leb}
@@ -16,8 +16,8 @@ use Rattle.chunk.specs.Records.{age_of, is_of, header_of, data_of}
 use Rattle.chunk.specs.Newest.{later, newest_where, since}
 use Rattle.chunk.specs.Cuts.{cut_of, lower, lowest_cut}
 use Rattle.chunk.specs.Sizes.{end_of, data_end}
-use Rattle.chunk.specs.declared.cut.Cut.TheVariants.{Nowhere}
-use Rattle.chunk.specs.declared.scan.Newest.TheVariants.{At, Nothing}
+use Rattle.chunk.specs.Aged.{At, Nothing}
+use Rattle.chunk.proofs.Alike.{same_page, same_age}
 use Rattle.chunk.specs.Scans.{later_in, newest_in, end_with, cut_with}
 
 -- a test joined with none
@@ -30,12 +30,8 @@ pub gather_step : {A : Type 0} (f : ℕ → A → A) (a : A) (n : ℕ) → gathe
 unfolding gather
 gather_step f a n = rw add-one
 
--- equal pages found have equal ages
-at_age : (p q : PageNumber) (a b : ℕ) → At p a ≡ At q b → a ≡ b
-at_age p q a b e = cc
-
 module _ (says : ℕ → Record) where
-  pub where_none : (test : ℕ → Bool) → newest_where says test 0 ≡ none
+  pub where_none : (test : ℕ → Bool) → newest_where says test 0 ≡ None
   unfolding newest_where gather
   where_none test = refl
 
@@ -55,17 +51,17 @@ module _ (says : ℕ → Record) where
 
   -- the newer of two pages, kept with its age
   pub later_in_lem : (p : ℕ) (r : Option ℕ) → later_in (newest_in says r) p (age_of says p) ≡ newest_in says (later says p r)
-  later_in_lem p none = refl
-  later_in_lem p (some q) = by_test (leb (age_of says q) (age_of says p)) _ (λ t. rw t) (λ t. rw t)
+  later_in_lem p None = refl
+  later_in_lem p (Some q) = by_test (leb (age_of says q) (age_of says p)) _ (λ t. rw t) (λ t. rw t)
 
   -- what a scan found, as a page
-  pub in_none : (r : Option ℕ) → newest_in says r ≡ Nothing → r ≡ none
-  in_none none e = refl
-  in_none (some q) e = clash (cc)
+  pub in_none : (r : Option ℕ) → newest_in says r ≡ Nothing → r ≡ None
+  in_none None e = refl
+  in_none (Some q) e = clash (cc)
 
-  pub in_some : (r : Option ℕ) (p : PageNumber) (a : ℕ) → newest_in says r ≡ At p a → (r ≡ some p.0) × (age_of says p.0 ≡ a)
-  in_some none p a e = clash (cc)
-  in_some (some q) p a e = let h : q ≡ p.0 = cc in (ap some h, rw (← h) (at_age _ _ _ _ e))
+  pub in_some : (r : Option ℕ) (p : PageNumber) (a : ℕ) → newest_in says r ≡ At p a → (r ≡ Some p.0) × (age_of says p.0 ≡ a)
+  in_some None p a e = clash (cc)
+  in_some (Some q) p a e = let h : q ≡ p.0 = ap (λ (x : PageNumber). x.0) (same_page _ _ _ _ e) in (ap Some h, rw (← h) (same_age _ _ _ _ e))
 
   pub since_none : (o x : ℕ) → since says o x 0 ≡ 0
   unfolding since gather
@@ -108,7 +104,7 @@ module _ (says : ℕ → Record) where
   unfolding end_with
   end_other P o x n t = end_step P o x n ∙ rw t
 
-  pub cut_none : (o h x : ℕ) → lowest_cut says o h x 0 ≡ Nowhere
+  pub cut_none : (o h x : ℕ) → lowest_cut says o h x 0 ≡ None
   unfolding lowest_cut gather
   cut_none o h x = refl
 

@@ -1,14 +1,15 @@
 -- Laws of bytes laid over a buffer: a buffer with the first i elements of a list in front, and its own behind them.
 use Prim.Native.Nat.{ℕ, zero, suc, ◌+◌, ◌-◌, ◌≤◌, ◌<◌, min}
-use mathlib.Core.List.{List, ◌∷◌, ◌++◌, append-nil}
+use mathlib.Core.List.{List, ◌∷◌, ◌++◌, append-nil, append_assoc}
 use mathlib.Core.Path.{◌≡◌, refl, sym, ap, ◌∙◌}
 use native.Mathlib.Nat.{not-suc-le-zero, le_of_suc-le-suc}
 use native.Mathlib.Numerals.{add-one}
 use native.Mathlib.Omega.{arith}
-use lib.ListN.{length, take, drop, get_or, set, replicate, get_or-replicate, take-append-drop, drop_of_length-le}
+use lib.ListN.{length, length-append, length-take, length-drop, take, drop, get_or, set, replicate, get_or-replicate, take-append-drop, drop_of_length-le}
 use lib.Seq.{take-suc, drop-cons, append_snoc, set_at, get_or_at, length-take-le, take_at, drop_at, take_all, take-append-le, take-append-add, drop-append-add, get_or-append-add, drop-drop}
 use lib.Dec.{leb}
 use borrow.Author.Tests.{leb-true, leb-false}
+use borrow.Rule.Slice.PartMut.{put_mid}
 use Rattle.page.proofs.Searching.{by_test}
 use Rattle.chunk.specs.Answers.{overlaid}
 
@@ -85,3 +86,14 @@ laid_over part buffer shown m e h =
         let q : m ≡ shown = omega arith in
         let z : shown - shown ≡ 0 = omega arith in
         rw (q, z) (append-nil (take shown part) ∙ sym (take-append-le shown part (replicate shown 0) (omega arith)))
+
+-- zeros in the middle of what is laid are the overlay
+pub zeros_over : (part buffer zeros : List ℕ) (shown m : ℕ) → m ≡ min (length part) shown → shown ≤ length buffer
+    → zeros ≡ replicate (length (take (shown - m) (drop m (laid part buffer m)))) 0
+    → put_mid m (shown - m) (laid part buffer m) zeros ≡ overlaid part shown buffer
+zeros_over part buffer zeros shown m e h z =
+    let front : m ≤ length part = omega arith in
+    let all : length (laid part buffer m) ≡ length buffer = simp (length-append, length-take, length-drop) (omega arith) in
+    let room : length (take (shown - m) (drop m (laid part buffer m))) ≡ shown - m = simp (length-take, length-drop) (omega arith) in
+    let end : m + (shown - m) ≡ shown = omega arith in
+    rw (z, room, drop-drop, end, ← append_assoc (take m (laid part buffer m)) (replicate (shown - m) 0) (drop shown (laid part buffer m))) (laid_over part buffer shown m e h)

@@ -1,4 +1,6 @@
 -- records, cuts, and one page more
+pub mod Tests
+pub mod Alike
 pub mod Records
 pub mod Cuts
 pub mod Gathering

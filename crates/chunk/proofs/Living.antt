@@ -6,11 +6,11 @@
 --
 -- Likewise no two pages are the first record of one object, and every object of a record has a first: as many pages are first records as
 -- the records have distinct ids.
+use Rattle.std.specs.Prelude.{Option, Some, None}
 use Prim.Native.Nat.{ℕ, zero, suc, ◌+◌, ◌≤◌, ◌<◌, zero-le}
 use mathlib.Core.Bool.{Bool, true, false, not, ◌&&◌, ◌||◌}
 use mathlib.Core.List.{[], ◌∷◌, ◌++◌}
 use mathlib.Core.Logic.{⊎_elim}
-use mathlib.Core.Option.{Option, none, some}
 use mathlib.Core.Path.{◌≡◌, refl, sym, ap, ◌∙◌}
 use native.Mathlib.Nat.{not-suc-le-zero, le_of_suc-le-suc, eq-or-lt_of_le, le_refl, le_trans}
 use native.Mathlib.Numerals.{add-one}
@@ -163,16 +163,16 @@ module _ (test : ℕ → Bool) (id : ℕ → ℕ) where
   ids_ascend apart n = ids_ascend_below n (λ p q h k. apart p q) n (le_refl n)
 
 -- a search that found page p
-at_some : (p : ℕ) (r : Option ℕ) → is_at p r ≡ true → r ≡ some p
-at_some p none e = clash (cc)
-at_some p (some q) e = ap some (eqb-true q p e)
+at_some : (p : ℕ) (r : Option ℕ) → is_at p r ≡ true → r ≡ Some p
+at_some p None e = clash (cc)
+at_some p (Some q) e = ap Some (eqb-true q p e)
 
 module _ (says : ℕ → Record) where
   module _ (n : ℕ) where
     -- object o is live: it has a newest header, whose parent is neither 3 nor 4
     pub record Live (o : ℕ) : Type 0 where
       pub header : ℕ
-      pub newest_header_lem : newest_header says o n ≡ some header
+      pub newest_header_lem : newest_header says o n ≡ Some header
       pub kept : is_gone (says header) ≡ false
 
     -- a page that is no header is not live, and a header by its parent and its object's newest header
@@ -186,7 +186,7 @@ module _ (says : ℕ → Record) where
     live_header p h e = rw e
 
     -- a live page is the newest header of its object, and that is live
-    live-page : (p : ℕ) → live_page says n p ≡ true → (newest_header says (object_at says p) n ≡ some p) × (is_gone (says p) ≡ false)
+    live-page : (p : ℕ) → live_page says n p ≡ true → (newest_header says (object_at says p) n ≡ Some p) × (is_gone (says p) ≡ false)
     live-page p e =
         let r = and_right (is_header (says p)) _ e in
         (at_some p _ (and_right (not (is_gone (says p))) _ r), not-true (is_gone (says p)) (and_left (not (is_gone (says p))) _ r))
@@ -203,7 +203,7 @@ module _ (says : ℕ → Record) where
     -- an object has one newest header
     live-apart : (p q : ℕ) → live_page says n p ≡ true → live_page says n q ≡ true → object_at says p ≡ object_at says q → p ≡ q
     live-apart p q t u e =
-        let f : some p ≡ some q = sym (live-page p t).0 ∙ ap (λ (o : ℕ). newest_header says o n) e ∙ (live-page q u).0 in
+        let f : Some p ≡ Some q = sym (live-page p t).0 ∙ ap (λ (o : ℕ). newest_header says o n) e ∙ (live-page q u).0 in
         cc
 
     -- the ids of the live pages among the first m ascend, each once
@@ -291,7 +291,7 @@ module _ (says : ℕ → Record) where
   pub objects_of_lem : (n o : ℕ) → In o (object_ids says n) → (o ≡ 0 → ⊥) × Bears (λ p. is_of o (says p)) (object_at says) n o
   objects_of_lem n o i =
       let w = ids_of_lem (object_page says) (object_at says) o n i in
-      let some : o ≡ 0 → ⊥ = rw w.bears at (object_page_lem w.page w.passes).0 in (
-        some,
-        record { page = w.page; inside = w.inside; passes = object_of_lem o (says w.page) some w.bears; bears = w.bears },
+      let Some : o ≡ 0 → ⊥ = rw w.bears at (object_page_lem w.page w.passes).0 in (
+        Some,
+        record { page = w.page; inside = w.inside; passes = object_of_lem o (says w.page) Some w.bears; bears = w.bears },
       )

@@ -8,7 +8,7 @@ use Rattle.page.specs.declared.record.Record.TheVariants.{Other, Header, Data}
 use Rattle.page.specs.declared.refusal.Refusal.TheVariants.{NotAFile}
 use Rattle.page.proofs.Searching.{clash}
 use Rattle.chunk.specs.Lookups.{file_at}
-use Rattle.chunk.specs.declared.answer.File.TheVariants as file
+use Rattle.chunk.specs.File as file
 
 -- a page that is no header is no file
 pub other_file : (k : Record) (h v : ℕ) → is_header k ≡ false → file_at k h v ≡ file.Refused NotAFile v

@@ -1,5 +1,6 @@
 -- The twelve marked cases, computed from the definitions. W's kinds are known page by page from the crate of pages, so that no byte is looked at here.
 use Prim.Native.Nat.{ℕ, ◌<◌}
+use Rattle.std.specs.Prelude.{Ok}
 use mathlib.Core.Bool.{false}
 use mathlib.Core.Path.{◌≡◌}
 use native.Mathlib.Omega.{arith}
@@ -7,7 +8,6 @@ use lib.ListN.{length}
 use Rattle.page.specs.Numbers.{bad_object, bad_chunk}
 use Rattle.page.specs.Lengths.{opened_of}
 use Rattle.page.specs.Shelf.{shelf_geometry, shelf, shelf_kinds}
-use Rattle.page.specs.declared.geometry.Opened.TheVariants.{Pages}
 use Rattle.page.proofs.Marked as pages
 use Rattle.page.proofs.Within.{object_good, chunk_good}
 use Rattle.chunk.specs.Gather.{gather}
@@ -19,7 +19,7 @@ use Rattle.chunk.specs.Answers.{size_on, chunk_on}
 use Rattle.chunk.specs.Shelf.{answers, expected}
 
 -- W is accepted
-opened : opened_of shelf_geometry (length shelf) ≡ Pages 8
+opened : opened_of shelf_geometry (length shelf) ≡ Ok 8
 opened = rw (pages.marked).shelf_length (pages.marked).shelf_opened
 
 -- the ids and chunk numbers asked for are not bad

@@ -1,8 +1,8 @@
 -- What the definitions mean, in the paper's own terms: the newest is the one that none is newer than; a header cuts, or hides a copy, exactly
 -- when the paper says so; a copy that is found has valid bytes.
 use Prim.Native.Nat.{ℕ, zero, suc, ◌≤◌, ◌<◌}
+use Rattle.std.specs.Prelude.{Option, Some, None}
 use mathlib.Core.Bool.{Bool, true, false, ◌&&◌, ◌||◌}
-use mathlib.Core.Option.{Option, none, some}
 use mathlib.Core.Path.{◌≡◌, refl, sym, ap, ◌∙◌}
 use mathlib.Core.Logic.{⊎_elim}
 use native.Mathlib.Nat.{not-suc-le-zero, le_of_suc-le-suc, eq-or-lt_of_le, le_refl, le-max_left, le_trans, le_antisymm}
@@ -16,7 +16,6 @@ use Rattle.chunk.specs.Records.{order_of, age_of, header_of, file_size, is_gone,
 use Rattle.chunk.specs.Newest.{later, newest, newest_where}
 use Rattle.chunk.specs.Cuts.{is_shrink, cut_of, lower, lowest_cut, hides}
 use Rattle.chunk.specs.Sizes.{size_of, data_end}
-use Rattle.chunk.specs.declared.cut.Cut.TheVariants.{At, Nowhere}
 use Rattle.chunk.proofs.Cuts.{lower_hides, lower_still, lower_leaves}
 use Rattle.chunk.proofs.Gathering.{where_none, where_suc, cut_none, cut_suc}
 
@@ -35,10 +34,10 @@ pub record IsNewest (says : ℕ → Record) (test : ℕ → Bool) (n p : ℕ) : 
 
 module _ (says : ℕ → Record) (test : ℕ → Bool) where
   -- a search that finds nothing: no page passes
-  pub where_missing : (n : ℕ) → newest_where says test n ≡ none → (q : ℕ) → q < n → test q ≡ false
+  pub where_missing : (n : ℕ) → newest_where says test n ≡ None → (q : ℕ) → q < n → test q ≡ false
   where_missing zero e q h = absurd (not-suc-le-zero h)
   where_missing (suc n) e q h =
-      pick_cases (test n) _ _ none _ (sym (where_suc says test n) ∙ e)
+      pick_cases (test n) _ _ None _ (sym (where_suc says test n) ∙ e)
       (λ t k. absurd (no-later (newest_where says test n) k))
       (λ t k.
       ⊎_elim
@@ -46,18 +45,18 @@ module _ (says : ℕ → Record) (test : ℕ → Bool) where
       (λ i. where_missing n k q i)
       (eq-or-lt_of_le (le_of_suc-le-suc h)))
     where
-      no-later : (r : Option ℕ) → later says n r ≡ none → ⊥
-      no-later none k = clash (cc)
-      no-later (some x) k = pick_cases (leb (age_of says x) (age_of says n)) _ _ none _ k (λ _ j. clash (cc)) (λ _ j. clash (cc))
+      no-later : (r : Option ℕ) → later says n r ≡ None → ⊥
+      no-later None k = clash (cc)
+      no-later (Some x) k = pick_cases (leb (age_of says x) (age_of says n)) _ _ None _ k (λ _ j. clash (cc)) (λ _ j. clash (cc))
 
   -- a search that finds a page: the newest that passes
-  pub where_found : (n p : ℕ) → newest_where says test n ≡ some p → IsNewest says test n p
+  pub where_found : (n p : ℕ) → newest_where says test n ≡ Some p → IsNewest says test n p
   where_found zero p e = absurd (never (sym (where_none says test) ∙ e))
     where
-      never : none ≡ some p → ⊥
+      never : None ≡ Some p → ⊥
       never k = clash (cc)
   where_found (suc n) p e =
-      pick_cases (test n) _ _ (some p) _ (sym (where_suc says test n) ∙ e)
+      pick_cases (test n) _ _ (Some p) _ (sym (where_suc says test n) ∙ e)
       (λ t k. taken t (newest_where says test n) refl k (λ x i. where_found n x i))
       (λ t k.
       let f = where_found n p k in
@@ -79,14 +78,14 @@ module _ (says : ℕ → Record) (test : ℕ → Bool) where
           }
 
       taken :
-          test n ≡ true → (r : Option ℕ) → newest_where says test n ≡ r → later says n r ≡ some p →
-          ((x : ℕ) → newest_where says test n ≡ some x → IsNewest says test n x) → IsNewest says test (suc n) p
-      taken t none i k ih =
+          test n ≡ true → (r : Option ℕ) → newest_where says test n ≡ r → later says n r ≡ Some p →
+          ((x : ℕ) → newest_where says test n ≡ Some x → IsNewest says test n x) → IsNewest says test (suc n) p
+      taken t None i k ih =
           let j : p ≡ n = cc in
           last j t (λ q h u. let m = where_missing n i q h in absurd (clash (cc)))
-      taken t (some x) i k ih =
+      taken t (Some x) i k ih =
           let f = ih x i in
-          pick_cases (leb (age_of says x) (age_of says n)) _ _ (some p) _ k
+          pick_cases (leb (age_of says x) (age_of says n)) _ _ (Some p) _ k
           (λ b c. let j : p ≡ n = cc in last j t (λ q h u. le_trans (f.newest q h u) (leb-true _ _ b)))
           (λ b c.
           let j : p ≡ x = cc in
@@ -102,22 +101,22 @@ module _ (says : ℕ → Record) (test : ℕ → Bool) where
   same_age p q h k e = omega arith
 
   -- and so a search finds the page that is the newest
-  pub where_is : (n p : ℕ) → IsNewest says test n p → n ≤ 4294967296 → newest_where says test n ≡ some p
+  pub where_is : (n p : ℕ) → IsNewest says test n p → n ≤ 4294967296 → newest_where says test n ≡ Some p
   where_is n p w h = found (newest_where says test n) refl
     where
-      found : (r : Option ℕ) → newest_where says test n ≡ r → r ≡ some p
-      found none e = let m = where_missing n e p w.below in clash (cc w.passes)
-      found (some q) e =
+      found : (r : Option ℕ) → newest_where says test n ≡ r → r ≡ Some p
+      found None e = let m = where_missing n e p w.below in clash (cc w.passes)
+      found (Some q) e =
           let f = where_found n q e in
-          ap some (same_age q p (omega (arith, f.below)) (omega (arith, w.below)) (le_antisymm (w.newest q f.below f.passes) (f.newest p w.below w.passes)))
+          ap Some (same_age q p (omega (arith, f.below)) (omega (arith, w.below)) (le_antisymm (w.newest q f.below f.passes) (f.newest p w.below w.passes)))
 
   -- where no page passes, nothing is found
-  pub where_none_is : (n : ℕ) → ((q : ℕ) → q < n → test q ≡ false) → newest_where says test n ≡ none
+  pub where_none_is : (n : ℕ) → ((q : ℕ) → q < n → test q ≡ false) → newest_where says test n ≡ None
   where_none_is n h = found (newest_where says test n) refl
     where
-      found : (r : Option ℕ) → newest_where says test n ≡ r → r ≡ none
-      found none e = refl
-      found (some q) e = let f = where_found n q e in let u = h q f.below in clash (cc f.passes)
+      found : (r : Option ℕ) → newest_where says test n ≡ r → r ≡ None
+      found None e = refl
+      found (Some q) e = let f = where_found n q e in let u = h q f.below in clash (cc f.passes)
 
 -- two tests that agree find the same
 pub where_same :
@@ -129,24 +128,24 @@ where_same says test other (suc n) h =
 
 -- the same of a test of records
 module _ (says : ℕ → Record) (test : Record → Bool) where
-  pub newest_missing : (n : ℕ) → newest says test n ≡ none → (q : ℕ) → q < n → test (says q) ≡ false
+  pub newest_missing : (n : ℕ) → newest says test n ≡ None → (q : ℕ) → q < n → test (says q) ≡ false
   newest_missing = where_missing says (λ p. test (says p))
 
-  pub newest_found : (n p : ℕ) → newest says test n ≡ some p → IsNewest says (λ q. test (says q)) n p
+  pub newest_found : (n p : ℕ) → newest says test n ≡ Some p → IsNewest says (λ q. test (says q)) n p
   newest_found = where_found says (λ p. test (says p))
 
 -- an old header of a plain file, neither shrink-marked nor deleted, cuts nowhere
-pub plain_header_cuts_nowhere : (k : Record) → is_gone k ≡ false → is_shrink k ≡ false → cut_of false k ≡ Nowhere
+pub plain_header_cuts_nowhere : (k : Record) → is_gone k ≡ false → is_shrink k ≡ false → cut_of false k ≡ None
 unfolding cut_of
 plain_header_cuts_nowhere k g m = rw (g, m) (by_test (is_file k) _ (λ t. rw t) (λ t. rw t))
 
 -- a header under parent 3 or 4 cuts at 0, whatever its type, and the newest or not
-pub gone_header_cuts_at_0 : (b : Bool) (k : Record) → is_gone k ≡ true → cut_of b k ≡ At 0
+pub gone_header_cuts_at_0 : (b : Bool) (k : Record) → is_gone k ≡ true → cut_of b k ≡ Some 0
 unfolding cut_of
 gone_header_cuts_at_0 b k g = rw g
 
 -- any other header of a file cuts at its size if it is shrink-marked or the newest
-pub file_header_cuts_at_size : (b : Bool) (k : Record) → is_gone k ≡ false → is_file k ≡ true → (is_shrink k || b) ≡ true → cut_of b k ≡ At (file_size k)
+pub file_header_cuts_at_size : (b : Bool) (k : Record) → is_gone k ≡ false → is_file k ≡ true → (is_shrink k || b) ≡ true → cut_of b k ≡ Some (file_size k)
 unfolding cut_of
 file_header_cuts_at_size b k g f m = rw (g, f, m)
 

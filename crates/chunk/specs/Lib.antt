@@ -1,5 +1,10 @@
 pub mod Gather
 pub mod Records
+pub mod Sized
+pub mod File
+pub mod Looked
+pub mod Listed
+pub mod Aged
 pub mod Takes
 pub mod Moments
 pub mod Newest

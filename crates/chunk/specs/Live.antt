@@ -1,6 +1,5 @@
 -- The live objects and the objects of a dump (document 01, the refusal table's last sentence and the report), over what each page says.
-use Rattle.std.specs.Prelude.{ℕ, Bool, false, not, ◌&&◌, List, [], ◌∷◌, ◌++◌, eqb}
-use Rattle.std.proofs.Math.Option.{Option, none, some}
+use Rattle.std.specs.Prelude.{ℕ, Bool, false, not, ◌&&◌, List, [], ◌∷◌, ◌++◌, eqb, Option, Some, None}
 use Rattle.page.specs.Choice.{pick}
 use Rattle.page.specs.Search.{count}
 use Rattle.page.specs.Numbers.{pages_before}
@@ -20,8 +19,8 @@ ids_of test id n = arranged (passed test id n)
 
 -- whether a search found page p
 abbrev pub is_at : ℕ → Option ℕ → Bool
-is_at p none = false
-is_at p (some q) = eqb q p
+is_at p None = false
+is_at p (Some q) = eqb q p
 
 module _ (says : ℕ → Record) where
   -- the object of page p

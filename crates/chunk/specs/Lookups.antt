@@ -1,6 +1,5 @@
 -- What the lookups of an object answer (document 01, "Newest, size and cuts", "Index" for the visits, and the refusal table), over what each page says.
-use Rattle.std.specs.Prelude.{ℕ, ◌-◌, min, eqb, leb}
-use Rattle.std.proofs.Math.Option.{Option, none, some}
+use Rattle.std.specs.Prelude.{ℕ, ◌-◌, min, eqb, leb, Option, Some, None, Ok, Err}
 use Rattle.page.specs.Choice.{pick}
 use Rattle.page.specs.Numbers.{bad_object, bad_chunk}
 use Rattle.page.specs.declared.record.Record.{Record}
@@ -10,13 +9,12 @@ use Rattle.chunk.specs.Newest.{newest_header, newest_copy, records}
 use Rattle.chunk.specs.Cuts.{lowest_cut, hides, leaves}
 use Rattle.chunk.specs.Sizes.{size_of}
 use Rattle.chunk.specs.Visits.{copy, hole, headless, headed, visits}
-use Rattle.chunk.specs.declared.cut.Cut.{Cut}
-use Rattle.chunk.specs.declared.answer.File.{File}
-use Rattle.chunk.specs.declared.answer.File.TheVariants as file
-use Rattle.chunk.specs.declared.answer.Sized.{Sized}
-use Rattle.chunk.specs.declared.answer.Sized.TheVariants as sized
-use Rattle.chunk.specs.declared.answer.Looked.{Looked}
-use Rattle.chunk.specs.declared.answer.Looked.TheVariants as looked
+use Rattle.chunk.specs.File.{File}
+use Rattle.chunk.specs.File as file
+use Rattle.chunk.specs.Sized.{Sized}
+use Rattle.chunk.specs.Sized as sized
+use Rattle.chunk.specs.Looked.{Looked}
+use Rattle.chunk.specs.Looked as looked
 
 -- what an object is whose newest header h says k, with the visits down to it: deleted, no file, or a live file
 unfoldable pub file_at : Record → (header visits : ℕ) → File
@@ -30,15 +28,15 @@ abbrev pub shown_of : (P chunk size : ℕ) → ℕ
 shown_of P c size = min P (size - base_of P c)
 
 -- how many bytes of a copy of chunk c that says k are valid: its byte count, no more than shown, and none behind a later cut
-abbrev pub valid_of : (P chunk : ℕ) → Record → (shown : ℕ) → Cut → ℕ
+abbrev pub valid_of : (P chunk : ℕ) → Record → (shown : ℕ) → Option ℕ → ℕ
 valid_of P c k shown cut = min (count_of k) (leaves cut (base_of P c) shown)
 
 -- object o of a dump of n pages
 module _ (says : ℕ → Record) (o n : ℕ) where
   -- by its newest header, if it has one
   unfoldable pub file_by : Option ℕ → File
-  file_by none = file.Refused NoHeader (visits says o n headless)
-  file_by (some h) = file_at (says h) h (visits says o n (headed h))
+  file_by None = file.Refused NoHeader (visits says o n headless)
+  file_by (Some h) = file_at (says h) h (visits says o n (headed h))
 
   -- the live file that object o is, if it is one
   unfoldable pub file_of : File
@@ -47,8 +45,8 @@ module _ (says : ℕ → Record) (o n : ℕ) where
   module _ (P : ℕ) where
     -- the size of a live file
     unfoldable pub sized_by : File → Sized
-    sized_by (file.Refused r v) = sized.Refused r v
-    sized_by (file.Header h v) = sized.Size (size_of says P o h.0 n) v
+    sized_by (Err e) = sized.Refused e.answer e.visits
+    sized_by (Ok x) = sized.Size (size_of says P o x.answer.0 n) x.visits
 
     -- a size lookup
     unfoldable pub sized_of : Sized
@@ -64,16 +62,16 @@ module _ (says : ℕ → Record) (o n : ℕ) where
 
       -- by the copy, if there is one
       unfoldable pub copy_by : (header shown : ℕ) → Option ℕ → Looked
-      copy_by h shown none = looked.Hole shown (visits says o n hole)
-      copy_by h shown (some q) = copy_at h shown q
+      copy_by h shown None = looked.Hole shown (visits says o n hole)
+      copy_by h shown (Some q) = copy_at h shown q
 
       -- chunk c of a live file of a size, which ends before it or not
       unfoldable pub chunk_by : (header visits size : ℕ) → Looked
       chunk_by h v size = pick (leb size (base_of P c)) (looked.Refused PastEnd v 0) (copy_by h (shown_of P c size) (newest_copy says o c n))
 
       unfoldable pub looked_by : File → Looked
-      looked_by (file.Refused r v) = looked.Refused r v 0
-      looked_by (file.Header h v) = chunk_by h.0 v (size_of says P o h.0 n)
+      looked_by (Err e) = looked.Refused e.answer e.visits 0
+      looked_by (Ok x) = chunk_by x.answer.0 x.visits (size_of says P o x.answer.0 n)
 
       -- a chunk lookup
       unfoldable pub looked_of : Looked

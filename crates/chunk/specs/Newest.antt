@@ -1,6 +1,5 @@
 -- The newest record of a kind (document 01, "Newest, size and cuts").
-use Rattle.std.specs.Prelude.{ℕ, suc, Bool, ◌&&◌, leb}
-use Rattle.std.proofs.Math.Option.{Option, none, some}
+use Rattle.std.specs.Prelude.{ℕ, suc, Bool, ◌&&◌, leb, Option, Some, None}
 use Rattle.page.specs.Choice.{pick}
 use Rattle.page.specs.declared.record.Record.{Record}
 use Rattle.chunk.specs.Gather.{gather}
@@ -8,12 +7,12 @@ use Rattle.chunk.specs.Records.{age_of, is_of, header_of, is_copy}
 
 -- the newer of page p and another, if there is one
 abbrev pub later : (says : ℕ → Record) (page : ℕ) → Option ℕ → Option ℕ
-later says p none = some p
-later says p (some q) = pick (leb (age_of says q) (age_of says p)) (some p) (some q)
+later says p None = Some p
+later says p (Some q) = pick (leb (age_of says q) (age_of says p)) (Some p) (Some q)
 
 -- the newest of the first n pages that pass a test
 unfoldable pub newest_where : (says : ℕ → Record) (test : ℕ → Bool) (pages : ℕ) → Option ℕ
-newest_where says test n = gather (λ p r. pick (test p) (later says p r) r) none n
+newest_where says test n = gather (λ p r. pick (test p) (later says p r) r) None n
 
 -- the newest of the first n pages whose records pass a test
 abbrev pub newest : (says : ℕ → Record) (test : Record → Bool) (pages : ℕ) → Option ℕ

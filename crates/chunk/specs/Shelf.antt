@@ -9,10 +9,10 @@ use Rattle.page.specs.declared.kind.Kind.TheVariants.{Blank}
 use Rattle.page.specs.declared.refusal.Refusal.TheVariants.{PastEnd, NoObject}
 use Rattle.chunk.specs.Lookups.{sized_of, looked_of}
 use Rattle.chunk.specs.Answers.{size_on, chunk_on}
-use Rattle.chunk.specs.declared.answer.Sized.{Sized}
-use Rattle.chunk.specs.declared.answer.Sized.TheVariants as sized
-use Rattle.chunk.specs.declared.answer.Looked.{Looked}
-use Rattle.chunk.specs.declared.answer.Looked.TheVariants as looked
+use Rattle.chunk.specs.Sized.{Sized}
+use Rattle.chunk.specs.Sized as sized
+use Rattle.chunk.specs.Looked.{Looked}
+use Rattle.chunk.specs.Looked as looked
 
 -- an answer of a marked case: a size, a chunk or the kind of a page
 pub data Answer : Type 0 where

@@ -1,40 +1,100 @@
-// What the lookups of an object answer. A refusal has its number, the records visited, and what ShortBuffer needs.
+// What the lookups of an object answer, with the records visited.
+ghost use Rattle.std.specs.Prelude.{◌≡◌};
+ghost use Rattle.chunk.specs.Looked.{shown_in, visits_in};
+
 use page::number::PageNumber;
-use page::refusal::Refusal;
+use page::refusal::{Refusal, Short};
 
-// The newest header of a live file, and the records visited down to it; or why the object is none.
+// An answer, and how many records were visited for it.
 #[derive(Clone, Copy)]
-pub enum File {
-    Header(PageNumber, u32),
-    Refused(Refusal, u32),
+pub struct Visited<T> {
+    pub answer: T,
+    pub visits: u32,
 }
 
-// The size of a file, and the records visited.
-#[derive(Clone, Copy)]
-pub enum Sized {
-    Size(u64, u32),
-    Refused(Refusal, u32),
+impl From<Refusal> for Visited<Refusal> {
+    ghost from_gives = { λ r v. v ≡ record { answer = r; visits = 0 } };
+
+    fn from(answer: Refusal) -> Visited<Refusal>
+        ensures { result ≡ record { answer = answer; visits = 0 } }
+    {
+        Visited { answer, visits: 0 }
+    }
 }
 
-// A chunk of a file: the page that holds its copy with the valid and the shown length, or a hole with the shown length;
-// each with the records visited.
-#[derive(Clone, Copy)]
-pub enum Looked {
-    Copy(PageNumber, u32, u32, u32),
-    Hole(u32, u32),
-    Refused(Refusal, u32, u32),
+impl From<Refusal> for Visited<Short<u32>> {
+    ghost from_gives = { λ r v. v ≡ record { answer = record { refusal = r; need = 0 }; visits = 0 } };
+
+    fn from(refusal: Refusal) -> Visited<Short<u32>>
+        ensures { result ≡ record { answer = record { refusal = refusal; need = 0 }; visits = 0 } }
+    {
+        Visited {
+            answer: Short { refusal, need: 0 },
+            visits: 0,
+        }
+    }
 }
 
-// How many ids of live objects were written; or a refusal, with the length that ShortBuffer needs.
-#[derive(Clone, Copy)]
-pub enum Listed {
-    Ids(u32),
-    Refused(Refusal, u32),
+impl From<Visited<Refusal>> for Visited<Short<u32>> {
+    ghost from_gives = { λ r v. v ≡ record { answer = record { refusal = r.answer; need = 0 }; visits = r.visits } };
+
+    fn from(refused: Visited<Refusal>) -> Visited<Short<u32>>
+        ensures { result ≡ record { answer = record { refusal = refused.answer; need = 0 }; visits = refused.visits } }
+    {
+        Visited {
+            answer: Short {
+                refusal: refused.answer,
+                need: 0,
+            },
+            visits: refused.visits,
+        }
+    }
 }
 
-// A number of objects.
+// The newest header of a live file; or why the object is none.
+pub type File = Result<Visited<PageNumber>, Visited<Refusal>>;
+
+// The size of a file.
+pub type Sized = Result<Visited<u64>, Visited<Refusal>>;
+
+// A chunk of a file: the page that holds its copy with the valid and the shown length, or a hole with the shown length; each with the records
+// visited.
 #[derive(Clone, Copy)]
-pub enum Tallied {
-    Count(u32),
-    Refused(Refusal),
+pub enum Chunk {
+    Copy {
+        page: PageNumber,
+        valid: u32,
+        shown: u32,
+        visits: u32,
+    },
+    Hole {
+        shown: u32,
+        visits: u32,
+    },
 }
+
+impl Chunk {
+    // How many of its bytes the file shows.
+    pub fn shown(self) -> u32
+        ensures { result ≡ shown_in self }
+    {
+        match self {
+            Chunk::Copy { shown, .. } | Chunk::Hole { shown, .. } => shown,
+        }
+    }
+
+    // How many records were visited for it.
+    pub fn visits(self) -> u32
+        ensures { result ≡ visits_in self }
+    {
+        match self {
+            Chunk::Copy { visits, .. } | Chunk::Hole { visits, .. } => visits,
+        }
+    }
+}
+
+// A chunk of a file, or why there is none.
+pub type Looked = Result<Chunk, Visited<Short<u32>>>;
+
+// How many ids of live objects were written.
+pub type Listed = Result<u32, Short<u32>>;

@@ -9,7 +9,7 @@ use page::geometry::Geometry;
 use page::number::PageNumber;
 use page::record::record_at;
 
-// Now, or before the record on a page.
+// Now, or before the record on a page: a named case says more than an Option, and is what the definitions ask.
 #[derive(Clone, Copy)]
 pub enum Moment {
     Now,
@@ -18,6 +18,7 @@ pub enum Moment {
 
 impl Moment {
     // Whether a dump of so many pages does not have its page.
+    #[tactic(auto, using(crate::proofs::Tests::cases))]
     pub fn is_missing(self, pages: u32) -> bool
         ensures { result ≡ is_missing pages self }
     {
@@ -28,6 +29,7 @@ impl Moment {
     }
 
     // Which records are read.
+    #[tactic(auto, using(crate::proofs::Tests::cases))]
     pub fn takes(self, dump: &[u8], g: Geometry) -> Takes
         ensures { result ≡ takes_at (record_at g dump.now) self }
     {

@@ -1,13 +1,16 @@
-// What the rules ask of a single record: its object, its place in the order, its chunk and byte count, its file size, its parent.
+// What the rules ask of a single record: its object, its place in the order, its chunk and byte count, its file size, its parent. A record that has no such
+// field answers 0, as the definitions do, which compare it: no object and no chunk has that number. The functions are alike in form and read a field each.
 ghost use Rattle.std.specs.Prelude.{◌≡◌, max, min, ◌+◌, ◌<◌, ◌^◌};
 ghost use Rattle.page.specs.Records.{is_header};
-ghost use Rattle.chunk.specs.Records.{object_of, sequence_of, order_of, is_of, is_copy, count_of, file_size, gone_under, is_gone, base_of};
+ghost use Rattle.chunk.specs.Records.{object_of, sequence_of, order_of, is_of, is_copy, count_of, file_size, gone_under, is_gone, is_file, base_of};
 ghost use Rattle.chunk.specs.Scans.{wanted};
+ghost use Rattle.chunk.specs.Sizes.{end_of};
+ghost use Rattle.page.specs.declared.record.Record.TheVariants as Record;
 
 use page::number::{ChunkNumber, ObjectId, PageNumber};
-use page::record::Record;
+use page::record::{Data, Record};
 
-// Which records of an object are wanted: all, its headers, or the data pages of a chunk.
+// Which records of an object are wanted: all, its headers, or the data pages of a chunk. Contracts say it, as a closure could not be named in them.
 #[derive(Clone, Copy)]
 pub enum Want {
     Record,
@@ -24,34 +27,11 @@ const UNLINKED: u32 = 3;
 const DELETED: u32 = 4;
 
 // Whether an object under this parent is unlinked or deleted.
+#[tactic(auto, using(crate::proofs::Tests::cases))]
 pub fn gone_under(parent: ObjectId) -> bool
     ensures { result ≡ gone_under parent.0 }
 {
-    if parent.0 == UNLINKED {
-        return true;
-    }
-    parent.0 == DELETED
-}
-
-// The larger of two numbers.
-pub fn larger(a: u64, b: u64) -> u64
-    ensures { result ≡ max a b }
-{
-    if a < b { b } else { a }
-}
-
-// The smaller of two numbers.
-pub fn smaller(a: u64, b: u64) -> u64
-    ensures { result ≡ min a b }
-{
-    if a < b { a } else { b }
-}
-
-// The lesser of two lengths.
-pub fn lesser(a: usize, b: usize) -> usize
-    ensures { result ≡ min a b }
-{
-    if a < b { a } else { b }
+    parent.0 == UNLINKED || parent.0 == DELETED
 }
 
 // The object of a record; 0 for a page that is none.
@@ -77,45 +57,54 @@ pub fn sequence_of(r: Record) -> u32
 }
 
 // The byte count of a data page; 0 for another.
+#[tactic(auto, using(crate::proofs::Tests::cases))]
 pub fn count_of(r: Record) -> u32
     ensures { result ≡ count_of r }
 {
     match r {
-        Record::Other => 0,
-        Record::Header(_) => 0,
+        Record::Other | Record::Header(_) => 0,
         Record::Data(d) => d.count,
     }
 }
 
 // The file size of a header; 0 for another page.
+#[tactic(auto, using(crate::proofs::Tests::cases))]
 pub fn file_size(r: Record) -> u32
     ensures { result ≡ file_size r }
 {
     match r {
-        Record::Other => 0,
         Record::Header(h) => h.size,
-        Record::Data(_) => 0,
+        Record::Other | Record::Data(_) => 0,
     }
 }
 
 // Whether a page is a header.
+#[tactic(auto, using(crate::proofs::Tests::cases))]
 pub fn is_header(r: Record) -> bool
     ensures { result ≡ is_header r }
 {
-    let Record::Header(_) = r else {
-        return false;
-    };
-    true
+    matches!(r, Record::Header(_))
+}
+
+// Whether a page is the header of a file.
+#[tactic(auto, using(crate::proofs::Tests::cases))]
+pub fn is_file(r: Record) -> bool
+    ensures { result ≡ is_file r }
+{
+    match r {
+        Record::Header(h) => h.page_type == FILE,
+        Record::Other | Record::Data(_) => false,
+    }
 }
 
 // Whether a page is the header of an unlinked or deleted object.
+#[tactic(auto, using(crate::proofs::Tests::cases))]
 pub fn is_gone(r: Record) -> bool
     ensures { result ≡ is_gone r }
 {
     match r {
-        Record::Other => false,
         Record::Header(h) => gone_under(h.parent),
-        Record::Data(_) => false,
+        Record::Other | Record::Data(_) => false,
     }
 }
 
@@ -124,6 +113,13 @@ pub fn order_of(sequence: u32, n: PageNumber) -> u64
     ensures { result ≡ order_of sequence n.0 }
 {
     (sequence as u64) * 4294967296 + (n.0 as u64)
+}
+
+// Where the bytes of a data page end in its file, with so many data bytes to a page.
+pub fn end_of(data: u32, d: Data) -> u64
+    ensures { result ≡ end_of «data» (Record.Data d) }
+{
+    base_of(data, d.chunk) + (d.count as u64)
 }
 
 // Where chunk n begins in its file, with so many data bytes to a page.
@@ -135,37 +131,37 @@ pub fn base_of(data: u32, n: ChunkNumber) -> u64
 }
 
 // Whether a page is a record of object o.
+#[tactic(auto, using(crate::proofs::Tests::cases))]
 pub fn is_of(r: Record, o: ObjectId) -> bool
     ensures { result ≡ is_of o.0 r }
 {
     match r {
         Record::Other => false,
-        Record::Header(h) => h.object.0 == o.0,
-        Record::Data(d) => d.object.0 == o.0,
+        Record::Header(h) => h.object == o,
+        Record::Data(d) => d.object == o,
     }
 }
 
 // Whether a page is a data page of chunk number c.
+#[tactic(auto, using(crate::proofs::Tests::cases))]
 pub fn is_copy(r: Record, c: ChunkNumber) -> bool
     ensures { result ≡ is_copy c.0 r }
 {
     match r {
-        Record::Other => false,
-        Record::Header(_) => false,
-        Record::Data(d) => d.chunk.0 == c.0,
+        Record::Other | Record::Header(_) => false,
+        Record::Data(d) => d.chunk == c,
     }
 }
 
 // Whether a page is a wanted record of object o.
+#[tactic(auto, using(crate::proofs::Tests::cases))]
 pub fn is_wanted(r: Record, o: ObjectId, w: Want) -> bool
     ensures { result ≡ wanted o.0 w r }
 {
-    if !is_of(r, o) {
-        return false;
-    }
-    match w {
-        Want::Record => true,
-        Want::Header => is_header(r),
-        Want::Copy(c) => is_copy(r, c),
-    }
+    is_of(r, o)
+        && match w {
+            Want::Record => true,
+            Want::Header => is_header(r),
+            Want::Copy(c) => is_copy(r, c),
+        }
 }

@@ -1,6 +1,8 @@
 -- What preparing answers and leaves gives document 02's report: where both dumps were prepared, the words in front of the lent slices, compared, tell
 -- exactly what differs.
 use Prim.Native.Nat.{ℕ}
+use Rattle.std.specs.Prelude.{Result, Ok, Err}
+use Rattle.page.specs.declared.refusal.Refusal.{Refusal}
 use mathlib.Core.Bool.{Bool, true, false}
 use mathlib.Core.List.{List, [], ◌∷◌}
 use mathlib.Core.Logic.{inl, inr}
@@ -10,8 +12,6 @@ use lib.Seq.{take_at}
 use Rattle.page.specs.Lengths.{opened_of}
 use Rattle.page.specs.Records.{record_at}
 use Rattle.page.specs.declared.geometry.Geometry.{Geometry}
-use Rattle.page.specs.declared.geometry.Opened.{Opened}
-use Rattle.page.specs.declared.geometry.Opened.TheVariants as opened
 use Rattle.page.proofs.Searching.{clash}
 use Rattle.sort.specs.Ascending.{In}
 use Rattle.sort.specs.Lists.{joined}
@@ -21,7 +21,7 @@ use Rattle.compare.specs.Lists.{lists_report}
 use Rattle.compare.specs.Prepared as prepared
 use Rattle.compare.specs.Prepared.{records_in, records_of, order_of, copies_of, is_room, prepared_on, order_left, copies_left}
 use Rattle.compare.specs.Report.{whole_report}
-use Rattle.compare.specs.declared.prepare.Prepared.TheVariants.{Records}
+use Rattle.compare.specs.Preparing.{Records}
 use Rattle.compare.proofs.Filling.{copies_length}
 use Rattle.compare.proofs.OrderWords.{order_length}
 use Rattle.compare.proofs.Reporting.{listed_good}
@@ -39,12 +39,12 @@ module _ (g : Geometry) (dump words rows work : List ℕ) where
   -- a dump that was prepared to m words: how many pages it has, and what stands in front then
   pub record Ready (m : ℕ) : Type 0 where
     pub pages : ℕ
-    pub accepted : opened_of g (length dump) ≡ opened.Pages pages
+    pub accepted : opened_of g (length dump) ≡ Ok pages
     pub order : take m (order_left g dump words (length rows) (length work)) ≡ prepared.order (record_at g dump) pages
     pub copies : take m (copies_left g dump rows (length words) (length work)) ≡ prepared.copies (record_at g dump) pages g.layout.«data»
 
   -- there are as many rows as words
-  copies_long : (n : ℕ) → opened_of g (length dump) ≡ opened.Pages n → length (prepared.copies (record_at g dump) n g.layout.«data») ≡ length (prepared.order (record_at g dump) n)
+  copies_long : (n : ℕ) → opened_of g (length dump) ≡ Ok n → length (prepared.copies (record_at g dump) n g.layout.«data») ≡ length (prepared.order (record_at g dump) n)
   unfolding prepared.copies prepared.order
   copies_long n e =
       joined_lengths (copies_of (record_at g dump) n g.layout.«data») (order_of (record_at g dump) n) (object_ids (record_at g dump) n)
@@ -60,7 +60,7 @@ module _ (g : Geometry) (dump words rows work : List ℕ) where
   ready m q = go (opened_of g (length dump)) refl
     where
       by-room :
-          (n : ℕ) → opened_of g (length dump) ≡ opened.Pages n → (t : Bool) → is_room (records_in g dump n) (length words) (length rows) (length work) ≡ t → Ready m
+          (n : ℕ) → opened_of g (length dump) ≡ Ok n → (t : Bool) → is_room (records_in g dump n) (length words) (length rows) (length work) ≡ t → Ready m
       by-room n e false t = clash (let f = rw (e, t) at q in cc)
       by-room n e true t =
           let k : m ≡ records_in g dump n = let f = rw (e, t) at q in sym (records_same (records_in g dump n) m f) in
@@ -75,9 +75,9 @@ module _ (g : Geometry) (dump words rows work : List ℕ) where
             copies = rw (e, t, long') (take_at (prepared.copies says n P) _ _ refl);
           }
 
-      go : (o : Opened) → opened_of g (length dump) ≡ o → Ready m
-      go (opened.Refused r) e = clash (let f = rw e at q in cc)
-      go (opened.Pages n) e = by-room n e (is_room (records_in g dump n) (length words) (length rows) (length work)) refl
+      go : (o : (Result ℕ Refusal)) → opened_of g (length dump) ≡ o → Ready m
+      go (Err r) e = clash (let f = rw e at q in cc)
+      go (Ok n) e = by-room n e (is_room (records_in g dump n) (length words) (length rows) (length work)) refl
 
 -- two dumps that were prepared
 module _

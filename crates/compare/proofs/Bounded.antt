@@ -1,9 +1,9 @@
 -- How long the report of an object is at most. A line has its key, the digits of a number and its end; a number below a power of ten has so many digits
 -- at most. So the lines that an object can have once are bounded together, and each stretch has one line.
 use Prim.Native.Nat.{ℕ, zero, suc, ◌+◌, ◌*◌, ◌^◌, ◌≤◌, ◌<◌, min, zero-le}
+use Rattle.std.specs.Prelude.{Option, Some, None}
 use mathlib.Core.Bool.{Bool, true, false, ◌&&◌}
 use mathlib.Core.List.{List, [], map}
-use mathlib.Core.Option.{Option, none, some}
 use mathlib.Core.Path.{◌≡◌, sym, ap, ◌∙◌}
 use native.Mathlib.Nat.{suc-mul}
 use native.Mathlib.Numerals.{add-one}
@@ -21,11 +21,9 @@ use Rattle.text.proofs.Lines.{line_length}
 use Rattle.compare.specs.Bounds.{line_bytes, most_of, Small}
 use Rattle.compare.specs.Differences.{Difference, Side, first, second, only, deleted, headless, field, stretch, on_one, lacks, field_differs, fields_of, sizes_of, stretch_differs, stretches_in, stretches_to, stretches_of, differences_of}
 use Rattle.compare.specs.Fields.{fields, place_of}
-use Rattle.compare.specs.Heads.{head_from, size_by, size_as}
+use Rattle.compare.specs.Heads.{Head, head_from, size_by}
 use Rattle.compare.specs.Report.{lines_of, side_number}
 use Rattle.compare.specs.Sides.{side_of}
-use Rattle.compare.specs.declared.head.Head.{Head}
-use Rattle.compare.specs.declared.head.Size.{Size}
 use Rattle.compare.specs.Views.{View}
 use Rattle.compare.proofs.Heads.{head_size}
 use Rattle.compare.proofs.Lining.{five, name_short}
@@ -86,14 +84,14 @@ none_most = zero-le
 -- the fields
 fields_most : (a b : Option (List ℕ)) → length (joined lines_of (map field (fields_of a b))) ≤ 180
 unfolding fields_of lines_of
-fields_most (some a) (some b) =
+fields_most (Some a) (Some b) =
     passed_most lines_of field (field_differs a b) place_of 10 fields
     (λ i h. omega (arith, line_length (bytes_of "field=") 2 (place_of i) (omega (arith, fields_inside i h))))
-fields_most (some a) none = none_most
-fields_most none b = none_most
+fields_most (Some a) None = none_most
+fields_most None b = none_most
 
 -- the sizes, which are words
-sizes_most : (y z : ℕ) → y < 10 ^ 20 → z < 10 ^ 20 → length (joined lines_of (sizes_of (some y) (some z))) ≤ 60
+sizes_most : (y z : ℕ) → y < 10 ^ 20 → z < 10 ^ 20 → length (joined lines_of (sizes_of (Some y) (Some z))) ≤ 60
 unfolding joined lines_of
 sizes_most y z h k =
     by_test (eqb y z) _
@@ -112,9 +110,9 @@ contents_most :
     (a b : ℕ → ℕ) (s t : Option ℕ) → Small s t →
     length (joined lines_of (sizes_of s t)) + length (joined lines_of (map stretch (stretches_of a b s t))) + 900 ≤ most_of s t
 unfolding stretches_of
-contents_most a b none t h = omega (arith, none_most {n = 0})
-contents_most a b (some y) none h = omega (arith, none_most {n = 0})
-contents_most a b (some y) (some z) h =
+contents_most a b None t h = omega (arith, none_most {n = 0})
+contents_most a b (Some y) None h = omega (arith, none_most {n = 0})
+contents_most a b (Some y) (Some z) h =
     let small = h.0 in
     let small' = h.1 in
     omega (arith, sizes_most y z (omega arith) (omega arith), stretches_most a b (min y z) (omega arith))
@@ -142,15 +140,15 @@ report_most o small v w h =
 
 -- one object by its words on each side, by the headers and the sizes that were found
 pub sides_most :
-    (o : ℕ) → o < 4294967296 → (g : Geometry) (dump L C : List ℕ) (g' : Geometry) (dump' L' C' : List ℕ) (one other : Head) (y z : Size) →
+    (o : ℕ) → o < 4294967296 → (g : Geometry) (dump L C : List ℕ) (g' : Geometry) (dump' L' C' : List ℕ) (one other : Head) (y z : Option ℕ) →
     one ≡ head_from (record_at g dump) g.layout.«data» 0 (map value_of L) →
     other ≡ head_from (record_at g' dump') g'.layout.«data» 0 (map value_of L') →
-    size_as y ≡ size_by (record_at g dump) one →
-    size_as z ≡ size_by (record_at g' dump') other →
-    Small (size_as y) (size_as z) →
-    length (line_of (bytes_of "object=") o) + length (joined lines_of (differences_of (side_of g dump L C) (side_of g' dump' L' C'))) ≤ most_of (size_as y) (size_as z)
+    y ≡ size_by (record_at g dump) one →
+    z ≡ size_by (record_at g' dump') other →
+    Small y z →
+    length (line_of (bytes_of "object=") o) + length (joined lines_of (differences_of (side_of g dump L C) (side_of g' dump' L' C'))) ≤ most_of y z
 unfolding side_of
 sides_most o small g dump L C g' dump' L' C' one other y z e f a b h =
-    let s : size_as y ≡ (side_of g dump L C).size = a ∙ ap (size_by (record_at g dump)) e ∙ sym (head_size (record_at g dump) g.layout.«data» (map value_of L)) in
-    let t : size_as z ≡ (side_of g' dump' L' C').size = b ∙ ap (size_by (record_at g' dump')) f ∙ sym (head_size (record_at g' dump') g'.layout.«data» (map value_of L')) in
+    let s : y ≡ (side_of g dump L C).size = a ∙ ap (size_by (record_at g dump)) e ∙ sym (head_size (record_at g dump) g.layout.«data» (map value_of L)) in
+    let t : z ≡ (side_of g' dump' L' C').size = b ∙ ap (size_by (record_at g' dump')) f ∙ sym (head_size (record_at g' dump') g'.layout.«data» (map value_of L')) in
     rw (s, t) (report_most o small (side_of g dump L C) (side_of g' dump' L' C') (rw (s, t) at h))

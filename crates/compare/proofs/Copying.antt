@@ -1,6 +1,7 @@
 -- By its records in their order, an object has the size that the rules give, and shows the copies that their lookups answer: a walk along the list is a
 -- lookup where every page reads as it is.
 use Prim.Native.Nat.{ℕ, ◌≤◌, ◌<◌, zero-le}
+use Rattle.std.specs.Prelude.{Ok, Err}
 use mathlib.Core.Bool.{true, false}
 use mathlib.Core.List.{List, [], ◌∷◌, map}
 use mathlib.Core.Logic.{inl}
@@ -11,7 +12,6 @@ use Rattle.page.specs.Lengths.{opened_of}
 use Rattle.page.specs.Numbers.{bad_object}
 use Rattle.page.specs.Records.{record_at}
 use Rattle.page.specs.declared.geometry.Geometry.{Geometry}
-use Rattle.page.specs.declared.geometry.Opened.TheVariants as opened
 use Rattle.page.specs.declared.record.Record.{Record}
 use Rattle.page.specs.declared.refusal.Refusal.{Refusal}
 use Rattle.page.specs.declared.refusal.Refusal.TheVariants.{NoObject}
@@ -20,8 +20,8 @@ use Rattle.sort.specs.Ascending.{In}
 use Rattle.chunk.specs.Lookups.{sized_of, looked_of}
 use Rattle.chunk.specs.Live.{object_at, object_ids}
 use Rattle.chunk.specs.Records.{age_of}
-use Rattle.chunk.specs.declared.answer.Sized.{Sized}
-use Rattle.chunk.specs.declared.answer.Sized.TheVariants as sized
+use Rattle.chunk.specs.Sized.{Sized}
+use Rattle.chunk.specs.Sized as sized
 use Rattle.chunk.proofs.Cases.{size_by_file, chunk_by_file}
 use Rattle.chunk.proofs.Living.{objects_in_lem, objects_of_lem}
 use Rattle.index.specs.Ahead.{unvisited}
@@ -51,7 +51,7 @@ in_none [] h = refl
 in_none (x ∷ L) h = absurd (h x (inl refl))
 
 -- an accepted dump of n pages
-module _ (g : Geometry) (dump : List ℕ) (n : ℕ) (e : opened_of g (length dump) ≡ opened.Pages n) where
+module _ (g : Geometry) (dump : List ℕ) (n : ℕ) (e : opened_of g (length dump) ≡ Ok n) where
   abbrev says : ℕ → Record
   says = record_at g dump
 
@@ -100,8 +100,9 @@ module _ (g : Geometry) (dump : List ℕ) (n : ℕ) (e : opened_of g (length dum
     rows_few = go (sized_of says o n P) refl
       where
         go : (s : Sized) → sized_of says o n P ≡ s → length (rows_of says n P o) ≤ length list
-        go (sized.Refused r v) s = rw (rows_refused r v s) zero-le
-        go (sized.Size z v) s = rw (rows_sized_lem z v s) (omega (arith, length-map (copies_along says P z list) packed_copy, along_few says P z list))
+        go (Err e) s = rw (rows_refused e.answer e.visits s) zero-le
+        go (Ok x) s =
+            rw (rows_sized_lem x.answer x.visits s) (omega (arith, length-map (copies_along says P x.answer list) packed_copy, along_few says P x.answer list))
 
   -- the objects that are listed have records
   pub ids_recorded : (o : ℕ) → In o (object_ids (record_at g dump) n) → 0 < length (records_of (record_at g dump) n o)

@@ -11,6 +11,7 @@ use borrow.Author.Tests.{lt-ltb, eqb-true, eqb-false, eq-eqb, ne_eqb}
 use lib.Dec.{eqb, ltb}
 use lib.ListN.{length, take, drop, length-take, length-drop, get_or-eq_default}
 use lib.Seq.{get_or-take, get_or-drop}
+use Rattle.std.specs.Int.{from_bool}
 use Rattle.page.specs.Search.{more}
 use Rattle.page.proofs.Searching.{by_test, count_none, count_step, count_le}
 use Rattle.compare.specs.Views.{byte_of}
@@ -21,6 +22,11 @@ use Rattle.compare.specs.Parts.{differing, zeros, Shows}
 more_sum : (b : Bool) (n : ℕ) → more b n ≡ n + more b 0
 more_sum true n = refl
 more_sum false n = sym (add-zero n)
+
+-- and so is the number of a test
+one_more : (b : Bool) → from_bool b ≡ more b 0
+one_more true = refl
+one_more false = refl
 
 -- it does not matter which of two numbers is first
 pub eqb_swap : (x y : ℕ) → eqb x y ≡ eqb y x
@@ -46,11 +52,12 @@ module _ (a b : ℕ → ℕ) where
   differing_le from n = count_le _ n
 
   -- a count with one byte more
-  pub counted : (from n sum one : ℕ) → sum ≡ differing a b from n → one ≡ more (not (eqb (a (from + n)) (b (from + n)))) 0 → sum + one ≡ differing a b from (n + 1)
-  counted from n sum one e f = rw (e, f) (sym (differing_more from n))
+  pub counted :
+      (from n sum one : ℕ) → sum ≡ differing a b from n → one ≡ from_bool (not (eqb (a (from + n)) (b (from + n)))) → sum + one ≡ differing a b from (n + 1)
+  counted from n sum one e f = rw (e, f, one_more) (sym (differing_more from n))
 
   -- and the count is no more than the bytes
-  pub counted_le : (from n sum one : ℕ) → sum ≡ differing a b from n → one ≡ more (not (eqb (a (from + n)) (b (from + n)))) 0 → sum + one ≤ n + 1
+  pub counted_le : (from n sum one : ℕ) → sum ≡ differing a b from n → one ≡ from_bool (not (eqb (a (from + n)) (b (from + n)))) → sum + one ≤ n + 1
   counted_le from n sum one e f = rw (counted from n sum one e f) (differing_le from (n + 1))
 
   -- two ranges side by side

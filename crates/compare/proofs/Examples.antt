@@ -2,9 +2,9 @@
 -- header, another byte in a copy, and a record of an object more; a W whose object is deleted with one whose object has no header; and W with itself.
 -- What the pages say is computed first, and the lookups from that, so that bytes are looked at only where they are compared.
 use Prim.Native.Nat.{ℕ}
+use Rattle.std.specs.Prelude.{Err, Option, Some, None}
 use mathlib.Core.Bool.{Bool, true, false, not}
 use mathlib.Core.List.{List, [], ◌∷◌, ◌++◌}
-use mathlib.Core.Option.{Option, none, some}
 use mathlib.Core.Path.{◌≡◌, refl, ap, fun_ext}
 use native.Mathlib.Omega.{arith}
 use lib.Dec.{eqb}
@@ -22,7 +22,6 @@ use Rattle.page.specs.Shelf.{shelf_geometry, word_bytes, tagged, erased, header_
 use Rattle.page.specs.declared.kind.Kind.{Kind}
 use Rattle.page.specs.declared.kind.Kind.TheVariants.{Blank, Header, Data}
 use Rattle.page.specs.declared.record.Record.{Record}
-use Rattle.page.specs.declared.geometry.Opened.TheVariants as opened
 use Rattle.page.specs.declared.refusal.Refusal.TheVariants.{BadLayout, BadLength, Deleted, NoHeader}
 use Rattle.page.proofs.Marked as pages
 use Rattle.sort.specs.Arranged.{ascend, arranged, times_in}
@@ -34,15 +33,14 @@ use Rattle.chunk.specs.Live.{passed, ids_of, object_ids}
 use Rattle.chunk.specs.Lookups.{file_at, file_by, file_of, sized_by, sized_of, copy_at, copy_by, chunk_by, looked_by, looked_of}
 use Rattle.chunk.specs.Newest.{newest_where, newest_header, since, records}
 use Rattle.chunk.specs.Sizes.{data_end, size_of}
-use Rattle.chunk.specs.declared.answer.Looked.{Looked}
-use Rattle.chunk.specs.declared.answer.Looked.TheVariants as looked
-use Rattle.chunk.specs.declared.answer.Sized.{Sized}
-use Rattle.chunk.specs.declared.answer.Sized.TheVariants as sized
+use Rattle.chunk.specs.Looked.{Looked}
+use Rattle.chunk.specs.Looked as looked
+use Rattle.chunk.specs.Sized.{Sized}
+use Rattle.chunk.specs.Sized as sized
 use Rattle.text.specs.Decimal.{digits, decimal}
 use Rattle.text.specs.Lines.{field_of, line_of}
 use Rattle.text.specs.Quoted.{bytes_of}
 use Rattle.compare.specs.Answers.{both_of}
-use Rattle.compare.specs.declared.answer.Both.TheVariants as both
 use Rattle.compare.specs.Differences.{second, only, field, sizes, stretch, differ_in, fields_of, stretches_of, differences_of}
 use Rattle.compare.specs.Fields.{field_places, field_lengths, place_of, length_of}
 use Rattle.compare.specs.Views.{byte_of, bytes_on, is_deleted, size_in, shown_at, view_of}
@@ -151,7 +149,7 @@ shelf_seen :
       ids = 257 ∷ [];
       first = 7;
       second = 0;
-      header = some 4;
+      header = Some 4;
       gone = false;
       size = sized.Size 1034 3;
       one = looked.Copy (record { 0 = 5 }) 300 512 3;
@@ -167,7 +165,7 @@ changed_seen :
       ids = 257 ∷ 258 ∷ [];
       first = 6;
       second = 1;
-      header = some 4;
+      header = Some 4;
       gone = false;
       size = sized.Size 514 2;
       one = looked.Copy (record { 0 = 5 }) 300 512 2;
@@ -183,7 +181,7 @@ unlinked_seen :
       ids = 257 ∷ [];
       first = 7;
       second = 0;
-      header = some 4;
+      header = Some 4;
       gone = true;
       size = sized.Refused Deleted 3;
       one = looked.Refused Deleted 3 0;
@@ -199,7 +197,7 @@ headless_seen :
       ids = 257 ∷ [];
       first = 4;
       second = 0;
-      header = none;
+      header = None;
       gone = false;
       size = sized.Refused NoHeader 4;
       one = looked.Refused NoHeader 4 0;
@@ -247,7 +245,7 @@ module _ (dump : List ℕ) {s : Seen} (e : seen (record_at shelf_geometry dump) 
 -- ---- W and the changed W
 
 -- the fields that differ: mode and size
-header_fields : fields_of (some (valid_part shelf_geometry shelf 4 header_bytes)) (some (valid_part shelf_geometry changed 4 header_bytes)) ≡ 268 ∷ 292 ∷ []
+header_fields : fields_of (Some (valid_part shelf_geometry shelf 4 header_bytes)) (Some (valid_part shelf_geometry changed 4 header_bytes)) ≡ 268 ∷ 292 ∷ []
 unfolding fields_of passed gather differ_in count field_places field_lengths place_of length_of valid_part page_in page_at roomy shelf changed shelf_pages dump_of header_page
     data_page blank_page tagged word_bytes
 header_fields = refl
@@ -282,7 +280,7 @@ abbrev shown' : ℕ → ℕ
 shown' = shown_at shelf_geometry changed 8 257
 
 -- in their first bytes
-both_stretches : stretches_of shown shown' (some 1034) (some 514) ≡ 0 ∷ 1 ∷ []
+both_stretches : stretches_of shown shown' (Some 1034) (Some 514) ≡ 0 ∷ 1 ∷ []
 unfolding stretches_of passed gather
 both_stretches =
     let zero : differ_in shown shown' 0 512 ≡ true =
@@ -315,7 +313,7 @@ changed_report =
 
 -- every field is reported
 pub every_field :
-    fields_of (some (replicate 512 0)) (some (replicate 512 1))
+    fields_of (Some (replicate 512 0)) (Some (replicate 512 1))
     ≡ 0 ∷ 4 ∷ 10 ∷ 268 ∷ 272 ∷ 276 ∷ 280 ∷ 284 ∷ 288 ∷ 292 ∷ 296 ∷ 300 ∷ 460 ∷ 464 ∷ 472 ∷ 480 ∷ 504 ∷ 508 ∷ []
 unfolding fields_of passed gather differ_in count field_places field_lengths place_of length_of
 every_field = refl
@@ -336,8 +334,8 @@ lost_report =
 
 -- of two refused dumps the refusal that comes first in the table is told
 pub first_refusal :
-    (both_of (opened.Refused BadLength) (opened.Refused BadLayout) ≡ both.Refused BadLayout)
-    × (both_of (opened.Refused BadLayout) (opened.Refused BadLength) ≡ both.Refused BadLayout)
+    (both_of (Err BadLength) (Err BadLayout) ≡ Err BadLayout)
+    × (both_of (Err BadLayout) (Err BadLength) ≡ Err BadLayout)
 first_refusal = (refl, refl)
 
 -- W does not differ from itself

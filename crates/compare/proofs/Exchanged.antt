@@ -1,9 +1,9 @@
 -- Both dumps exchanged: the same differences, each with its sides exchanged. Whether two bytes or two sizes differ does not depend on which is first,
 -- so the same parts are told; what is so on one side only is told of the other.
+use Rattle.std.specs.Prelude.{Option, Some, None}
 use Prim.Native.Nat.{ℕ, ◌-◌, ◌*◌, min}
 use mathlib.Core.Bool.{Bool, true, false, ◌&&◌, and_comm}
 use mathlib.Core.List.{List, [], ◌∷◌, ◌++◌, map, map-append}
-use mathlib.Core.Option.{Option, none, some}
 use mathlib.Core.Path.{◌≡◌, refl, sym, ap, ◌∙◌}
 use native.Mathlib.Omega.{arith}
 use lib.Dec.{eqb}
@@ -40,17 +40,17 @@ one_swap d e false false = refl
 -- the same fields differ
 fields_swap : (s t : Option (List ℕ)) → fields_of t s ≡ fields_of s t
 unfolding fields_of
-fields_swap (some a) (some b) = λ j. passed (λ i. differ_swap (byte_of b) (byte_of a) (place_of i) (length_of i) j) place_of fields
-fields_swap (some a) none = refl
-fields_swap none (some b) = refl
-fields_swap none none = refl
+fields_swap (Some a) (Some b) = λ j. passed (λ i. differ_swap (byte_of b) (byte_of a) (place_of i) (length_of i) j) place_of fields
+fields_swap (Some a) None = refl
+fields_swap None (Some b) = refl
+fields_swap None None = refl
 
 -- the sizes stand the other way round
 sizes_swap : (s t : Option ℕ) → sizes_of t s ≡ map swapped (sizes_of s t)
-sizes_swap (some y) (some z) = by_test (eqb y z) _ (λ t. rw (t, eqb_swap z y ∙ t)) (λ t. rw (t, eqb_swap z y ∙ t))
-sizes_swap (some y) none = refl
-sizes_swap none (some z) = refl
-sizes_swap none none = refl
+sizes_swap (Some y) (Some z) = by_test (eqb y z) _ (λ t. rw (t, eqb_swap z y ∙ t)) (λ t. rw (t, eqb_swap z y ∙ t))
+sizes_swap (Some y) None = refl
+sizes_swap None (Some z) = refl
+sizes_swap None None = refl
 
 module _ (a b : ℕ → ℕ) where
   -- the same stretches differ up to a size
@@ -60,10 +60,10 @@ module _ (a b : ℕ → ℕ) where
   -- which is the same size
   stretches_swap : (s t : Option ℕ) → stretches_of b a t s ≡ stretches_of a b s t
   unfolding stretches_of
-  stretches_swap (some y) (some z) = let m : min z y ≡ min y z = omega arith in rw m (to_swap (min y z))
-  stretches_swap (some y) none = refl
-  stretches_swap none (some z) = refl
-  stretches_swap none none = refl
+  stretches_swap (Some y) (Some z) = let m : min z y ≡ min y z = omega arith in rw m (to_swap (min y z))
+  stretches_swap (Some y) None = refl
+  stretches_swap None (Some z) = refl
+  stretches_swap None None = refl
 
 -- names of fields have no side
 map_fields : (L : List ℕ) → map field L ≡ map swapped (map field L)

@@ -1,34 +1,32 @@
 -- The rows of copies beside the words of records. What is laid from the work is a list of rows with zeros behind it; and run after run the objects'
 -- rows come to stand where their records do.
 use Prim.Native.Nat.{ℕ, zero, suc, ◌+◌, ◌-◌, ◌≤◌, ◌<◌}
+use Rattle.std.specs.Prelude.{Ok, Err}
 use mathlib.Core.List.{List, [], ◌∷◌, ◌++◌, map, append_assoc, append-nil}
 use mathlib.Core.Bool.{false}
 use mathlib.Core.Logic.{inl, inr}
 use mathlib.Core.Path.{◌≡◌, refl, sym, ap, ◌∙◌}
 use native.Mathlib.Omega.{arith}
 use lib.Dec.{eqb}
-use lib.ListN.{length, take, drop, get_or, replicate, length-append, length-drop, length-map, length-replicate, drop_of_length-le}
-use lib.Seq.{length-take-le, length_front, take_all, take_at, drop_at, drop-drop, get_or-drop}
+use lib.ListN.{length, take, drop, get_or, replicate, length-append, length-drop, length-map, length-replicate}
+use lib.Seq.{length-take-le, take_all, take_at, drop_at, drop-drop, get_or-drop}
 use Rattle.page.specs.Lengths.{opened_of}
 use Rattle.page.specs.Numbers.{page_values, bad_object}
 use Rattle.page.specs.Records.{record_at}
 use Rattle.page.specs.declared.geometry.Geometry.{Geometry}
-use Rattle.page.specs.declared.geometry.Opened.TheVariants as opened
 use Rattle.page.specs.declared.record.Record.{Record}
 use Rattle.page.proofs.Lengths.{opened_pages}
 use Rattle.page.proofs.Searching.{by_test}
 use Rattle.sort.specs.Ascending.{In, Ascends}
 use Rattle.sort.specs.Packed.{word_values, packed, key_of}
-use Rattle.sort.specs.Room.{in_room, cleared_in}
+use Rattle.sort.specs.Room.{in_room}
 use Rattle.sort.proofs.Ascending.{ascends_in}
-use Rattle.sort.proofs.Clearing.{clear_inside}
 use Rattle.sort.proofs.Packing.{packed_key}
 use Rattle.sort.specs.Lists.{joined}
 use Rattle.chunk.specs.Live.{object_ids}
 use Rattle.chunk.specs.Lookups.{sized_of}
 use Rattle.chunk.specs.Records.{age_of}
-use Rattle.chunk.specs.declared.answer.Sized.{Sized}
-use Rattle.chunk.specs.declared.answer.Sized.TheVariants as sized
+use Rattle.chunk.specs.Sized.{Sized}
 use Rattle.chunk.proofs.Living.{objects_ascend}
 use Rattle.index.specs.Chains.{objects}
 use Rattle.index.specs.Held.{recs}
@@ -49,17 +47,6 @@ pub room_front : (rows : List ℕ) (room : ℕ) (words : List ℕ) (r : ℕ) →
 room_front rows room words r e =
     ap (λ (l : List ℕ). take r l) (append_assoc rows (replicate (room - length rows) 0) (drop room words))
     ∙ take_at rows (replicate (room - length rows) 0 ++ drop room words) r (sym e)
-
--- words over which m others were copied, cleared behind these
-pub laid_cleared :
-    (w part u v : List ℕ) (m end : ℕ) → m ≤ length w → m ≤ length part → u ≡ take m part ++ drop m w → end ≡ length u → v ≡ cleared_in m end u →
-    v ≡ take m part ++ replicate (length w - m) 0
-laid_cleared w part u v m end h k e f d =
-    let front : length (take m part) ≡ m = length-take-le m part k in
-    let long : length u ≡ length w = ap length e ∙ length_front w (take m part) m (front ∙ sym (length-take-le m w h)) in
-    let own : take m u ≡ take m part = ap (λ (l : List ℕ). take m l) e ∙ take_at (take m part) (drop m w) m front in
-    let none : drop end u ≡ [] = drop_of_length-le u {i = end} (omega arith) in
-    d ∙ clear_inside m end u (omega arith) (omega arith) ∙ rw (own, none, front, f, long) (append-nil (take m part ++ replicate (length w - m) 0))
 
 -- rows that were laid in front of so many words
 pub laid_padded : (work rows : List ℕ) (m words : ℕ) → m ≤ length work → take m work ≡ rows → take m work ++ replicate (words - m) 0 ≡ padded words rows
@@ -113,7 +100,7 @@ module _ (g : Geometry) (dump : List ℕ) (n P : ℕ) (list : List ℕ) where
         Filling written (i + run)
 
 -- an accepted dump of n pages
-module _ (g : Geometry) (dump : List ℕ) (n P : ℕ) (e : opened_of g (length dump) ≡ opened.Pages n) where
+module _ (g : Geometry) (dump : List ℕ) (n P : ℕ) (e : opened_of g (length dump) ≡ Ok n) where
   abbrev says : ℕ → Record
   says = record_at g dump
 
@@ -127,11 +114,11 @@ module _ (g : Geometry) (dump : List ℕ) (n P : ℕ) (e : opened_of g (length d
   -- the rows that an object's words show are those of its file
   rows_own : (o : ℕ) → bad_object o ≡ false → (s : Sized) → sized_of says o n P ≡ s → rows_in says P (order_of says n o) ≡ rows_of says n P o
   unfolding rows_in
-  rows_own o good (sized.Size z v) s =
+  rows_own o good (Ok x) s =
       let own = values_back o (records_of says n o) (pages_below o) in
       rw (own, size_recorded g dump n e o good P, s)
-      (ap (λ (L : List ℕ). map packed_copy (copies_along says P z L)) own ∙ ap (map packed_copy) (copies_recorded g dump n e o good P z v s))
-  rows_own o good (sized.Refused r v) s =
+      (ap (λ (L : List ℕ). map packed_copy (copies_along says P x.answer L)) own ∙ ap (map packed_copy) (copies_recorded g dump n e o good P x.answer x.visits s))
+  rows_own o good (Err f) s =
       let own = values_back o (records_of says n o) (pages_below o) in
       rw (own, size_recorded g dump n e o good P, s) refl
 

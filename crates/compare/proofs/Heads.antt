@@ -1,7 +1,9 @@
 -- The search for an object's newest header along its records: its turns, and what it finds. The records stand the newest first, so that the first
 -- header is the newest, and the data before it is what was written since: so the size that both give is that of a walk along the records.
 use Prim.Native.Nat.{ℕ, ◌+◌, ◌≤◌, ◌<◌, max}
-use mathlib.Core.Bool.{true, false}
+use Rattle.std.specs.Prelude.{Option, Some, None, is_some}
+use Rattle.page.specs.declared.number.PageNumber.{PageNumber}
+use mathlib.Core.Bool.{Bool, true, false, not}
 use mathlib.Core.List.{List, [], ◌∷◌, map}
 use mathlib.Core.Path.{◌≡◌, refl, ap}
 use native.Mathlib.Numerals.{add-one}
@@ -17,12 +19,10 @@ use Rattle.chunk.specs.Lookups.{file_at}
 use Rattle.chunk.specs.Records.{is_gone, is_file}
 use Rattle.index.specs.Held.{from_list}
 use Rattle.index.specs.Walks.{size_file, size_at, size_reached, reach, size_walk}
-use Rattle.index.specs.declared.walks.Met.{Met}
-use Rattle.index.specs.declared.walks.Met.TheVariants.{Nothing}
-use Rattle.compare.specs.Heads.{head_from, page_of, size_by}
+use Rattle.compare.specs.Heads.{Head, At, head_from, page_of, size_by}
+use Rattle.compare.specs.Differences.{lacks}
 use Rattle.compare.specs.Sides.{first_header}
 use Rattle.compare.specs.Views.{size_in}
-use Rattle.compare.specs.declared.head.Head.TheVariants as head
 
 module _ (says : ℕ → Record) (P end : ℕ) (order : List ℕ) (i : ℕ) where
   -- the records from place i on
@@ -37,12 +37,12 @@ module _ (says : ℕ → Record) (P end : ℕ) (order : List ℕ) (i : ℕ) wher
   next h = rw add-one (ap (map value_of) (drop-cons order i 0 h))
 
   -- none is left: there is no header
-  pub head_none : length order ≤ i → head_from says P end on ≡ head.Nothing
+  pub head_none : length order ≤ i → head_from says P end on ≡ None
   unfolding head_from
   head_none h = rw (drop_of_length-le order h)
 
   -- page q is one: it is found
-  pub head_here : i < length order → is_header (says q) ≡ true → head_from says P end on ≡ head.At (record { 0 = q }) end
+  pub head_here : i < length order → is_header (says q) ≡ true → head_from says P end on ≡ At q end
   unfolding head_from
   head_here h t = rw (next h, t)
 
@@ -51,6 +51,13 @@ module _ (says : ℕ → Record) (P end : ℕ) (order : List ℕ) (i : ℕ) wher
   unfolding head_from
   head_on_lem h t = rw (next h, t)
 
+-- whether there is none
+pub head_lacks : (h : Head) (t : Bool) → is_some h ≡ not t → lacks (page_of h) ≡ t
+head_lacks None true e = refl
+head_lacks None false e = cc
+head_lacks (Some q) true e = cc
+head_lacks (Some q) false e = refl
+
 -- the header that is found is the first one
 pub head_page : (says : ℕ → Record) (P : ℕ) (L : List ℕ) (end : ℕ) → page_of (head_from says P end L) ≡ first_header says L
 unfolding head_from first_header
@@ -58,14 +65,14 @@ head_page says P [] end = refl
 head_page says P (p ∷ L) end = by_test (is_header (says p)) _ (λ t. rw t) (λ t. rw t (head_page says P L _))
 
 -- and the size that it gives with the data above it is the size by a walk along the records
-size_found : (says : ℕ → Record) (h end v : ℕ) → size_in (size_file (size_at says h end) (file_at (says h) h v)) ≡ size_by says (head.At (record { 0 = h }) end)
+size_found : (says : ℕ → Record) (h end v : ℕ) → size_in (size_file (size_at says h end) (file_at (says h) h v)) ≡ size_by says (At h end)
 unfolding file_at
 size_found says h end v =
     by_test (is_gone (says h)) _ (λ t. rw t) (λ t. rw t (by_test (is_file (says h)) _ (λ u. rw u) (λ u. rw u)))
 
 -- on the way as well, with any end so far
 pub head_reached :
-    (says : ℕ → Record) (P c : ℕ) (L : List ℕ) (end : ℕ) (m : Met) (v : ℕ) →
+    (says : ℕ → Record) (P c : ℕ) (L : List ℕ) (end : ℕ) (m : Option PageNumber) (v : ℕ) →
     size_in (size_reached says (reach says P c end m v (from_list L))) ≡ size_by says (head_from says P end L)
 unfolding size_reached reach from_list head_from
 head_reached says P c [] end m v = by_test (eqb v 0) _ (λ t. rw t) (λ t. rw t)
@@ -75,4 +82,4 @@ head_reached says P c (p ∷ L) end m v =
 -- and so for the whole walk
 pub head_size : (says : ℕ → Record) (P : ℕ) (L : List ℕ) → size_in (size_walk says P (from_list L)) ≡ size_by says (head_from says P 0 L)
 unfolding size_walk
-head_size says P L = head_reached says P 0 L 0 Nothing 0
+head_size says P L = head_reached says P 0 L 0 None 0

@@ -1,9 +1,10 @@
+-- what closes a goal by tests
+pub mod Tests
 -- numbers, lists and bytes
 pub mod Passes
 pub mod PassedLines
 pub mod Joining
 pub mod Ids
-pub mod Parting
 pub mod Differing
 -- what a report means, over the definitions alone
 pub mod Meaning

@@ -1,10 +1,10 @@
 -- The lines of what differs, piece by piece: what each piece comes to, and that the pieces are the lines of all differences. The line of the object
 -- goes before them exactly if there is a byte of them, since no line is empty: so whether something differs is known from a measure.
-use Prim.Native.Nat.{ℕ, ◌+◌, ◌≤◌, ◌<◌, min, zero-le}
-use mathlib.Core.Bool.{Bool, true, false, not}
+use Prim.Native.Nat.{ℕ, ◌+◌, ◌≤◌, ◌<◌, zero-le}
+use Rattle.std.specs.Prelude.{Option, Some, None}
+use mathlib.Core.Bool.{Bool, true, false, not, ◌&&◌}
 use mathlib.Core.List.{List, [], ◌∷◌, ◌++◌, map, append-nil, append_assoc}
 use mathlib.Core.Logic.{◌≢◌}
-use mathlib.Core.Option.{Option, none, some}
 use mathlib.Core.Path.{◌≡◌, refl, sym, ap, ◌∙◌}
 use lib.Dec.{eqb}
 use native.Mathlib.Omega.{arith}
@@ -13,26 +13,21 @@ use lib.Seq.{sets-eq, drop_at, length-take-le}
 use borrow.Author.Tests.{eq-eqb, ne_eqb, le-ltb}
 use Rattle.page.specs.Records.{record_at}
 use Rattle.page.specs.declared.geometry.Geometry.{Geometry}
-use Rattle.page.proofs.Searching.{clash}
 use Rattle.sort.specs.Lists.{joined}
-use Rattle.chunk.specs.Live.{passed}
 use Rattle.sort.specs.Packed.{value_of}
 use Rattle.text.specs.Lines.{line_of}
 use Rattle.text.specs.Put.{most, counted, over, Put}
 use Rattle.text.specs.Quoted.{bytes_of}
 use Rattle.text.specs.Whole.{written_by, bytes_by}
-use Rattle.text.specs.declared.written.Written.{Written}
-use Rattle.text.specs.declared.written.Written.TheVariants.{Bytes, Short}
+use Rattle.text.specs.Written.{Written}
+use Rattle.text.specs.Written.{Bytes, Short}
 use Rattle.text.proofs.Writing.{refused, accepted}
 use Rattle.text.proofs.Lines.{line_length}
 use Rattle.text.proofs.Putting.{exact, nothing, also, kept, measured, whole}
 use Rattle.index.specs.Held.{from_list}
 use Rattle.index.specs.Walks.{size_walk}
-use Rattle.compare.specs.Differences.{Difference, Side, first, second, only, deleted, headless, field, sizes, stretch, on_one, lacks, field_differs, fields_of, sizes_of, stretches_to, stretches_of, differences_of}
-use Rattle.compare.specs.Fields.{fields, place_of}
-use Rattle.compare.specs.Heads.{head_bytes, head_from, page_of, size_by, size_as}
-use Rattle.compare.specs.declared.head.Head.{Head}
-use Rattle.compare.specs.declared.head.Size.{Size}
+use Rattle.compare.specs.Differences.{Difference, Side, first, second, only, deleted, headless, field, sizes, stretch, on_one, lacks, fields_of, sizes_of, stretches_of, differences_of}
+use Rattle.compare.specs.Heads.{Head, head_from, page_of, size_by}
 use Rattle.compare.proofs.Heads.{head_page, head_size}
 use Rattle.compare.specs.Lines.{side_lines, header_lines, content_lines}
 use Rattle.compare.specs.Report.{lines_of, side_number, object_lines}
@@ -41,33 +36,6 @@ use Rattle.compare.specs.Views.{bytes_on, is_deleted, size_in}
 use Rattle.compare.proofs.Joining.{length_none}
 use Rattle.compare.proofs.PassedLines.{joined_append}
 use Rattle.compare.proofs.Same.{line_some}
-
--- the fields that differ between two headers
-module _ (g : Geometry) (dump : List ℕ) (g' : Geometry) (dump' : List ℕ) where
-  abbrev between : (one other : Option ℕ) → List ℕ
-  between p q = fields_of (bytes_on g dump p) (bytes_on g' dump' q)
-
-  -- none where the first is missing
-  pub fields_first : (p q : Option ℕ) → lacks p ≡ true → joined lines_of (map field (between p q)) ≡ []
-  unfolding fields_of joined
-  fields_first none q e = refl
-  fields_first (some h) q e = clash (cc)
-
-  -- or the second
-  pub fields_second : (p q : Option ℕ) → lacks q ≡ true → joined lines_of (map field (between p q)) ≡ []
-  unfolding fields_of joined
-  fields_second none q e = refl
-  fields_second (some h) none e = refl
-  fields_second (some h) (some i) e = clash (cc)
-
-  -- those that differ, by the bytes of both
-  pub fields_both :
-      (p q : Option ℕ) (a b : List ℕ) → lacks p ≡ false → lacks q ≡ false → a ≡ head_bytes g dump p → b ≡ head_bytes g' dump' q →
-      between p q ≡ passed (field_differs a b) place_of fields
-  unfolding fields_of
-  fields_both none q a b e f x y = clash (cc)
-  fields_both (some h) none a b e f x y = clash (cc)
-  fields_both (some h) (some i) a b e f x y = rw (x, y)
 
 -- the lines of one difference alone
 one_line : (d : Difference) → joined lines_of (d ∷ []) ≡ lines_of d
@@ -80,33 +48,14 @@ unfolding joined
 no_line = refl
 
 -- two sizes that are the same have no lines
-pub sizes_same : (y z : ℕ) → y ≡ z → joined lines_of (sizes_of (some y) (some z)) ≡ []
+pub sizes_same : (y z : ℕ) → y ≡ z → joined lines_of (sizes_of (Some y) (Some z)) ≡ []
 unfolding joined
 sizes_same y z e = rw (eq-eqb y z e)
 
 -- two sizes that differ have a line each
-pub sizes_other : (y z : ℕ) → y ≢ z → joined lines_of (sizes_of (some y) (some z)) ≡ line_of (bytes_of "size=") y ++ line_of (bytes_of "size=") z
+pub sizes_other : (y z : ℕ) → y ≢ z → joined lines_of (sizes_of (Some y) (Some z)) ≡ line_of (bytes_of "size=") y ++ line_of (bytes_of "size=") z
 unfolding lines_of
 sizes_other y z e = rw (ne_eqb y z e) (one_line (sizes y z))
-
--- the lines of contents
-module _ (a b : ℕ → ℕ) where
-  -- none where the first side is no live file
-  pub contents_first : (z : Option ℕ) → content_lines a b none z ≡ []
-  unfolding content_lines stretches_of joined
-  contents_first z = refl
-
-  -- or the second
-  pub contents_second : (y : Option ℕ) → content_lines a b y none ≡ []
-  unfolding content_lines stretches_of joined
-  contents_second none = refl
-  contents_second (some y) = refl
-
-  -- of two live files the sizes and the stretches
-  pub contents_both :
-      (y z : ℕ) → content_lines a b (some y) (some z) ≡ joined lines_of (sizes_of (some y) (some z)) ++ joined lines_of (map stretch (stretches_to a b (min y z)))
-  unfolding content_lines stretches_of
-  contents_both y z = refl
 
 -- what is so on one side only
 module _ (d : Side → Difference) (key : List ℕ) (lines : (s : Side) → lines_of (d s) ≡ line_of key (side_number s)) where
@@ -134,8 +83,8 @@ headless_lines = side_lines_lem headless (bytes_of "noheader=") (λ s. refl)
 
 -- a header is missing where its bytes are
 lacks_bytes : (g : Geometry) (dump : List ℕ) (p : Option ℕ) → lacks (bytes_on g dump p) ≡ lacks p
-lacks_bytes g dump none = refl
-lacks_bytes g dump (some p) = refl
+lacks_bytes g dump None = refl
+lacks_bytes g dump (Some p) = refl
 
 -- five lists of differences, one behind the other
 pub five : (a b c d e : List Difference) → joined lines_of (a ++ b ++ c ++ d ++ e) ≡ (joined lines_of a ++ (joined lines_of b ++ joined lines_of c)) ++ (joined lines_of d ++ joined lines_of e)
@@ -184,26 +133,22 @@ module _ (g : Geometry) (dump L C : List ℕ) (g' : Geometry) (dump' L' C' : Lis
         lacks_bytes g' dump' head_on',
       ))
 
-  -- the second alone has it, or none
-  pub lines_second : length L ≡ 0 → between_sides ≡ side_lines (bytes_of "only=") false (not (eqb (length L') 0))
+  -- one side alone has it, or none
+  pub lines_single :
+      not (eqb (length L) 0) && not (eqb (length L') 0) ≡ false → between_sides ≡ side_lines (bytes_of "only=") (not (eqb (length L) 0)) (not (eqb (length L') 0))
   unfolding differences_of side_of
-  lines_second e = rw (eq-eqb (length L) 0 e) (only_lines false (not (eqb (length L') 0)))
-
-  -- the first side alone has it
-  pub lines_first : length L ≢ 0 → length L' ≡ 0 → between_sides ≡ side_lines (bytes_of "only=") true false
-  unfolding differences_of side_of
-  lines_first h e = rw (ne_eqb (length L) 0 h, eq-eqb (length L') 0 e) (only_lines true false)
+  lines_single e = rw e (only_lines (not (eqb (length L) 0)) (not (eqb (length L') 0)))
 
   -- by the headers and the sizes that were found on both sides
   pub found_both :
-      (one other : Head) (y z : Size) →
+      (one other : Head) (y z : Option ℕ) →
       one ≡ head_from (record_at g dump) g.layout.«data» 0 (map value_of L) →
       other ≡ head_from (record_at g' dump') g'.layout.«data» 0 (map value_of L') →
-      size_as y ≡ size_by (record_at g dump) one →
-      size_as z ≡ size_by (record_at g' dump') other →
+      y ≡ size_by (record_at g dump) one →
+      z ≡ size_by (record_at g' dump') other →
       length L ≢ 0 →
       length L' ≢ 0 →
-      between_sides ≡ header_lines g dump g' dump' (page_of one) (page_of other) ++ content_lines (rows_show g dump C) (rows_show g' dump' C') (size_as y) (size_as z)
+      between_sides ≡ header_lines g dump g' dump' (page_of one) (page_of other) ++ content_lines (rows_show g dump C) (rows_show g' dump' C') y z
   found_both one other y z e f a b h h' =
       let P = g.layout.«data» in
       let P' = g'.layout.«data» in
@@ -211,8 +156,8 @@ module _ (g : Geometry) (dump L C : List ℕ) (g' : Geometry) (dump' L' C' : Lis
       let says' = record_at g' dump' in
       let p : page_of one ≡ head_on = ap page_of e ∙ head_page says P (map value_of L) 0 in
       let q : page_of other ≡ head_on' = ap page_of f ∙ head_page says' P' (map value_of L') 0 in
-      let s : size_as y ≡ size_on = a ∙ ap (size_by says) e ∙ sym (head_size says P (map value_of L)) in
-      let t : size_as z ≡ size_on' = b ∙ ap (size_by says') f ∙ sym (head_size says' P' (map value_of L')) in
+      let s : y ≡ size_on = a ∙ ap (size_by says) e ∙ sym (head_size says P (map value_of L)) in
+      let t : z ≡ size_on' = b ∙ ap (size_by says') f ∙ sym (head_size says' P' (map value_of L')) in
       rw (p, q, s, t) (lines_both h h')
 
 -- lines without a byte are of no difference, since a line is not empty
@@ -292,16 +237,16 @@ module _ (o : ℕ) (small : o < 4294967296) (ds : List Difference) {a b : List �
   pub written_nothing : (bytes : List ℕ) → need ≡ line → Told (Bytes 0) (object_lines o ds) bytes (b ++ (a ++ bytes))
   unfolding written_by bytes_by counted
   written_nothing bytes e =
-      let none : length (joined lines_of ds) ≡ 0 = omega (arith, q.behind, line_is, name_short o small) in
-      let z = object_none o ds none in
+      let empty : length (joined lines_of ds) ≡ 0 = omega (arith, q.behind, line_is, name_short o small) in
+      let z = object_none o ds empty in
       record { value = rw (z, le-ltb (length bytes) 0 zero-le); buf_after = rw (both_empty.0, both_empty.1, z, le-ltb (length bytes) 0 zero-le) }
 
   -- something does: the whole text is measured
   pub measured_both : need ≢ line → Put (object_lines o ds) [] 0 b need
   unfolding counted over
   measured_both h =
-      let some : length (joined lines_of ds) ≢ 0 = λ e. h (omega (arith, q.behind, line_is, name_short o small)) in
-      rw (object_some o ds some) (also p (rw (← both_empty.0) at q))
+      let filled : length (joined lines_of ds) ≢ 0 = λ e. h (omega (arith, q.behind, line_is, name_short o small)) in
+      rw (object_some o ds filled) (also p (rw (← both_empty.0) at q))
 
   -- it does not fit
   pub written_short :
@@ -319,10 +264,10 @@ module _ (o : ℕ) (small : o < 4294967296) (ds : List Difference) {a b : List �
   unfolding counted
   written_both bytes h k {c₁} {c₂} {m} {r} x y =
       let k₁ : need ≤ length bytes = rw (both_empty.0, both_empty.1) at k in
-      let some : length (joined lines_of ds) ≢ 0 = λ e. h (omega (arith, q.behind, line_is, name_short o small)) in
+      let filled : length (joined lines_of ds) ≢ 0 = λ e. h (omega (arith, q.behind, line_is, name_short o small)) in
       let same : m ≡ line = x.behind ∙ omega (arith, line_is, name_short o small) in
       let x₁ = rw (both_empty.0, same) at x in
-      let z : Put (object_lines o ds) (b ++ bytes) 0 c₂ r = rw (object_some o ds some) (also x₁ y) in
+      let z : Put (object_lines o ds) (b ++ bytes) 0 c₂ r = rw (object_some o ds filled) (also x₁ y) in
       let told = accepted bytes (measured_both h) k₁ z in
       record { value = told.0; buf_after = told.1 }
 
@@ -353,16 +298,16 @@ module _ (o : ℕ) (small : o < 4294967296) (ds : List Difference) {a b : List �
   pub straight_nothing : next ≡ line → Told (Bytes 0) (object_lines o ds) bytes b
   unfolding written_by bytes_by over
   straight_nothing e =
-      let none : length t ≡ 0 = omega (arith, behind_all, behind_line) in
-      let z = object_none o ds none in
-      let same : b ≡ bytes = q.holds ∙ rw (length_none t none, lent) in
+      let empty : length t ≡ 0 = omega (arith, behind_all, behind_line) in
+      let z = object_none o ds empty in
+      let same : b ≡ bytes = q.holds ∙ rw (length_none t empty, lent) in
       record { value = rw (z, le-ltb (length bytes) 0 zero-le); buf_after = rw (same, z, le-ltb (length bytes) 0 zero-le) }
 
   -- something does: with the line in front of it the whole text is written
   pub straight_both : next ≢ line → {c : List ℕ} {m : ℕ} → Put s b 0 c m → Told (Bytes next) (object_lines o ds) bytes c
   unfolding written_by bytes_by over
   straight_both h {c} x =
-      let some : length t ≢ 0 = λ e. h (omega (arith, behind_all, behind_line)) in
+      let filled : length t ≢ 0 = λ e. h (omega (arith, behind_all, behind_line)) in
       let all : length (s ++ t) ≡ length s + length t = length-append s t in
       let long : length b ≡ length bytes = kept q ∙ ap length lent in
       let put : b ≡ take (length s) bytes ++ (t ++ drop (length s + length t) bytes) =
@@ -373,4 +318,4 @@ module _ (o : ℕ) (small : o < 4294967296) (ds : List Difference) {a b : List �
       let after : c ≡ (s ++ t) ++ drop (length (s ++ t)) bytes =
       whole x (omega arith) ∙ rw (rest, all) (sym (append_assoc s t (drop (length s + length t) bytes))) in
       let fit = le-ltb (length bytes) (length (s ++ t)) (omega arith) in
-      rw (object_some o ds some) (record { value = rw (fit, behind_all, all); buf_after = rw fit after })
+      rw (object_some o ds filled) (record { value = rw (fit, behind_all, all); buf_after = rw fit after })

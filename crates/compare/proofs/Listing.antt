@@ -9,8 +9,8 @@ use native.Mathlib.Nat.{add-sub_cancel_left}
 use native.Mathlib.Omega.{arith}
 use borrow.Author.Tests.{eq-eqb, ne_eqb, eqb-true}
 use lib.Dec.{eqb}
-use lib.ListN.{length, take, drop, get_or, length-drop, drop_of_length-le}
-use lib.Seq.{drop-cons, drop-drop}
+use lib.ListN.{length, take, drop, length-drop}
+use lib.Seq.{drop-drop}
 use Rattle.page.specs.declared.geometry.Geometry.{Geometry}
 use Rattle.page.proofs.Searching.{by_test}
 use Rattle.sort.specs.Packed.{key_of}
@@ -41,33 +41,6 @@ next_some (x ∷ L) (y ∷ L') h =
     (λ (l : key_of x ≤ key_of y). omega (arith, run_first (min (key_of x) (key_of y)) x L (omega arith)))
     (λ (l : key_of y < key_of x). omega (arith, run_first (min (key_of x) (key_of y)) y L' (omega arith)))
     (le_or_lt (key_of x) (key_of y))
-
--- which object comes next, by the places in both lists
-module _ (L : List ℕ) (i : ℕ) (L' : List ℕ) (j : ℕ) where
-  abbrev pub at : ℕ
-  at = next_of (drop i L) (drop j L')
-
-  abbrev one : ℕ
-  one = key_of (get_or L i 0)
-
-  abbrev other : ℕ
-  other = key_of (get_or L' j 0)
-
-  -- both lists are at their end
-  pub next_none : length L ≤ i → length L' ≤ j → at ≡ 0
-  next_none h k = rw (drop_of_length-le L h, drop_of_length-le L' k)
-
-  -- the first is
-  pub next_second : length L ≤ i → j < length L' → at ≡ other
-  next_second h k = rw (drop_of_length-le L h, drop-cons L' j 0 k)
-
-  -- the second is
-  pub next_first : i < length L → length L' ≤ j → at ≡ one
-  next_first h k = rw (drop-cons L i 0 h, drop_of_length-le L' k)
-
-  -- neither is: the lesser id comes next
-  pub next_both : i < length L → j < length L' → at ≡ min one other
-  next_both h k = rw (drop-cons L i 0 h, drop-cons L' j 0 k)
 
 -- two dumps
 module _ (g : Geometry) (dump : List ℕ) (g' : Geometry) (dump' : List ℕ) where

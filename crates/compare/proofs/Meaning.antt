@@ -1,9 +1,9 @@
 -- What the differences mean, over the definitions alone: a stretch, or a field, is reported exactly if some byte of it differs, each once and in
 -- ascending order; and the fields that are compared are all bytes of a header but those that document 02 leaves out.
+use Rattle.std.specs.Prelude.{Option, Some, None}
 use Prim.Native.Nat.{ℕ, ◌+◌, ◌-◌, ◌*◌, ◌≤◌, ◌<◌, min}
 use mathlib.Core.Bool.{Bool, true, false, not, ◌&&◌, ◌||◌}
 use mathlib.Core.List.{List, []}
-use mathlib.Core.Option.{Option, none, some}
 use mathlib.Core.Path.{◌≡◌, refl, sym, ap, ◌∙◌}
 use native.Mathlib.Nat.{le_refl}
 use native.Mathlib.Omega.{arith}
@@ -109,7 +109,7 @@ pub record FieldDiffers (a b : List ℕ) (offset : ℕ) : Type 0 where
   pub apart : byte_of a (place_of number + at) ≡ byte_of b (place_of number + at) → ⊥
 
 -- a field among those that differ does
-pub field_means : (a b : List ℕ) (offset : ℕ) → In offset (fields_of (some a) (some b)) → FieldDiffers a b offset
+pub field_means : (a b : List ℕ) (offset : ℕ) → In offset (fields_of (Some a) (Some b)) → FieldDiffers a b offset
 unfolding fields_of
 field_means a b offset i =
     let p = passed_of (field_differs a b) place_of fields offset i in
@@ -124,7 +124,7 @@ field_means a b offset i =
     }
 
 -- and one that does is among them
-pub means_field : (a b : List ℕ) (offset : ℕ) → FieldDiffers a b offset → In offset (fields_of (some a) (some b))
+pub means_field : (a b : List ℕ) (offset : ℕ) → FieldDiffers a b offset → In offset (fields_of (Some a) (Some b))
 unfolding fields_of
 means_field a b offset w =
     let d : Differs (byte_of a) (byte_of b) (place_of w.number) (length_of w.number) =
@@ -220,12 +220,12 @@ places_rise i j h k = omega (arith, last_before i j h k)
 -- so the fields that differ ascend, each once
 pub fields_ascend : (one other : Option (List ℕ)) → Ascends 0 (fields_of one other)
 unfolding fields_of
-fields_ascend (some a) (some b) = passed_ascends (field_differs a b) place_of fields places_rise fields (le_refl _)
-fields_ascend (some a) none = tt
-fields_ascend none other = tt
+fields_ascend (Some a) (Some b) = passed_ascends (field_differs a b) place_of fields places_rise fields (le_refl _)
+fields_ascend (Some a) None = tt
+fields_ascend None other = tt
 
 -- where none differs, every byte that is compared is the same
-pub fields_same : (a b : List ℕ) → fields_of (some a) (some b) ≡ [] → (x : ℕ) → x < header_length → left_out x ≡ false → byte_of a x ≡ byte_of b x
+pub fields_same : (a b : List ℕ) → fields_of (Some a) (Some b) ≡ [] → (x : ℕ) → x < header_length → left_out x ≡ false → byte_of a x ≡ byte_of b x
 unfolding fields_of in_field
 fields_same a b e x h out =
     let w = counted_passes (λ i. from_to (place_of i) (place_of i + length_of i) x) fields (bytes_compared x h ∙ ap not out) in
@@ -237,7 +237,7 @@ fields_same a b e x h out =
     (differ_none (byte_of a) (byte_of b) (place_of i) (length_of i) (nothing_passed (field_differs a b) place_of fields e i w.inside) (x - place_of i) (omega arith))
 
 -- where every byte that is compared is the same, none differs
-pub same_fields : (a b : List ℕ) → ((x : ℕ) → x < header_length → left_out x ≡ false → byte_of a x ≡ byte_of b x) → fields_of (some a) (some b) ≡ []
+pub same_fields : (a b : List ℕ) → ((x : ℕ) → x < header_length → left_out x ≡ false → byte_of a x ≡ byte_of b x) → fields_of (Some a) (Some b) ≡ []
 unfolding fields_of in_field
 same_fields a b f =
     passed_nothing (field_differs a b) place_of fields

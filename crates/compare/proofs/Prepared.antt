@@ -1,10 +1,10 @@
 -- An object by the words that a dump is prepared to is the object by the rules. Its words are its records, the newest first, so that the first header
 -- among them is the newest header, and a walk along them gives the size; and the rows of its copies show what the lookups of its chunks lend.
 use Prim.Native.Nat.{ℕ, suc, ◌+◌, ◌-◌, ◌*◌, ◌/◌, ◌%◌, ◌≤◌, ◌<◌, zero-le}
+use Rattle.std.specs.Prelude.{Ok, Option, Some, None, Err}
 use mathlib.Core.Bool.{true, false, not}
 use mathlib.Core.List.{List, [], ◌∷◌, ◌++◌, map}
 use mathlib.Core.Logic.{inl, inr}
-use mathlib.Core.Option.{Option, none, some}
 use mathlib.Core.Path.{◌≡◌, refl, sym, ap, ◌∙◌}
 use native.Mathlib.Numerals.{add-one}
 use native.Mathlib.Omega.{arith}
@@ -15,7 +15,6 @@ use Rattle.page.specs.Lengths.{opened_of}
 use Rattle.page.specs.Numbers.{bad_object, bad_chunk}
 use Rattle.page.specs.Records.{is_header, record_at}
 use Rattle.page.specs.declared.geometry.Geometry.{Geometry}
-use Rattle.page.specs.declared.geometry.Opened.TheVariants as opened
 use Rattle.page.specs.declared.number.PageNumber.{PageNumber}
 use Rattle.page.specs.declared.record.Record.{Record}
 use Rattle.page.specs.declared.refusal.Refusal.{Refusal}
@@ -32,10 +31,10 @@ use Rattle.chunk.specs.Lookups.{file_of, sized_of, sized_by, looked_of, looked_b
 use Rattle.chunk.specs.Newest.{newest_header, newest_copy, records, copy_of}
 use Rattle.chunk.specs.Records.{age_of, base_of}
 use Rattle.chunk.specs.Sizes.{size_of}
-use Rattle.chunk.specs.declared.answer.File.{File}
-use Rattle.chunk.specs.declared.answer.File.TheVariants as file
-use Rattle.chunk.specs.declared.answer.Sized.TheVariants as sized
-use Rattle.chunk.specs.declared.answer.Looked.TheVariants as looked
+use Rattle.chunk.specs.File.{File}
+use Rattle.chunk.specs.File as file
+use Rattle.chunk.specs.Sized as sized
+use Rattle.chunk.specs.Looked as looked
 use Rattle.chunk.proofs.Cases.{size_by_file, sized_refused, sized_file, chunk_by_file, chunk_bad_number, looked_refused, looked_past, looked_inside, copy_missing, copy_hidden, copy_shown, part_refused}
 use Rattle.chunk.proofs.Meaning.{newest_found}
 use Rattle.index.specs.Chains.{objects, top}
@@ -64,13 +63,13 @@ use Rattle.compare.proofs.Showing.{byte_behind, aside_none, zeros_aside, shows_p
 
 module _ (says : ℕ → Record) where
   -- there is none
-  first_none : (L : List ℕ) → Fails (headed says) L → first_header says L ≡ none
+  first_none : (L : List ℕ) → Fails (headed says) L → first_header says L ≡ None
   unfolding first_header
   first_none [] f = refl
   first_none (p ∷ L) f = rw (f p (inl refl)) (first_none L (λ x i. f x (inr i)))
 
   -- or it is behind others
-  first_at_lem : (A : List ℕ) (q : ℕ) (B : List ℕ) → Fails (headed says) A → headed says q ≡ true → first_header says (A ++ (q ∷ B)) ≡ some q
+  first_at_lem : (A : List ℕ) (q : ℕ) (B : List ℕ) → Fails (headed says) A → headed says q ≡ true → first_header says (A ++ (q ∷ B)) ≡ Some q
   unfolding first_header
   first_at_lem [] q B f e = rw e
   first_at_lem (p ∷ A) q B f e = rw (f p (inl refl)) (first_at_lem A q B (λ x i. f x (inr i)) e)
@@ -90,8 +89,8 @@ module _ (says : ℕ → Record) (o n P : ℕ) where
     copy_within e = go (newest_copy says o c n) refl e
       where
         go : (r : Option ℕ) → newest_copy says o c n ≡ r → copy_by says o n P c h (shown_of P c z) r ≡ looked.Copy p a s v → (p.0 < n) × (a ≤ P)
-        go none f e = let q = sym (copy_missing says o n P c h (shown_of P c z)) ∙ e in clash (cc)
-        go (some q) f e =
+        go None f e = let q = sym (copy_missing says o n P c h (shown_of P c z)) ∙ e in clash (cc)
+        go (Some q) f e =
             by_test (hides (lowest_cut says o h (age_of says q) n) (base_of P c)) _
             (λ t. let k = sym (copy_hidden says o n P c h (shown_of P c z) q t) ∙ e in clash (cc))
             (λ t.
@@ -110,8 +109,10 @@ module _ (says : ℕ → Record) (o n P : ℕ) where
         (λ t. go (file_of says o n) (sym (chunk_by_file says o n P c good t) ∙ e))
       where
         go : (f : File) → looked_by says o n P c f ≡ looked.Copy p a s v → (p.0 < n) × (a ≤ P)
-        go (file.Refused r w) e = let k = sym (looked_refused says o n P c r w) ∙ e in clash (cc)
-        go (file.Header h w) e =
+        go (Err f) e = let k = sym (looked_refused says o n P c f.answer f.visits) ∙ e in clash (cc)
+        go (Ok y) e =
+            let h = y.answer in
+            let w = y.visits in
             by_test (leb (size_of says P o h.0 n) (base_of P c)) _
             (λ t. let k = sym (looked_past says o n P c h w (leb-true _ _ t)) ∙ e in clash (cc))
             (λ t.
@@ -155,12 +156,12 @@ module _ (says : ℕ → Record) (o n P : ℕ) where
 -- ---- pages of whole stretches
 
 -- the data of a page are a whole number of stretches
-pub opened_stretches : (g : Geometry) (l n : ℕ) → opened_of g l ≡ opened.Pages n → g.layout.«data» ≡ stretch_bytes * (g.layout.«data» / stretch_bytes)
+pub opened_stretches : (g : Geometry) (l n : ℕ) → opened_of g l ≡ Ok n → g.layout.«data» ≡ stretch_bytes * (g.layout.«data» / stretch_bytes)
 opened_stretches g l n e = omega (arith, listed_whole g.layout (opened_facts g l n e).listed)
 
 -- ---- one object of an accepted dump
 
-module _ (g : Geometry) (dump : List ℕ) (n : ℕ) (e : opened_of g (length dump) ≡ opened.Pages n) (o : ℕ) (good : bad_object o ≡ false) where
+module _ (g : Geometry) (dump : List ℕ) (n : ℕ) (e : opened_of g (length dump) ≡ Ok n) (o : ℕ) (good : bad_object o ≡ false) where
   abbrev says : ℕ → Record
   says = record_at g dump
 
@@ -209,20 +210,20 @@ module _ (g : Geometry) (dump : List ℕ) (n : ℕ) (e : opened_of g (length dum
       nothing c p = sym (ap (λ (l : List ℕ). byte_of l (x % P)) p ∙ byte_behind [] (x % P) zero-le)
 
       go : (f : File) → file_of says o n ≡ f → rows_show g dump (copies_of says n P o) x ≡ byte_of (part_by g dump (looked_of says o n P (x / P + 1))) (x % P)
-      go (file.Refused r v) f =
-          rw (size_none says o n P good r v f)
+      go (Err e) f =
+          rw (size_none says o n P good e.answer e.visits f)
           (aside_none g dump x (replicate (length L - 0) 0) (zeros_aside g dump (stretch_begin x) (length L - 0))
-          ∙ nothing (x / P + 1) (part_none says o n P good g dump (x / P + 1) r v f))
-      go (file.Header h v) f =
-          let m = chunks_in P (size_of says P o h.0 n) in
+          ∙ nothing (x / P + 1) (part_none says o n P good g dump (x / P + 1) e.answer e.visits f))
+      go (Ok y) f =
+          let m = chunks_in P (size_of says P o y.answer.0 n) in
           let short = opened_pages g (length dump) n e in
-          let few = chunks_most P (size_of says P o h.0 n) in
+          let few = chunks_most P (size_of says P o y.answer.0 n) in
           let bytes = opened_data g (length dump) n e in
           let within = looked-within says o n P good in
           let filled = data_some g (length dump) n e in
           let whole = opened_stretches g (length dump) n e in
           let spare = length L - length (map packed_copy (copies_to (looked_of says o n P) m)) in
-          rw (size-file says o n P good h v f)
+          rw (size-file says o n P good y.answer y.visits f)
           (by_test (leb (suc (x / P)) m) _
           (λ t.
           rw (add-one (x / P))
@@ -232,7 +233,7 @@ module _ (g : Geometry) (dump : List ℕ) (n : ℕ) (e : opened_of g (length dum
           let past : m < suc (x / P) = leb-false _ _ t in
           shows_past g dump (looked_of says o n P) n m short few bytes within (P / stretch_bytes) x filled whole (omega arith) (replicate spare 0)
           (zeros_aside g dump (stretch_begin x) spare)
-          ∙ nothing (x / P + 1) (part-past says o n P good g dump (x / P + 1) h v f filled (omega arith))))
+          ∙ nothing (x / P + 1) (part-past says o n P good g dump (x / P + 1) y.answer y.visits f filled (omega arith))))
 
   -- so it is the same by its words as by the rules
   pub side_view : side_of g dump (order_of says n o) (copies_of says n P o) ≡ view_of g dump n o

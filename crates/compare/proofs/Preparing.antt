@@ -1,6 +1,7 @@
--- What is answered of a dump that is prepared, case by case: a refused dump, too few words, and enough of them. In each the tests of the definitions
--- are known, and so is what is left of all three slices.
+-- What is answered of an accepted dump that is prepared: too few words, and enough of them. In each case the tests of the definitions are known, and so
+-- is what is left of all three slices.
 use Prim.Native.Nat.{ℕ, ◌-◌, ◌≤◌}
+use Rattle.std.specs.Prelude.{Ok}
 use mathlib.Core.Bool.{true, false, ◌&&◌}
 use mathlib.Core.List.{List, ◌++◌}
 use mathlib.Core.Path.{◌≡◌}
@@ -11,13 +12,11 @@ use lib.ListN.{length, drop, replicate}
 use Rattle.page.specs.Lengths.{opened_of}
 use Rattle.page.specs.Records.{record_at}
 use Rattle.page.specs.declared.geometry.Geometry.{Geometry}
-use Rattle.page.specs.declared.geometry.Opened.TheVariants as opened
-use Rattle.page.specs.declared.refusal.Refusal.{Refusal}
 use Rattle.page.specs.declared.refusal.Refusal.TheVariants.{ShortBuffer}
 use Rattle.page.proofs.Layouts.{and_left, and_right}
 use Rattle.compare.specs.Prepared.{order, copies, work_for, is_room, records_in, prepared_on, order_left, copies_left, work_left}
-use Rattle.compare.specs.declared.prepare.Prepared.{Prepared}
-use Rattle.compare.specs.declared.prepare.Prepared.TheVariants.{Records, Refused}
+use Rattle.compare.specs.Preparing.{Prepared}
+use Rattle.compare.specs.Preparing.{Records, Refused}
 
 -- ---- room
 
@@ -43,12 +42,7 @@ module _ (g : Geometry) (dump words rows work : List ℕ) where
         work_after : work₁ ≡ work_left g dump work (length words) (length rows);
       }
 
-  -- a refused dump
-  pub dump_refused : (r : Refusal) → opened_of g (length dump) ≡ opened.Refused r → Answered (Refused r 0) words rows work
-  unfolding prepared_on order_left copies_left work_left
-  dump_refused r e = record { value = rw e; order_after = rw e; copies_after = rw e; work_after = rw e }
-
-  module _ (n : ℕ) (o : opened_of g (length dump) ≡ opened.Pages n) (k : ℕ) (c : k ≡ records_in g dump n) where
+  module _ (n : ℕ) (o : opened_of g (length dump) ≡ Ok n) (k : ℕ) (c : k ≡ records_in g dump n) where
     -- too few words for the records, which are k
     pub room_refused : is_room k (length words) (length rows) (length work) ≡ false → Answered (Refused ShortBuffer k) words rows work
     unfolding prepared_on order_left copies_left work_left

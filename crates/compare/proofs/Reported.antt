@@ -1,10 +1,10 @@
 -- Exactly what differs is reported: each difference that is reported of an object is so, and each that is so is reported. The report of an object that
 -- both have is five lists, one for each kind of difference; each list is looked at by itself.
+use Rattle.std.specs.Prelude.{Option, Some, None}
 use Prim.Native.Nat.{ℕ, min}
 use mathlib.Core.Bool.{Bool, true, false, ◌&&◌, and-false}
 use mathlib.Core.List.{List, ◌++◌, map}
 use mathlib.Core.Logic.{◌⊎◌, inl, inr, ⊎_elim}
-use mathlib.Core.Option.{Option, none, some}
 use mathlib.Core.Path.{◌≡◌, refl}
 use borrow.Author.Tests.{eqb-false, ne_eqb}
 use lib.Dec.{eqb}
@@ -30,22 +30,22 @@ pub record OnlyOn (s : Side) (one other : Bool) : Type 0 where
 pub record FieldsDiffer (one other : Option (List ℕ)) (offset : ℕ) : Type 0 where
   pub a : List ℕ
   pub b : List ℕ
-  pub one_is : one ≡ some a
-  pub other_is : other ≡ some b
+  pub one_is : one ≡ Some a
+  pub other_is : other ≡ Some b
   pub differs : FieldDiffers a b offset
 
 -- both files differ in size
 pub record SizesDiffer (one other : Option ℕ) (a b : ℕ) : Type 0 where
-  pub one_is : one ≡ some a
-  pub other_is : other ≡ some b
+  pub one_is : one ≡ Some a
+  pub other_is : other ≡ Some b
   pub apart : a ≡ b → ⊥
 
 -- both files differ in a stretch below the smaller size
 pub record StretchesDiffer (shows shows' : ℕ → ℕ) (one other : Option ℕ) (k : ℕ) : Type 0 where
   pub a : ℕ
   pub b : ℕ
-  pub one_is : one ≡ some a
-  pub other_is : other ≡ some b
+  pub one_is : one ≡ Some a
+  pub other_is : other ≡ Some b
   pub differs : StretchDiffers shows shows' (min a b) k
 
 module _ (v w : View) where
@@ -89,7 +89,7 @@ module _ (P : Difference → Type 0) where
 
   -- two sizes that are told differ
   sizes_says : (s t : Option ℕ) → ((a b : ℕ) → SizesDiffer s t a b → P (sizes a b)) → (x : Difference) → In x (sizes_of s t) → P x
-  sizes_says (some a) (some b) f x i =
+  sizes_says (Some a) (Some b) f x i =
       by_test (eqb a b) _
       (λ t. absurd (rw t at i))
       (λ t.
@@ -97,8 +97,8 @@ module _ (P : Difference → Type 0) where
       (λ (e : x ≡ sizes a b). rw e (f a b (record { one_is = refl; other_is = refl; apart = eqb-false a b t })))
       (λ (k : ⊥). absurd k)
       (rw t at i))
-  sizes_says (some a) none f x i = absurd i
-  sizes_says none t f x i = absurd i
+  sizes_says (Some a) None f x i = absurd i
+  sizes_says None t f x i = absurd i
 
 -- what is so on one side only is told
 says_one : (d : Side → Difference) (s : Side) (t u : Bool) → OnlyOn s t u → In (d s) (on_one d t u)
@@ -117,9 +117,9 @@ not_both second t u o = rw o.not_there
 -- a field that is told differs
 fields_say : (s t : Option (List ℕ)) (at : ℕ) → In at (fields_of s t) → FieldsDiffer s t at
 unfolding fields_of
-fields_say (some a) (some b) at i = record { a = a; b = b; one_is = refl; other_is = refl; differs = field_means a b at i }
-fields_say (some a) none at i = absurd i
-fields_say none t at i = absurd i
+fields_say (Some a) (Some b) at i = record { a = a; b = b; one_is = refl; other_is = refl; differs = field_means a b at i }
+fields_say (Some a) None at i = absurd i
+fields_say None t at i = absurd i
 
 -- and one that differs is told
 say_fields : (s t : Option (List ℕ)) (at : ℕ) → FieldsDiffer s t at → In at (fields_of s t)
@@ -133,9 +133,9 @@ module _ (f g : ℕ → ℕ) where
   -- a stretch that is told differs
   stretches_say : (s t : Option ℕ) (k : ℕ) → In k (stretches_of f g s t) → StretchesDiffer f g s t k
   unfolding stretches_of
-  stretches_say (some a) (some b) k i = record { a = a; b = b; one_is = refl; other_is = refl; differs = stretch_means f g (min a b) k i }
-  stretches_say (some a) none k i = absurd i
-  stretches_say none t k i = absurd i
+  stretches_say (Some a) (Some b) k i = record { a = a; b = b; one_is = refl; other_is = refl; differs = stretch_means f g (min a b) k i }
+  stretches_say (Some a) None k i = absurd i
+  stretches_say None t k i = absurd i
 
   -- and one that differs is told
   say_stretches : (s t : Option ℕ) (k : ℕ) → StretchesDiffer f g s t k → In k (stretches_of f g s t)

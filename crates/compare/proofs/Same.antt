@@ -1,10 +1,10 @@
 -- Nothing is reported of an object exactly if both dumps show it the same: it is in both or in neither; and where it is in both it is deleted in both
 -- or in neither, has a header in both or in neither, of two headers every byte that is compared is the same, and of two live files the size and every
 -- byte shown. So a dump compared with itself has an empty report.
+use Rattle.std.specs.Prelude.{Option, Some, None}
 use Prim.Native.Nat.{ℕ, ◌+◌, ◌-◌, ◌*◌, ◌/◌, ◌<◌, min}
 use mathlib.Core.Bool.{Bool, true, false}
 use mathlib.Core.List.{List, [], ◌∷◌, ◌++◌, map, cons≢nil}
-use mathlib.Core.Option.{Option, none, some}
 use mathlib.Core.Path.{◌≡◌, refl, sym, ap, ◌∙◌}
 use native.Mathlib.Omega.{arith}
 use borrow.Author.Tests.{eqb-true, eq-eqb}
@@ -26,9 +26,9 @@ pub record SameShown (v w : View) : Type 0 where
   pub gone : v.gone ≡ w.gone
   pub headed : lacks v.header ≡ lacks w.header
   pub bytes :
-      (a b : List ℕ) → v.header ≡ some a → w.header ≡ some b → (x : ℕ) → x < header_length → left_out x ≡ false → byte_of a x ≡ byte_of b x
-  pub size : (y z : ℕ) → v.size ≡ some y → w.size ≡ some z → y ≡ z
-  pub shown : (y z : ℕ) → v.size ≡ some y → w.size ≡ some z → (x : ℕ) → x < min y z → v.shows x ≡ w.shows x
+      (a b : List ℕ) → v.header ≡ Some a → w.header ≡ Some b → (x : ℕ) → x < header_length → left_out x ≡ false → byte_of a x ≡ byte_of b x
+  pub size : (y z : ℕ) → v.size ≡ Some y → w.size ≡ Some z → y ≡ z
+  pub shown : (y z : ℕ) → v.size ≡ Some y → w.size ≡ Some z → (x : ℕ) → x < min y z → v.shows x ≡ w.shows x
 
 -- both dumps show an object the same
 pub record Same (v w : View) : Type 0 where
@@ -62,18 +62,18 @@ nil_one d false true e = clash (cc)
 nil_one d false false e = refl
 
 -- no sizes are told: they are the same
-sizes_nil : (y z : ℕ) → sizes_of (some y) (some z) ≡ [] → y ≡ z
+sizes_nil : (y z : ℕ) → sizes_of (Some y) (Some z) ≡ [] → y ≡ z
 sizes_nil y z e = by_test (eqb y z) _ (eqb-true y z) (λ t. absurd (cons≢nil (rw t at e)))
 
 -- and the other way round
-nil_sizes : (s t : Option ℕ) → ((y z : ℕ) → s ≡ some y → t ≡ some z → y ≡ z) → sizes_of s t ≡ []
-nil_sizes (some y) (some z) f = rw (eq-eqb y z (f y z refl refl))
-nil_sizes (some y) none f = refl
-nil_sizes none t f = refl
+nil_sizes : (s t : Option ℕ) → ((y z : ℕ) → s ≡ Some y → t ≡ Some z → y ≡ z) → sizes_of s t ≡ []
+nil_sizes (Some y) (Some z) f = rw (eq-eqb y z (f y z refl refl))
+nil_sizes (Some y) None f = refl
+nil_sizes None t f = refl
 
 module _ (a b : ℕ → ℕ) where
   -- no stretch is told: every byte shown is the same
-  pub stretches_nil : (y z : ℕ) → stretches_of a b (some y) (some z) ≡ [] → (x : ℕ) → x < min y z → a x ≡ b x
+  pub stretches_nil : (y z : ℕ) → stretches_of a b (Some y) (Some z) ≡ [] → (x : ℕ) → x < min y z → a x ≡ b x
   unfolding stretches_of
   stretches_nil y z e x h =
       let m = min y z in
@@ -85,23 +85,23 @@ module _ (a b : ℕ → ℕ) where
 
   -- and the other way round
   pub nil_stretches :
-      (s t : Option ℕ) → ((y z : ℕ) → s ≡ some y → t ≡ some z → (x : ℕ) → x < min y z → a x ≡ b x) → stretches_of a b s t ≡ []
+      (s t : Option ℕ) → ((y z : ℕ) → s ≡ Some y → t ≡ Some z → (x : ℕ) → x < min y z → a x ≡ b x) → stretches_of a b s t ≡ []
   unfolding stretches_of
-  nil_stretches (some y) (some z) f =
+  nil_stretches (Some y) (Some z) f =
       passed_nothing (stretch_differs a b (min y z)) (λ k. k) (stretches_in (min y z))
       (λ k h. differ_equal a b (stretch_bytes * k) (min stretch_bytes (min y z - stretch_bytes * k)) (λ i l. f y z refl refl _ (omega arith)))
-  nil_stretches (some y) none f = refl
-  nil_stretches none t f = refl
+  nil_stretches (Some y) None f = refl
+  nil_stretches None t f = refl
 
 -- no byte that is compared differs: no field is told
 nil_fields :
     (s t : Option (List ℕ)) →
-    ((a b : List ℕ) → s ≡ some a → t ≡ some b → (x : ℕ) → x < header_length → left_out x ≡ false → byte_of a x ≡ byte_of b x) →
+    ((a b : List ℕ) → s ≡ Some a → t ≡ Some b → (x : ℕ) → x < header_length → left_out x ≡ false → byte_of a x ≡ byte_of b x) →
     fields_of s t ≡ []
 unfolding fields_of
-nil_fields (some a) (some b) f = same_fields a b (f a b refl refl)
-nil_fields (some a) none f = refl
-nil_fields none t f = refl
+nil_fields (Some a) (Some b) f = same_fields a b (f a b refl refl)
+nil_fields (Some a) None f = refl
+nil_fields None t f = refl
 
 -- ---- all parts
 
@@ -175,8 +175,8 @@ itself v =
       both = λ p q. record {
         gone = refl;
         headed = refl;
-        bytes = λ a b p q x h out. let e : some a ≡ some b = sym p ∙ q in let same : a ≡ b = cc in rw same;
-        size = λ y z p q. let e : some y ≡ some z = sym p ∙ q in cc;
+        bytes = λ a b p q x h out. let e : Some a ≡ Some b = sym p ∙ q in let same : a ≡ b = cc in rw same;
+        size = λ y z p q. let e : Some y ≡ Some z = sym p ∙ q in cc;
         shown = λ y z p q x h. refl;
       };
     }

@@ -4,11 +4,11 @@ use Rattle.page.specs.Search.{count}
 use Rattle.page.specs.Shelf.{shelf_geometry, shelf, shelf_kinds}
 use Rattle.page.specs.declared.refusal.Refusal.TheVariants.{ShortBuffer}
 use Rattle.page.proofs.Marked as pages
-use Rattle.text.specs.declared.written.Written.TheVariants as written
+use Rattle.text.specs.Written as written
 use Rattle.compare.specs.Answers.{compared_by}
 use Rattle.compare.specs.Prepared.{prepared_on}
-use Rattle.compare.specs.declared.answer.Compared.TheVariants as compared
-use Rattle.compare.specs.declared.prepare.Prepared.TheVariants as prepared
+use Rattle.compare.specs.Compared as compared
+use Rattle.compare.specs.Preparing as prepared
 
 -- W has 7 records: as many words of order and copies are enough, and twice as many to work in; one too few in each
 pub shelf_room :

@@ -2,6 +2,7 @@
 -- end at or before the stretch, and those of later chunks begin behind it, as 512 divides P, so that no stretch lies in two chunks. So the rows of
 -- the copies that lookups answer show what the lookup of the position's chunk lends.
 use Prim.Native.Nat.{ℕ, zero, suc, ◌+◌, ◌-◌, ◌*◌, ◌/◌, ◌%◌, ◌≤◌, ◌<◌, zero-le}
+use Rattle.std.specs.Prelude.{Err}
 use mathlib.Core.Bool.{◌&&◌}
 use mathlib.Core.List.{List, [], ◌∷◌, ◌++◌, map, map-append, append_assoc}
 use mathlib.Core.Logic.{◌⊎◌, inl, inr, ⊎_elim}
@@ -19,8 +20,8 @@ use Rattle.page.proofs.Searching.{by_test}
 use Rattle.sort.specs.Arranged.{Every}
 use Rattle.chunk.specs.Answers.{valid_part, part_by}
 use Rattle.chunk.specs.Records.{base_of}
-use Rattle.chunk.specs.declared.answer.Looked.{Looked}
-use Rattle.chunk.specs.declared.answer.Looked.TheVariants as looked
+use Rattle.chunk.specs.Looked.{Looked}
+use Rattle.chunk.specs.Looked as looked
 use Rattle.chunk.proofs.Cases.{valid_there, valid_none, part_copy, part_hole, part_refused}
 use Rattle.file.specs.Copies.{valid_values, packed_copy, copy_of, copy_in, copies_to}
 use Rattle.file.specs.declared.copy.Copy.{Copy}
@@ -145,7 +146,7 @@ module _ (g : Geometry) (dump : List ℕ) where
           go : (l : Looked) → look c ≡ l → Every (λ r. row_end P r ≤ s) (row c l)
           go (looked.Copy p a u v) e = (omega (arith, told-end c p a u v h e, (within c p a u v e).1), tt)
           go (looked.Hole u v) e = tt
-          go (looked.Refused r v u) e = tt
+          go (Err f) e = tt
 
       row-aside : (c s : ℕ) → c ≤ m → s < base_of P c → Every (Aside s) (row c (look c))
       row-aside c s h k = go (look c) refl
@@ -153,7 +154,7 @@ module _ (g : Geometry) (dump : List ℕ) where
           go : (l : Looked) → look c ≡ l → Every (Aside s) (row c l)
           go (looked.Copy p a u v) e = (inr (omega (arith, told-begin c p a u v h e)), tt)
           go (looked.Hole u v) e = tt
-          go (looked.Refused r v u) e = tt
+          go (Err f) e = tt
 
       -- a position, the chunks before its own, and where its stretch begins
       module _ (w x : ℕ) (some : 0 < P) (whole : P ≡ stretch_bytes * w) where
@@ -204,7 +205,7 @@ module _ (g : Geometry) (dump : List ℕ) where
                 (ap (λ (y : Copy). y.page) (told (suc q) p a u v h e)) (ap (λ (y : Copy). y.valid) (told (suc q) p a u v h e)) (omega arith)
                 ∙ ap (λ (l : List ℕ). byte_of l (x % P)) (sym (part_copy g dump p a u v))))
             go (looked.Hole u v) e = aside_none x Z z ∙ ap (λ (l : List ℕ). byte_of l (x % P)) (sym (part_hole g dump u v))
-            go (looked.Refused r v u) e = aside_none x Z z ∙ ap (λ (l : List ℕ). byte_of l (x % P)) (sym (part_refused g dump r v u))
+            go (Err f) e = aside_none x Z z ∙ ap (λ (l : List ℕ). byte_of l (x % P)) (sym (part_refused g dump f.answer.refusal f.visits f.answer.need))
 
         -- and any rows from it on
         shows-upto :

@@ -1,6 +1,6 @@
 -- Which stretches differ, by the rows of both sides. A row stands for a stretch until it ends at or before it; so the rows that stand later are found
 -- among those that stand now. A stretch before the begin of the rows that stand shows zeros on both sides, and is passed over.
-use Prim.Native.Nat.{ℕ, zero, suc, ◌+◌, ◌-◌, ◌*◌, ◌/◌, ◌≤◌, ◌<◌, zero-le, min, max}
+use Prim.Native.Nat.{ℕ, zero, suc, ◌+◌, ◌-◌, ◌*◌, ◌≤◌, ◌<◌, zero-le, min, max}
 use mathlib.Core.Bool.{Bool, true, false, ◌&&◌}
 use mathlib.Core.Logic.{⊎_elim}
 use mathlib.Core.List.{List, [], ◌∷◌, ◌++◌, append-nil}
@@ -16,7 +16,7 @@ use Rattle.page.specs.Lengths.{page_in}
 use Rattle.page.specs.declared.geometry.Geometry.{Geometry}
 use Rattle.page.proofs.Searching.{by_test}
 use Rattle.chunk.specs.Answers.{valid_part, part_by}
-use Rattle.chunk.specs.declared.answer.Looked.TheVariants as looked
+use Rattle.chunk.specs.Looked as looked
 use Rattle.text.specs.Put.{Put}
 use Rattle.text.proofs.Order.{le_or_lt}
 use Rattle.text.proofs.Putting.{also}
@@ -69,14 +69,6 @@ module _ (P : ℕ) where
       let e = leb-true _ _ t in
       rw (standing_past x r rows e, standing_past y r rows (omega arith)) (standing_later x y rows h))
       (λ t. rw (standing_first x r rows (leb-false _ _ t)))
-
-  -- row i is the first of the rows from i on
-  pub begins_row : (last i : ℕ) (rows : List ℕ) → i < length rows → begins_in P last (drop i rows) ≡ row_begin P (get_or rows i 0) / stretch_bytes
-  begins_row last i rows h = rw (drop-cons rows i 0 h)
-
-  -- where there is none, the last stretch is taken
-  pub begins_none : (last i : ℕ) (rows : List ℕ) → length rows ≤ i → begins_in P last (drop i rows) ≡ last
-  begins_none last i rows h = rw (drop_of_length-le rows h)
 
 -- a stretch of so many bytes begins among them
 pub begins_below : (k end m : ℕ) → end ≡ stretches_in m → k < end → stretch_bytes * k < m

@@ -1,6 +1,7 @@
 -- The report by the words that two accepted dumps are prepared to is document 02's report: of each object by its words what the rules say of it, and
 -- object after object over the ids of both.
 use Prim.Native.Nat.{ℕ}
+use Rattle.std.specs.Prelude.{Ok}
 use mathlib.Core.Bool.{false}
 use mathlib.Core.List.{List, []}
 use mathlib.Core.Logic.{◌⊎◌, ⊎_elim}
@@ -10,7 +11,6 @@ use Rattle.page.specs.Lengths.{opened_of}
 use Rattle.page.specs.Numbers.{bad_object}
 use Rattle.page.specs.Records.{record_at}
 use Rattle.page.specs.declared.geometry.Geometry.{Geometry}
-use Rattle.page.specs.declared.geometry.Opened.TheVariants as opened
 use Rattle.page.specs.declared.record.Record.{Record}
 use Rattle.sort.specs.Ascending.{In}
 use Rattle.sort.specs.Packed.{packed}
@@ -31,7 +31,7 @@ use Rattle.compare.proofs.Walking.{Words, walked}
 
 -- ---- one accepted dump
 
-module _ (g : Geometry) (dump : List ℕ) (n : ℕ) (e : opened_of g (length dump) ≡ opened.Pages n) (o : ℕ) (good : bad_object o ≡ false) where
+module _ (g : Geometry) (dump : List ℕ) (n : ℕ) (e : opened_of g (length dump) ≡ Ok n) (o : ℕ) (good : bad_object o ≡ false) where
   abbrev says : ℕ → Record
   says = record_at g dump
 
@@ -61,8 +61,8 @@ module _ (g : Geometry) (dump : List ℕ) (n : ℕ) (e : opened_of g (length dum
 -- ---- two accepted dumps
 
 module _
-    (g : Geometry) (dump : List ℕ) (n : ℕ) (e : opened_of g (length dump) ≡ opened.Pages n)
-    (g' : Geometry) (dump' : List ℕ) (n' : ℕ) (e' : opened_of g' (length dump') ≡ opened.Pages n')
+    (g : Geometry) (dump : List ℕ) (n : ℕ) (e : opened_of g (length dump) ≡ Ok n)
+    (g' : Geometry) (dump' : List ℕ) (n' : ℕ) (e' : opened_of g' (length dump') ≡ Ok n')
   where
     abbrev one : ℕ → Record
     one = record_at g dump

@@ -1,6 +1,5 @@
 -- A length that no report of an object exceeds: where so many bytes are lent, the report is written without being measured first.
-use Rattle.std.specs.Prelude.{ℕ, ◌+◌, ◌*◌, ◌<◌, min}
-use Rattle.std.proofs.Math.Option.{Option, none, some}
+use Rattle.std.specs.Prelude.{ℕ, ◌+◌, ◌*◌, ◌<◌, min, Option, Some, None}
 use Rattle.compare.specs.Differences.{stretches_in}
 
 -- the bytes of all lines but those of stretches, and of the line of a stretch, at most
@@ -12,12 +11,12 @@ line_bytes = 29
 
 -- of files of these sizes
 abbrev pub most_of : Option ℕ → Option ℕ → ℕ
-most_of (some y) (some z) = plain_bytes + stretches_in (min y z) * line_bytes
-most_of (some y) none = plain_bytes
-most_of none other = plain_bytes
+most_of (Some y) (Some z) = plain_bytes + stretches_in (min y z) * line_bytes
+most_of (Some y) None = plain_bytes
+most_of None other = plain_bytes
 
 -- sizes that words hold, where both are there
 abbrev pub Small : Option ℕ → Option ℕ → Type 0
-Small (some y) (some z) = (y < 18446744073709551616) × (z < 18446744073709551616)
-Small (some y) none = Unit {0}
-Small none other = Unit {0}
+Small (Some y) (Some z) = (y < 18446744073709551616) × (z < 18446744073709551616)
+Small (Some y) None = Unit {0}
+Small None other = Unit {0}

@@ -1,6 +1,5 @@
 -- How one object of two dumps differs (document 02, item 1).
-use Rattle.std.specs.Prelude.{ℕ, ◌+◌, ◌-◌, ◌*◌, ◌/◌, min, Bool, true, false, not, ◌&&◌, List, [], ◌∷◌, ◌++◌, map, eqb, ltb}
-use Rattle.std.proofs.Math.Option.{Option, none, some}
+use Rattle.std.specs.Prelude.{ℕ, ◌+◌, ◌-◌, ◌*◌, ◌/◌, min, Bool, true, false, not, ◌&&◌, List, [], ◌∷◌, ◌++◌, map, eqb, ltb, Option, Some, None}
 use Rattle.page.specs.Choice.{pick}
 use Rattle.page.specs.Search.{count}
 use Rattle.chunk.specs.Live.{passed}
@@ -30,8 +29,8 @@ on_one d false true = d second ∷ []
 on_one d false false = []
 
 abbrev pub lacks : {A : Type 0} → Option A → Bool
-lacks none = true
-lacks (some x) = false
+lacks None = true
+lacks (Some x) = false
 
 -- whether some of so many bytes from a position on differ
 unfoldable pub differ_in : (one other : ℕ → ℕ) (from bytes : ℕ) → Bool
@@ -42,15 +41,15 @@ abbrev pub field_differs : (one other : List ℕ) (field : ℕ) → Bool
 field_differs a b i = differ_in (byte_of a) (byte_of b) (place_of i) (length_of i)
 
 unfoldable pub fields_of : Option (List ℕ) → Option (List ℕ) → List ℕ
-fields_of (some a) (some b) = passed (field_differs a b) place_of fields
-fields_of (some a) none = []
-fields_of none other = []
+fields_of (Some a) (Some b) = passed (field_differs a b) place_of fields
+fields_of (Some a) None = []
+fields_of None other = []
 
 -- the sizes, where both sides are live files
 abbrev pub sizes_of : Option ℕ → Option ℕ → List Difference
-sizes_of (some a) (some b) = pick (eqb a b) [] (sizes a b ∷ [])
-sizes_of (some a) none = []
-sizes_of none other = []
+sizes_of (Some a) (Some b) = pick (eqb a b) [] (sizes a b ∷ [])
+sizes_of (Some a) None = []
+sizes_of None other = []
 
 -- how many bytes a stretch has
 abbrev pub stretch_bytes : ℕ
@@ -69,9 +68,9 @@ abbrev pub stretches_to : (one other : ℕ → ℕ) (size : ℕ) → List ℕ
 stretches_to a b m = passed (stretch_differs a b m) (λ k. k) (stretches_in m)
 
 unfoldable pub stretches_of : (one other : ℕ → ℕ) → Option ℕ → Option ℕ → List ℕ
-stretches_of a b (some y) (some z) = stretches_to a b (min y z)
-stretches_of a b (some y) none = []
-stretches_of a b none other = []
+stretches_of a b (Some y) (Some z) = stretches_to a b (min y z)
+stretches_of a b (Some y) None = []
+stretches_of a b None other = []
 
 -- all that differs, in the order of the report; an object that only one side has does not differ in anything else
 unfoldable pub differences_of : View → View → List Difference

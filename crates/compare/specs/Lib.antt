@@ -1,3 +1,5 @@
+pub mod Compared
+pub mod Preparing
 -- the report of document 02
 pub mod Views
 pub mod Fields

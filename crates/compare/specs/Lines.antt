@@ -1,20 +1,18 @@
 -- For the code alone: the lines of what differs, piece by piece, as they are put. Those of document 02 are in Report.
-use Rattle.std.specs.Prelude.{ℕ, Bool, true, false, List, [], ◌++◌, map}
-use Rattle.std.proofs.Math.Option.{Option}
+use Rattle.std.specs.Prelude.{ℕ, Bool, true, false, List, [], ◌++◌, map, Option}
 use Rattle.page.specs.Choice.{pick}
 use Rattle.page.specs.Records.{record_at}
 use Rattle.page.specs.declared.geometry.Geometry.{Geometry}
 use Rattle.sort.specs.Lists.{joined}
 use Rattle.text.specs.Lines.{line_of}
 use Rattle.text.specs.Quoted.{bytes_of}
-use Rattle.compare.specs.Differences.{lacks, field_differs, fields_of, sizes_of, stretches_of, field, stretch, first, second}
-use Rattle.compare.specs.Fields.{place_of}
+use Rattle.compare.specs.Differences.{lacks, differ_in, fields_of, sizes_of, stretches_of, field, stretch, first, second}
 use Rattle.compare.specs.Report.{lines_of, side_number}
-use Rattle.compare.specs.Views.{bytes_on, is_deleted}
+use Rattle.compare.specs.Views.{byte_of, bytes_on, is_deleted}
 
--- the line of field i, if it differs
-unfoldable pub field_lines : (one other : List ℕ) (field : ℕ) → List ℕ
-field_lines a b i = pick (field_differs a b i) (line_of (bytes_of "field=") (place_of i)) []
+-- the line of a field that begins there and has so many bytes, if it differs
+unfoldable pub field_lines : (one other : List ℕ) (place length : ℕ) → List ℕ
+field_lines a b p n = pick (differ_in (byte_of a) (byte_of b) p n) (line_of (bytes_of "field=") p) []
 
 -- the line of what is so on one side only
 abbrev pub side_lines : (key : List ℕ) (one other : Bool) → List ℕ

@@ -1,6 +1,6 @@
 -- What a dump is prepared to, so that it can be compared: a word for each record, ascending by object and the newest first in each; and as many words for
 -- the rows of the copies that each object's file shows, with zeros behind them.
-use Rattle.std.specs.Prelude.{ℕ, ◌-◌, ◌*◌, Bool, not, ◌&&◌, List, [], ◌++◌, map, eqb, leb, length, replicate}
+use Rattle.std.specs.Prelude.{ℕ, ◌-◌, ◌*◌, Bool, not, ◌&&◌, List, [], ◌++◌, map, eqb, leb, length, replicate, Ok, Err}
 use Rattle.page.specs.Choice.{pick}
 use Rattle.page.specs.Lengths.{opened_of}
 use Rattle.page.specs.Records.{record_at}
@@ -16,14 +16,12 @@ use Rattle.chunk.specs.Lists.{in_front}
 use Rattle.chunk.specs.Live.{object_at, object_ids}
 use Rattle.chunk.specs.Lookups.{sized_of, looked_of}
 use Rattle.chunk.specs.Records.{age_of}
-use Rattle.chunk.specs.declared.answer.Sized.{Sized}
-use Rattle.chunk.specs.declared.answer.Sized.TheVariants as sized
+use Rattle.chunk.specs.Sized.{Sized}
 use Rattle.index.specs.Chains.{objects}
 use Rattle.index.specs.Held.{recs}
 use Rattle.file.specs.Copies.{copies_to, packed_copy}
 use Rattle.file.specs.Table.{chunks_in}
-use Rattle.compare.specs.declared.prepare.Prepared.{Prepared}
-use Rattle.compare.specs.declared.prepare.Prepared.TheVariants.{Records, Refused}
+use Rattle.compare.specs.Preparing.{Prepared, Refused}
 
 module _ (says : ℕ → Record) where
   -- whether a page is a record, and how many are
@@ -49,8 +47,8 @@ module _ (says : ℕ → Record) where
     module _ (P : ℕ) where
       -- the rows of the copies that a file of a size shows; none of an object that is no live file
       abbrev pub rows_by : (object : ℕ) → Sized → List ℕ
-      rows_by o (sized.Size z v) = map packed_copy (copies_to (looked_of says o n P) (chunks_in P z))
-      rows_by o (sized.Refused r v) = []
+      rows_by o (Ok x) = map packed_copy (copies_to (looked_of says o n P) (chunks_in P x.answer))
+      rows_by o (Err e) = []
 
       abbrev pub rows_of : (object : ℕ) → List ℕ
       rows_of o = rows_by o (sized_of says o n P)
@@ -79,7 +77,7 @@ module _ (g : Geometry) (dump : List ℕ) where
   -- what is answered: how many records there are, or a refusal, with that number beside ShortBuffer
   unfoldable pub prepared_on : (order copies work : ℕ) → Prepared
   prepared_on a b c =
-      on_pages (λ r. Refused r 0) (λ n. pick (is_room (records_in n) a b c) (Records (records_in n)) (Refused ShortBuffer (records_in n)))
+      on_pages (λ r. Refused r 0) (λ n. pick (is_room (records_in n) a b c) (Ok (records_in n)) (Refused ShortBuffer (records_in n)))
       (opened_of g (length dump))
 
   -- words that hold something in front where the dump is prepared; after a refusal all as they were

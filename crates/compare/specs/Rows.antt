@@ -1,6 +1,5 @@
 -- For the code alone: the rows of the copies that an object's words show, of any words, in as many words as those are. What they come to is in Prepared.
-use Rattle.std.specs.Prelude.{ℕ, ◌-◌, List, [], ◌++◌, map, length, replicate}
-use Rattle.std.proofs.Math.Option.{Option, none, some}
+use Rattle.std.specs.Prelude.{ℕ, ◌-◌, List, [], ◌++◌, map, length, replicate, Option, Some, None}
 use Rattle.page.specs.declared.record.Record.{Record}
 use Rattle.sort.specs.Packed.{value_of}
 use Rattle.index.specs.Held.{from_list}
@@ -16,8 +15,8 @@ padded m rows = rows ++ replicate (m - length rows) 0
 module _ (says : ℕ → Record) (P : ℕ) (order : List ℕ) where
   -- the rows by the size of these words' file; none of an object that is no live file
   abbrev pub rows_sized : Option ℕ → List ℕ
-  rows_sized (some z) = map packed_copy (copies_along says P z (map value_of order))
-  rows_sized none = []
+  rows_sized (Some z) = map packed_copy (copies_along says P z (map value_of order))
+  rows_sized None = []
 
   unfoldable pub rows_in : List ℕ
   rows_in = rows_sized (size_in (size_walk says P (from_list (map value_of order))))

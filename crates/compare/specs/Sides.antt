@@ -1,7 +1,6 @@
 -- One object by the words that a dump was prepared to: its records, the newest first, and the rows of the copies that its file shows, ascending.
 -- Said of any words; of those that preparing leaves it comes to the same as the rules (proofs/Prepared.antt).
-use Rattle.std.specs.Prelude.{ℕ, ◌+◌, ◌-◌, ◌*◌, ◌/◌, not, List, [], ◌∷◌, map, eqb, leb, length}
-use Rattle.std.proofs.Math.Option.{Option, none, some}
+use Rattle.std.specs.Prelude.{ℕ, ◌+◌, ◌-◌, ◌*◌, ◌/◌, not, List, [], ◌∷◌, map, eqb, leb, length, Option, Some, None}
 use Rattle.page.specs.Choice.{pick}
 use Rattle.page.specs.Records.{is_header, record_at}
 use Rattle.page.specs.declared.geometry.Geometry.{Geometry}
@@ -33,8 +32,8 @@ stretch_begin x = stretch_bytes * (x / stretch_bytes)
 
 -- the first header of a list of pages
 unfoldable pub first_header : (says : ℕ → Record) (pages : List ℕ) → Option ℕ
-first_header says [] = none
-first_header says (p ∷ rest) = let more = first_header says rest in pick (is_header (says p)) (some p) more
+first_header says [] = None
+first_header says (p ∷ rest) = let more = first_header says rest in pick (is_header (says p)) (Some p) more
 
 module _ (g : Geometry) (dump : List ℕ) where
   -- the byte at a position by the first of these rows: of its valid bytes, if it does not begin behind the position's stretch, or 0

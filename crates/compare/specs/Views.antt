@@ -1,6 +1,5 @@
 -- What a dump shows of one object, as far as two dumps are compared (document 02, item 1), by the rules of document 01.
-use Rattle.std.specs.Prelude.{ℕ, ◌/◌, ◌%◌, ◌+◌, Bool, false, not, List, eqb, get_or}
-use Rattle.std.proofs.Math.Option.{Option, none, some}
+use Rattle.std.specs.Prelude.{ℕ, ◌/◌, ◌%◌, ◌+◌, Bool, false, not, List, eqb, get_or, Option, Some, None, Ok, Err}
 use Rattle.page.specs.Layouts.{header_bytes}
 use Rattle.page.specs.Records.{record_at}
 use Rattle.page.specs.declared.geometry.Geometry.{Geometry}
@@ -9,8 +8,7 @@ use Rattle.chunk.specs.Answers.{valid_part, part_by}
 use Rattle.chunk.specs.Lookups.{sized_of, looked_of}
 use Rattle.chunk.specs.Newest.{newest_header, records}
 use Rattle.chunk.specs.Records.{is_gone}
-use Rattle.chunk.specs.declared.answer.Sized.{Sized}
-use Rattle.chunk.specs.declared.answer.Sized.TheVariants as sized
+use Rattle.chunk.specs.Sized.{Sized}
 
 -- an object of a dump: whether it has a record; the bytes of its newest header, if it has one; whether that is deleted; its size, if it is a
 -- live file; and the byte that it shows at a position
@@ -27,17 +25,17 @@ byte_of bytes x = get_or bytes x 0
 
 -- the bytes of the header on a page, if there is one, and whether it is deleted
 abbrev pub bytes_on : Geometry → (dump : List ℕ) → Option ℕ → Option (List ℕ)
-bytes_on g dump none = none
-bytes_on g dump (some h) = some (valid_part g dump h header_bytes)
+bytes_on g dump None = None
+bytes_on g dump (Some h) = Some (valid_part g dump h header_bytes)
 
 abbrev pub is_deleted : (says : ℕ → Record) → Option ℕ → Bool
-is_deleted says none = false
-is_deleted says (some h) = is_gone (says h)
+is_deleted says None = false
+is_deleted says (Some h) = is_gone (says h)
 
 -- a size that was looked up; none of an object that is no live file
 abbrev pub size_in : Sized → Option ℕ
-size_in (sized.Size z v) = some z
-size_in (sized.Refused r v) = none
+size_in (Ok x) = Some x.answer
+size_in (Err e) = None
 
 -- object o of a dump of n pages
 module _ (g : Geometry) (dump : List ℕ) (n o : ℕ) where

@@ -1,8 +1,8 @@
-// What is asked of two dumps, and what became of them and of the report.
+// What is asked of two dumps, and what became of the report.
 use page::number::ObjectId;
-use page::refusal::Refusal;
+use page::refusal::Short;
 
-// Which report is asked for: that of all objects, or that of one.
+// Which report is asked for: that of all objects, or that of one. An Option would not say which of the two `None` is.
 #[derive(Clone, Copy)]
 pub enum Which {
     All,
@@ -10,15 +10,4 @@ pub enum Which {
 }
 
 // How many bytes were written; or a refusal, with the bytes that ShortBuffer needs.
-#[derive(Clone, Copy)]
-pub enum Compared {
-    Written(u64),
-    Refused(Refusal, u64),
-}
-
-// That both dumps are accepted, or by what they are refused.
-#[derive(Clone, Copy)]
-pub enum Both {
-    Accepted,
-    Refused(Refusal),
-}
+pub type Compared = Result<u64, Short<u64>>;

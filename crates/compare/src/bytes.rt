@@ -1,33 +1,15 @@
-// Parts of bytes, and parts compared, with zeros behind the end of each. Bytes are counted block by block, with no way out inside of a block: so a
-// processor does many of them at a time.
-ghost use Rattle.std.specs.Prelude.{not, ◌≡◌, max, ◌+◌, ◌≤◌, eqb, length, take, drop};
-ghost use Rattle.page.specs.Search.{more};
+// Bytes compared, with zeros behind the end of each. Bytes are counted block by block, with no way out inside of a block: so a processor does many of
+// them at a time. The library's `==` of slices stops at the first byte that differs, and knows no zeros behind an end.
+ghost use Rattle.std.specs.Prelude.{◌≡◌, max, ◌+◌, ◌≤◌, length};
 ghost use Rattle.compare.specs.Views.{byte_of};
 ghost use Rattle.compare.specs.Differences.{differ_in};
 ghost use Rattle.compare.specs.Parts.{block, differing, zeros};
 
-use chunk::record::lesser;
-
 // The bytes of a block: no more than fit the count.
 const BLOCK: usize = 128;
 
-// So many bytes from a place on, as many of them as there are.
-pub(crate) fn part(bytes: &[u8], from: usize, n: usize) -> &[u8]
-    ensures { result.now ≡ take n (drop from bytes.now) }
-{
-    let a = lesser(from, bytes.len());
-    let e = a + lesser(n, bytes.len() - a);
-    &bytes[a..e]
-}
-
-// One for two bytes that differ, and none for two that do not.
-fn step(x: u8, y: u8) -> u8
-    ensures { result ≡ more (not (eqb x y)) 0 }
-{
-    if x == y { 0 } else { 1 }
-}
-
 // How many of so many bytes from a place on differ.
+#[tactic(auto, using(crate::proofs::Tests::cases, crate::proofs::Differing::differing_none, crate::proofs::Differing::counted, crate::proofs::Differing::counted_le))]
 fn differing_in(a: &[u8], b: &[u8], from: usize, n: usize) -> u8
     requires n_le_block { n ≤ block }
     requires n_in_bounds { from + n ≤ length a.now }
@@ -35,30 +17,28 @@ fn differing_in(a: &[u8], b: &[u8], from: usize, n: usize) -> u8
     ensures { result ≡ differing (byte_of a.now) (byte_of b.now) from n }
 {
     let mut count: u8 = 0;
-    let mut i: usize = 0;
-    while i < n {
-        count += step(a[from + i], b[from + i]);
-        i += 1;
+    for i in 0..n {
+        count += u8::from(a[from + i] != b[from + i]);
     }
     count
 }
 
 // How many of so many bytes from a place on are not 0.
+#[tactic(auto, using(crate::proofs::Tests::cases, crate::proofs::Differing::differing_none, crate::proofs::Differing::counted, crate::proofs::Differing::counted_le))]
 fn set_in(a: &[u8], from: usize, n: usize) -> u8
     requires n_le_block { n ≤ block }
     requires n_in_bounds { from + n ≤ length a.now }
     ensures { result ≡ differing (byte_of a.now) zeros from n }
 {
     let mut count: u8 = 0;
-    let mut i: usize = 0;
-    while i < n {
-        count += step(a[from + i], 0);
-        i += 1;
+    for i in 0..n {
+        count += u8::from(a[from + i] != 0);
     }
     count
 }
 
 // Whether some byte is not 0.
+#[tactic(auto, using(crate::proofs::Tests::cases, crate::proofs::Differing::differing_none, crate::proofs::Differing::differing_on, crate::proofs::Differing::differ_last))]
 fn any_set(a: &[u8]) -> bool
     ensures { result ≡ differ_in (byte_of a.now) zeros 0 (length a.now) }
 {
@@ -73,6 +53,7 @@ fn any_set(a: &[u8]) -> bool
 }
 
 // Whether two parts differ, of which the first is not the shorter.
+#[tactic(auto, using(crate::proofs::Tests::cases, crate::proofs::Differing::differing_none, crate::proofs::Differing::differing_on))]
 fn differ_from(a: &[u8], b: &[u8]) -> bool
     requires { length b.now ≤ length a.now }
     ensures { result ≡ differ_in (byte_of a.now) (byte_of b.now) 0 (length a.now) }
@@ -85,18 +66,17 @@ fn differ_from(a: &[u8], b: &[u8]) -> bool
         }
         i += BLOCK;
     }
-    if 0 < differing_in(a, b, i, both - i) {
-        return true;
-    }
-    any_set(&a[both..])
+    0 < differing_in(a, b, i, both - i) || any_set(&a[both..])
 }
 
 // Whether two parts differ in some byte, with zeros behind the end of each.
+#[tactic(auto, using(crate::proofs::Tests::cases, crate::proofs::Differing::differ_swap))]
 pub(crate) fn differ(a: &[u8], b: &[u8]) -> bool
     ensures { result ≡ differ_in (byte_of a.now) (byte_of b.now) 0 (max (length a.now) (length b.now)) }
 {
     if a.len() < b.len() {
-        return differ_from(b, a);
+        differ_from(b, a)
+    } else {
+        differ_from(a, b)
     }
-    differ_from(a, b)
 }

@@ -7,6 +7,7 @@ mod fields;
 mod head;
 mod object;
 mod order;
+mod part;
 pub mod prepare;
 mod rows;
 mod runs;

@@ -1,5 +1,5 @@
 // The report of two prepared dumps: which object comes next, the report of one object, and the whole report.
-ghost use Rattle.std.specs.Prelude.{◌≡◌, ◌+◌, ◌≤◌, min, length, take, drop};
+ghost use Rattle.std.specs.Prelude.{◌≡◌, ◌+◌, ◌≤◌, length};
 ghost use Rattle.page.specs.Lengths.{opened_of};
 ghost use Rattle.sort.specs.Lists.{joined};
 ghost use Rattle.text.specs.Lines.{line_of};
@@ -9,22 +9,24 @@ ghost use Rattle.text.specs.Whole.{written_by, bytes_by};
 ghost use Rattle.compare.specs.Answers.{earlier_of, both_of, compared_by, compared_on, bytes_left};
 ghost use Rattle.compare.specs.Bounds.{most_of, Small};
 ghost use Rattle.compare.specs.Differences.{differences_of};
-ghost use Rattle.compare.specs.Heads.{size_as};
 ghost use Rattle.compare.specs.Report.{lines_of};
 ghost use Rattle.compare.specs.Sides.{side_of};
 ghost use Rattle.compare.specs.Lists.{next_of, next_in, sides_report, lists_report, asked_report};
 
-use crate::answer::{Both, Compared, Which};
-use crate::head::{Size, head_of};
+use crate::answer::{Compared, Which};
+use crate::head::{head_of, size_of};
 use crate::object::{put_differences, put_name, put_object};
+use crate::part::part;
 use crate::runs::run_of;
 use crate::stretches::stretches_in;
-use chunk::record::{lesser, smaller};
-use page::geometry::{Geometry, Opened};
+use page::geometry::Geometry;
 use page::number::ObjectId;
-use page::refusal::Refusal;
+use page::refusal::{Refusal, Short};
 use sort::rows::key_of;
-use text::written::Written;
+use text::written;
+
+// How many bytes of a text were written, or how many it needs.
+type Written = Result<usize, written::Short>;
 
 // The bytes of all lines of an object but those of stretches, and of the line of a stretch, at most.
 const PLAIN_BYTES: u64 = 1024;
@@ -39,58 +41,34 @@ pub struct Turn {
     pub second: usize,
 }
 
-// The lesser of two objects.
-fn least(a: u32, b: u32) -> u32
-    ensures { result ≡ min a b }
+// The object that comes next in two lists; 0 where both are empty.
+#[tactic(auto, using(crate::proofs::Tests::cases))]
+fn object_at(order: &[u64], order2: &[u64]) -> u32
+    ensures { result ≡ next_of order.now order2.now }
 {
-    if a < b { a } else { b }
-}
-
-// So many words from a place on, as many of them as there are.
-fn part(words: &[u64], from: usize, n: usize) -> &[u64]
-    ensures { result.now ≡ take n (drop from words.now) }
-{
-    let a = lesser(from, words.len());
-    let e = a + lesser(n, words.len() - a);
-    &words[a..e]
-}
-
-// The object that comes next in two lists from these places on; 0 where both are at their end.
-fn object_at(order: &[u64], i: usize, order2: &[u64], j: usize) -> u32
-    ensures { result ≡ next_of (drop i order.now) (drop j order2.now) }
-{
-    if order.len() <= i {
-        if order2.len() <= j {
-            return 0;
-        }
-        return key_of(order2[j]);
-    }
-    if order2.len() <= j {
-        return key_of(order[i]);
-    }
-    least(key_of(order[i]), key_of(order2[j]))
-}
-
-// The object that comes next from these places on, and how many words of each list are of it.
-fn next_from(order: &[u64], i: usize, order2: &[u64], j: usize) -> Turn
-    ensures { result ≡ next_in (drop i order.now) (drop j order2.now) }
-{
-    let object = object_at(order, i, order2, j);
-    Turn {
-        object,
-        first: run_of(order, i, object),
-        second: run_of(order2, j, object),
+    match (order.first(), order2.first()) {
+        (Some(&x), Some(&y)) => key_of(x).min(key_of(y)),
+        (Some(&x), None) | (None, Some(&x)) => key_of(x),
+        // no object has the number 0: so C has it (lohenarr_compare_next)
+        (None, None) => 0,
     }
 }
 
 // The object that comes next in the words of two dumps, and how many words at the front of each are of it; object 0 and none where there are no words.
+#[tactic(auto, using(crate::proofs::Tests::cases))]
 pub fn next(order: &[u64], order2: &[u64]) -> Turn
     ensures { result ≡ next_in order.now order2.now }
 {
-    next_from(order, 0, order2, 0)
+    let object = object_at(order, order2);
+    Turn {
+        object,
+        first: run_of(order, object),
+        second: run_of(order2, object),
+    }
 }
 
 // Puts the reports of all objects, one after the other.
+#[tactic(auto, using(crate::proofs::Tests::cases, text::proofs::Putting::kept, crate::proofs::Listing::under_start, crate::proofs::Listing::turn_by))]
 fn put_reports(
     dump: &[u8],
     g: Geometry,
@@ -106,14 +84,14 @@ fn put_reports(
     ensures { Put (lists_report g dump.now g2 dump2.now order.now rows.now order2.now rows2.now) buf.old at buf.new result }
 {
     let all = order.len() + order2.len();
-    let mut next = at;
+    let mut put = at;
     let mut i: usize = 0;
     let mut j: usize = 0;
     while i + j < all {
-        let t = next_from(order, i, order2, j);
+        let t = next(&order[i..], &order2[j..]);
         let e = i + t.first;
         let f = j + t.second;
-        next = put_object(
+        put = put_object(
             ObjectId(t.object),
             dump,
             g,
@@ -124,15 +102,16 @@ fn put_reports(
             &order2[j..f],
             part(rows2, j, t.second),
             buf,
-            next,
+            put,
         );
         i = e;
         j = f;
     }
-    next
+    put
 }
 
-// Writes the whole report, if it fits. Where nothing differs there is nothing to write, and all bytes are gone over once.
+// Writes the whole report, if it fits: measured first, by the same function on no bytes. Where nothing differs there is nothing to write, and all bytes are
+// gone over once.
 fn write_reports(
     dump: &[u8],
     g: Geometry,
@@ -160,26 +139,24 @@ fn write_reports(
         0,
     );
     if buf.len() < need {
-        return Written::Short(need);
+        return Err(written::Short { needed: need });
     }
     if need == 0 {
-        return Written::Bytes(0);
+        return Ok(0);
     }
     put_reports(dump, g, order, rows, dump2, g2, order2, rows2, buf, 0);
-    Written::Bytes(need)
+    Ok(need)
 }
 
 // More bytes than this no report of an object has, by the sizes of its files.
-fn most_bytes(one: Size, other: Size) -> u64
-    ensures value { result ≡ most_of (size_as one) (size_as other) }
-    ensures small { Small (size_as one) (size_as other) }
+#[tactic(auto, using(crate::proofs::Tests::cases))]
+fn most_bytes(one: Option<u64>, other: Option<u64>) -> u64
+    ensures value { result ≡ most_of one other }
+    ensures small { Small one other }
 {
-    match one {
-        Size::Nothing => PLAIN_BYTES,
-        Size::Bytes(y) => match other {
-            Size::Nothing => PLAIN_BYTES,
-            Size::Bytes(z) => PLAIN_BYTES + stretches_in(smaller(y, z)) * LINE_BYTES,
-        },
+    match (one, other) {
+        (Some(y), Some(z)) => PLAIN_BYTES + stretches_in(y.min(z)) * LINE_BYTES,
+        _ => PLAIN_BYTES,
     }
 }
 
@@ -203,13 +180,14 @@ fn write_straight(
     let line = put_name(&mut buf[..0], 0, o);
     let next = put_differences(dump, g, order, rows, dump2, g2, order2, rows2, buf, line);
     if next == line {
-        return Written::Bytes(0);
+        return Ok(0);
     }
     put_name(buf, 0, o);
-    Written::Bytes(next)
+    Ok(next)
 }
 
-// Writes the report of object o, if it fits: measured first, and written if something differs.
+// Writes the report of object o, if it fits: measured first, and written if something differs. Not one function with `write_reports`: that one asks
+// whether the text is empty, this one whether there is one behind the object's line, so that what differs is gone over twice and not four times.
 fn write_measured(
     o: ObjectId,
     dump: &[u8],
@@ -239,18 +217,19 @@ fn write_measured(
         line,
     );
     if need == line {
-        return Written::Bytes(0);
+        return Ok(0);
     }
     if buf.len() < need {
-        return Written::Short(need);
+        return Err(written::Short { needed: need });
     }
     put_name(buf, 0, o);
     put_differences(dump, g, order, rows, dump2, g2, order2, rows2, buf, line);
-    Written::Bytes(need)
+    Ok(need)
 }
 
 // Writes the report of object o, if it fits. Where so many bytes are lent that any report of its files would fit, what differs is gone over once, and
 // else twice; what does not differ once.
+#[tactic(auto, using(crate::proofs::Tests::cases, crate::proofs::Bounded::sides_most))]
 fn write_object(
     o: ObjectId,
     dump: &[u8],
@@ -266,8 +245,8 @@ fn write_object(
     ensures value { result ≡ written_by (length buf.old) (sides_report g dump.now g2 dump2.now o.0 order.now rows.now order2.now rows2.now) }
     ensures buf_after { buf.new ≡ bytes_by (sides_report g dump.now g2 dump2.now o.0 order.now rows.now order2.now rows2.now) buf.old }
 {
-    let one = head_of(dump, g, order).size(dump, g);
-    let other = head_of(dump2, g2, order2).size(dump2, g2);
+    let one = size_of(dump, g, head_of(dump, g, order));
+    let other = size_of(dump2, g2, head_of(dump2, g2, order2));
     if most_bytes(one, other) <= buf.len() as u64 {
         return write_straight(o, dump, g, order, rows, dump2, g2, order2, rows2, buf);
     }
@@ -275,6 +254,7 @@ fn write_object(
 }
 
 // Writes the report that is asked for, if it fits.
+#[tactic(auto, using(crate::proofs::Tests::cases))]
 fn write_asked(
     w: Which,
     dump: &[u8],
@@ -296,46 +276,43 @@ fn write_asked(
     }
 }
 
-// The answer by what became of a text.
+// The answer by what became of a text. `tree` has the like; a From would have to stand in `page` or `text`, of which neither knows the other.
+#[tactic(auto, using(crate::proofs::Tests::cases))]
 fn compared_by(w: Written) -> Compared
     ensures { result ≡ compared_by w }
 {
     match w {
-        Written::Bytes(n) => Compared::Written(n as u64),
-        Written::Short(n) => Compared::Refused(Refusal::ShortBuffer, n as u64),
+        Ok(n) => Ok(n as u64),
+        Err(short) => Err(Short {
+            refusal: Refusal::ShortBuffer,
+            need: short.needed as u64,
+        }),
     }
 }
 
-// The refusal that comes first in the table's order.
+// The refusal that comes first in the table's order, which is that of their numbers.
+#[tactic(auto, using(crate::proofs::Tests::cases))]
 fn earlier(r: Refusal, s: Refusal) -> Refusal
     ensures { result ≡ earlier_of r s }
 {
-    if s.number() < r.number() {
-        return s;
-    }
-    r
+    if s.number() < r.number() { s } else { r }
 }
 
 // That two dumps are accepted, or by what they are refused.
-fn both(g: Geometry, bytes: usize, g2: Geometry, bytes2: usize) -> Both
+#[tactic(auto, using(crate::proofs::Tests::cases))]
+fn both(g: Geometry, bytes: usize, g2: Geometry, bytes2: usize) -> Result<(), Refusal>
     ensures { result ≡ both_of (opened_of g bytes) (opened_of g2 bytes2) }
 {
-    let one = g.opened(bytes);
-    let other = g2.opened(bytes2);
-    match one {
-        Opened::Pages(_) => match other {
-            Opened::Pages(_) => Both::Accepted,
-            Opened::Refused(s) => Both::Refused(s),
-        },
-        Opened::Refused(r) => match other {
-            Opened::Pages(_) => Both::Refused(r),
-            Opened::Refused(s) => Both::Refused(earlier(r, s)),
-        },
+    match (g.opened(bytes), g2.opened(bytes2)) {
+        (Ok(_), Ok(_)) => Ok(()),
+        (Err(r), Err(s)) => Err(earlier(r, s)),
+        (Err(r), Ok(_)) | (Ok(_), Err(r)) => Err(r),
     }
 }
 
 // Writes the report of two dumps that is asked for, by the words that they were prepared to, if it fits. For one object these are its words on each
 // side.
+#[tactic(auto, using(crate::proofs::Tests::cases), unfolding(crate::specs::Answers::compared_on, crate::specs::Answers::bytes_left))]
 pub fn compare(
     w: Which,
     dump: &[u8],
@@ -351,11 +328,6 @@ pub fn compare(
     ensures value { result ≡ compared_on g (length dump.now) g2 (length dump2.now) (asked_report g dump.now g2 dump2.now w order.now rows.now order2.now rows2.now) (length buf.old) }
     ensures buf_after { buf.new ≡ bytes_left g (length dump.now) g2 (length dump2.now) (asked_report g dump.now g2 dump2.now w order.now rows.now order2.now rows2.now) buf.old }
 {
-    let b = both(g, dump.len(), g2, dump2.len());
-    match b {
-        Both::Refused(r) => Compared::Refused(r, 0),
-        Both::Accepted => compared_by(write_asked(
-            w, dump, g, order, rows, dump2, g2, order2, rows2, buf,
-        )),
-    }
+    both(g, dump.len(), g2, dump2.len())?;
+    compared_by(write_asked(w, dump, g, order, rows, dump2, g2, order2, rows2, buf))
 }

@@ -30,7 +30,8 @@ pub fn report<'a, 'b, 'c, 'd, 'e, 'f, 'g>(
     )
 }
 
-// Writes the report of two dumps that is asked for, each opened for it, if it fits.
+// Writes the report of two dumps that is asked for, each opened for it, if it fits: a call of C brings bytes and geometry apart (include/lohenarr.h), and
+// document 02 names the form above.
 pub fn compare_dumps(
     w: Which,
     bytes: &[u8],

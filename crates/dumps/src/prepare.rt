@@ -25,7 +25,8 @@ pub fn prepare<'a, 'b, 'c, 'd>(
     compare::prepare::prepare(d.bytes, d.geometry, order, copies, work)
 }
 
-// Prepares a dump, opened for it, if each slice has room.
+// Prepares a dump, opened for it, if each slice has room: a call of C brings bytes and geometry apart (include/lohenarr.h), and document 02 names the
+// form above.
 pub fn prepare_dump(
     bytes: &[u8],
     geometry: Geometry,

@@ -11,15 +11,15 @@ use Rattle.page.specs.Numbers.{page_values}
 use Rattle.page.specs.Shelf.{shelf_geometry, shelf}
 use Rattle.page.specs.declared.refusal.Refusal.TheVariants.{BadPage, IndexDamaged, ShortBuffer}
 use Rattle.page.proofs.Marked as pages
-use Rattle.chunk.specs.declared.answer.Looked.{Looked}
-use Rattle.chunk.specs.declared.answer.Looked.TheVariants as looked
-use Rattle.chunk.specs.declared.answer.Sized.TheVariants as sized
+use Rattle.chunk.specs.Looked.{Looked}
+use Rattle.chunk.specs.Looked as looked
+use Rattle.chunk.specs.Sized as sized
 use Rattle.file.specs.Along.{along_on}
 use Rattle.file.specs.Copies.{copies_to, any_refused, copied_by}
 use Rattle.file.specs.Table.{chunks_in, table_by}
-use Rattle.file.specs.declared.along.Along.TheVariants as along
-use Rattle.file.specs.declared.copies.Copied.TheVariants as copied
-use Rattle.file.specs.declared.table.Tabled.TheVariants as tabled
+use Rattle.file.specs.Laid as along
+use Rattle.file.specs.Copied as copied
+use Rattle.file.specs.Tabled as tabled
 
 -- chunk 1 is on page 5, and the lookup of every other chunk meets a damaged link
 abbrev look : (chunk : ℕ) → Looked

@@ -1,18 +1,17 @@
 -- The words once the copies that were met are put and their keys sorted: the rows that are gathered from them are those of the newest copies.
-use Prim.Native.Nat.{ℕ, suc, ◌+◌, ◌≤◌, ◌<◌}
+use Prim.Native.Nat.{ℕ, suc, ◌+◌, ◌/◌, ◌≤◌, ◌<◌}
 use mathlib.Core.List.{List, [], ◌∷◌, ◌++◌, map}
-use mathlib.Core.Path.{◌≡◌, sym, ap, ap₂, ◌∙◌}
+use mathlib.Core.Path.{◌≡◌, refl, ap, ap₂, ◌∙◌}
 use native.Mathlib.Omega.{arith}
-use lib.ListN.{length, take, drop, get_or, length-append, length-drop, get_or-append, get_or-map}
-use lib.Seq.{take_at, drop_at, drop-drop, get_or-append-add}
+use lib.ListN.{length, take, drop, get_or, get_or-append, get_or-map}
+use lib.Seq.{take_at, get_or-append-add}
 use Rattle.sort.specs.Arranged.{arranged, Every}
 use Rattle.sort.specs.Packed.{word_values, value_of}
 use Rattle.sort.proofs.Arranging.{arranged_length, arranged_backwards, every_arranged, every_weaker}
 use Rattle.sort.proofs.Packing.{packed_value}
-use Rattle.sort.specs.Room.{in_room}
-use Rattle.file.specs.Copies.{packed_copy, put_from, room_for, firsts}
+use Rattle.file.specs.Copies.{packed_copy, put_from, room_for, firsts, keys_sorted, gathered, padded}
 use Rattle.file.specs.declared.copy.Copy.{Copy}
-use Rattle.file.proofs.Putting.{keys_from, keys_length, rows_length, keys_first, rows_behind}
+use Rattle.file.proofs.Putting.{put_length, keys_from, keys_length, rows_length, keys_first, rows_behind}
 use Rattle.file.proofs.Newest.{EveryCopy, newest_of, no_copy, newest_gathered, firsts_map}
 
 -- the numbers of keys from i on are below the number of all
@@ -44,12 +43,6 @@ module _ (w : List ℕ) (n : ℕ) (L : List Copy) (all : length L ≡ n) (room :
   first_keys : take n sorted ≡ keys
   first_keys = ap (λ (r : List ℕ). take n r) parts ∙ take_at keys behind n keys_long
 
-  pub sorted_length : length sorted ≡ length w
-  sorted_length =
-      ap length parts
-      ∙ length-append keys behind
-      ∙ rw (keys_long, length-append (map packed_copy L) (drop (room_for n) w), rows_length L, all, length-drop (room_for n) w) (omega arith)
-
   numbers : Every (λ k. value_of k < n) keys
   numbers = every_arranged (λ k. value_of k < n) (keys_from 0 L) (keys_below n 0 L (omega arith) (omega arith))
 
@@ -70,23 +63,30 @@ module _ (w : List ℕ) (n : ℕ) (L : List Copy) (all : length L ≡ n) (room :
       ∙ ap (map packed_copy)
       (newest_gathered (λ j. get_or L j no_copy) 0 L (omega arith) (λ j. let e : 0 + j ≡ j = omega arith in rw e) some)
 
-  pub sorted_rest : drop (room_for n) sorted ≡ drop (room_for n) w
-  sorted_rest =
-      let two : room_for n ≡ n + n = omega arith in
-      rw two
-      (sym (drop-drop n n sorted)
-      ∙ ap (λ (r : List ℕ). drop n (drop n r)) parts
-      ∙ ap (λ (r : List ℕ). drop n r) (drop_at keys behind n keys_long)
-      ∙ drop_at (map packed_copy L) (drop (room_for n) w) n (rows_length L ∙ all)
-      ∙ rw two)
+-- words with room for as many copies as are put: gathering keeps the newest of each chunk
+module _
+    (w : List ℕ) (L : List Copy) (room : length w ≡ room_for (length L)) (few : length L < word_values)
+    (u : List ℕ) (e : u ≡ put_from (length w / 2) w 0 L)
+  where
+    is-put : u ≡ put_from (length L) w 0 L
+    is-put = let half : length w / 2 ≡ length L = omega arith in rw half at e
 
-  -- what the gathering makes of them
-  pub sorted_filled :
-      EveryCopy (λ y. 0 < y.chunk) L → (u v : List ℕ) (r : ℕ) → u ≡ sorted →
-      r ≡ length (firsts (λ j. get_or u (n + j) 0) 0 (take n u)) →
-      v ≡ in_room (firsts (λ j. get_or u (n + j) 0) 0 (take n u)) (room_for n) u →
-      (r ≡ length (newest_of L)) × (v ≡ in_room (map packed_copy (newest_of L)) (room_for n) w)
-  sorted_filled some u v r e a b =
-      let rows : firsts (λ j. get_or u (n + j) 0) 0 (take n u) ≡ map packed_copy (newest_of L) = rw e (sorted_rows some) in
-      let rest : drop (room_for n) u ≡ drop (room_for n) w = rw e sorted_rest in
-      (a ∙ ap length rows ∙ rows_length (newest_of L), rw (rows, rest) at b)
+    pub put_long : length u ≡ length w
+    put_long = ap length is-put ∙ put_length (length L) w 0 L
+
+    half-put : length u / 2 ≡ length L
+    half-put = omega (arith, put_long)
+
+    pub put_below : Every (λ k. value_of k < length u / 2) (take (length u / 2) (keys_sorted u))
+    put_below = rw (half-put, is-put) (sorted_below w (length L) L refl (omega arith) few)
+
+    rows-put : EveryCopy (λ y. 0 < y.chunk) L → gathered u ≡ map packed_copy (newest_of L)
+    rows-put some = rw (half-put, is-put) (sorted_rows w (length L) L refl (omega arith) few some)
+
+    pub put_gathered :
+        EveryCopy (λ y. 0 < y.chunk) L → (v : List ℕ) (r : ℕ) →
+        r ≡ length (gathered u) → v ≡ padded (gathered u) (length u) →
+        (r ≡ length (newest_of L)) × (v ≡ padded (map packed_copy (newest_of L)) (length w))
+    put_gathered some v r a b =
+        let rows = rows-put some in
+        (a ∙ ap length rows ∙ rows_length (newest_of L), rw (rows, put_long) at b)

@@ -1,19 +1,20 @@
 -- The chunks of a file are those that it does not end before; and a row has the words of its chunk's lookup.
-use Prim.Native.Nat.{ℕ, ◌+◌, ◌-◌, ◌*◌, ◌/◌, ◌≤◌, ◌<◌, min}
+use Prim.Native.Nat.{ℕ, zero, suc, ◌-◌, ◌*◌, ◌/◌, ◌%◌, ◌≤◌, ◌<◌}
+use Rattle.std.specs.Prelude.{Result, Ok, Err, MatchResult}
 use mathlib.Core.Bool.{Bool, false}
 use mathlib.Core.List.{List, [], ◌++◌}
-use mathlib.Core.Logic.{◌↔◌}
 use mathlib.Core.Path.{◌≡◌, refl, sym, ap, ◌∙◌}
-use native.Mathlib.Nat.{mul-le-mul_right, div-mul-le_self, le-div_iff_mul-le}
+use native.Mathlib.Nat.{mul-le-mul_right, div-zero, mod-zero}
 use native.Mathlib.Omega.{arith}
 use lib.ListN.{length, drop}
-use lib.Dec.{eqb}
-use borrow.Author.Tests.{eqb-false, ne_eqb, lt-ltb, le-ltb}
+use lib.Dec.{leb}
+use borrow.Author.Tests.{leb-true, leb-false, lt-ltb, le-ltb}
+use Rattle.std.specs.Int.{div_ceil}
+use Rattle.std.proofs.lemmas.Grind.{div_ceil_times}
 use Rattle.page.specs.Numbers.{most_chunk, bad_chunk}
 use Rattle.page.specs.Records.{record_at}
 use Rattle.page.specs.Lengths.{opened_of}
 use Rattle.page.specs.declared.geometry.Geometry.{Geometry}
-use Rattle.page.specs.declared.geometry.Opened.TheVariants as opened
 use Rattle.page.specs.declared.refusal.Refusal.TheVariants.{ShortBuffer}
 use Rattle.page.proofs.Layouts.{roomy_facts}
 use Rattle.page.proofs.Lengths.{opened_facts}
@@ -22,9 +23,9 @@ use Rattle.page.proofs.Within.{chunk_good}
 use Rattle.chunk.specs.Records.{age_of, base_of}
 use Rattle.chunk.specs.Lookups.{looked_of}
 use Rattle.chunk.specs.Answers.{valid_part, part_by}
-use Rattle.chunk.specs.declared.answer.Looked.{Looked}
-use Rattle.chunk.specs.declared.answer.Looked.TheVariants as looked
-use Rattle.chunk.specs.declared.answer.Sized.TheVariants as sized
+use Rattle.chunk.specs.Looked.{Looked}
+use Rattle.chunk.specs.Looked as looked
+use Rattle.chunk.specs.Sized as sized
 use Rattle.chunk.proofs.Cases.{part_copy, part_hole, part_refused}
 use Rattle.index.specs.Cells.{link_to}
 use Rattle.index.specs.Slots.{first_link}
@@ -35,39 +36,43 @@ use Rattle.index.specs.Ahead.{unvisited}
 use Rattle.index.proofs.Answer.Lookups.{chunk_from_held}
 use Rattle.index.proofs.Walk.Ahead.{chunk_ahead}
 use Rattle.file.specs.Table.{where_word, valid_word, row_part, words_of, chunks_in, rows, all_ahead, table_by, table_from, filled_by}
-use Rattle.file.specs.declared.table.Tabled.TheVariants as tabled
+use Rattle.file.specs.Tabled as tabled
 use Rattle.file.proofs.Rows.{rows_same}
 
 -- a chunk of the table has a number, and the file does not end before it
 pub chunk_before : (P z c : ℕ) → 0 < c → c ≤ chunks_in P z → (bad_chunk c ≡ false) × (base_of P c < z)
 unfolding chunks_in
-chunk_before P z c h i =
-    by_test (eqb z 0) _
-    (λ t. absurd (omega (arith, rw t at i)))
-    (λ t.
-    let some : z ≡ 0 → ⊥ = eqb-false z 0 t in
-    let j : c ≤ min most_chunk ((z - 1) / P + 1) = rw t at i in
-    let m : (c - 1) * P ≤ (z - 1) / P * P = mul-le-mul_right P (omega arith) in
-    (chunk_good c (record { least = h; most = omega arith }), omega (arith, m, div-mul-le_self (z - 1) P)))
+chunk_before zero z c h i =
+    let d : z / 0 ≡ 0 = div-zero z in
+    let r : z % 0 ≡ z = mod-zero z in
+    (chunk_good c (record { least = h; most = omega arith }), omega arith)
+chunk_before (suc P) z c h i =
+    let b = div_ceil_times z (suc P) (omega arith) in
+    let e : c ≡ suc (c - 1) = omega arith in
+    let m : suc (c - 1) * suc P ≤ div_ceil z (suc P) * suc P = mul-le-mul_right (suc P) (omega arith) in
+    (chunk_good c (record { least = h; most = omega arith }), omega arith)
 
 -- and those are all
 pub chunk_in_lem : (P z c : ℕ) → 0 < P → 0 < c → c ≤ most_chunk → base_of P c < z → c ≤ chunks_in P z
 unfolding chunks_in
 chunk_in_lem P z c p h m b =
-    let d : (c - 1 ≤ (z - 1) / P) ↔ ((c - 1) * P ≤ z - 1) = le-div_iff_mul-le p in
-    let q = d.1 (omega arith) in
-    rw (ne_eqb z 0 (λ e. absurd (omega arith))) (omega arith)
+    let most : z ≤ div_ceil z P * P = (div_ceil_times z P p).0 in
+    by_test (leb c (div_ceil z P)) _ (λ t. let i : c ≤ div_ceil z P = leb-true _ _ t in omega arith)
+    (λ t.
+    let i : div_ceil z P < c = leb-false _ _ t in
+    let n : div_ceil z P * P ≤ (c - 1) * P = mul-le-mul_right P (omega arith) in
+    absurd (omega arith))
 
 -- all have numbers
 pub chunks_most : (P z : ℕ) → chunks_in P z ≤ most_chunk
 unfolding chunks_in
-chunks_most P z = by_test (eqb z 0) _ (λ t. rw t (omega arith)) (λ t. rw t (omega arith))
+chunks_most P z = omega arith
 
 -- the words of a row do not go by the records visited
 same_words : (a : Looked) → (where_word (unvisited a) ≡ where_word a) × (valid_word (unvisited a) ≡ valid_word a)
 same_words (looked.Copy p a s v) = (refl, refl)
 same_words (looked.Hole s v) = (refl, refl)
-same_words (looked.Refused r v n) = (refl, refl)
+same_words (Err e) = (refl, refl)
 
 -- a row whose first word is below 2 names no bytes, and another the first bytes of a page
 module _ (g : Geometry) (dump : List ℕ) (place valid : ℕ) where
@@ -85,15 +90,21 @@ row_part_lem g dump (looked.Copy p a s v) =
     let e : link_to p.0 - 2 ≡ p.0 = omega arith in
     row_page g dump (link_to p.0) a (omega arith) ∙ rw e (sym (part_copy g dump p a s v))
 row_part_lem g dump (looked.Hole s v) = row_none g dump 0 0 (omega arith) ∙ sym (part_hole g dump s v)
-row_part_lem g dump (looked.Refused r v n) = row_none g dump 1 0 (omega arith) ∙ sym (part_refused g dump r v n)
+row_part_lem g dump (Err e) = row_none g dump 1 0 (omega arith) ∙ sym (part_refused g dump e.answer.refusal e.visits e.answer.need)
+
+-- what `map_err` leaves as it was
+pub ok_before :
+    {T E : Type 0} (D : Type 0) (r : Result T E) (x : T) → MatchResult r (λ y. ◌≡◌ {A = Result T D} (Ok x) (Ok y)) (λ e. ⊥) → r ≡ Ok x
+ok_before D (Ok y) x h = cc
+ok_before D (Err e) x h = absurd h
 
 -- an accepted dump has data in its pages
-pub data_some : (g : Geometry) (n m : ℕ) → opened_of g n ≡ opened.Pages m → 0 < g.layout.«data»
+pub data_some : (g : Geometry) (n m : ℕ) → opened_of g n ≡ Ok m → 0 < g.layout.«data»
 data_some g n m e = let f = roomy_facts g.layout (opened_facts g n m e).room in omega (arith, f.header)
 
 module _
     (g : Geometry) (dump cells : List ℕ) (o z v n : ℕ)
-    (e : opened_of g (length dump) ≡ opened.Pages n)
+    (e : opened_of g (length dump) ≡ Ok n)
     (s : size_from g dump cells o ≡ sized.Size z v)
   where
     -- the rows that one walk fills are those of the lookups
@@ -114,12 +125,6 @@ module _
       unfolding table_from table_by
       table_short h = rw (s, lt-ltb _ _ h)
 
-      pub table_rows :
-          words_of (chunks_in g.layout.«data» z) ≤ length table →
-          table_from g dump cells o (length table) ≡ tabled.Rows z (chunks_in g.layout.«data» z)
-      unfolding table_from table_by
-      table_rows h = rw (s, le-ltb _ _ h)
-
       pub table_filled :
           filled_by (chunk_from g dump cells o) table (tabled.Rows z (chunks_in g.layout.«data» z))
           ≡ rows (all_ahead (record_at g dump) g.layout.«data» z n cells o (first_link n cells o)) (chunks_in g.layout.«data» z) ++ drop (words_of (chunks_in g.layout.«data» z)) table
@@ -128,7 +133,7 @@ module _
 
 -- on cells that hold exactly the added pages, each row is what the rules answer where pages not added read as blank
 pub rows_held :
-    (g : Geometry) (dump : List ℕ) (n : ℕ) (e : opened_of g (length dump) ≡ opened.Pages n)
+    (g : Geometry) (dump : List ℕ) (n : ℕ) (e : opened_of g (length dump) ≡ Ok n)
     (added : ℕ → Bool) (cells : List ℕ) (held : Held n (objects (record_at g dump)) (age_of (record_at g dump)) added cells) (o m : ℕ) →
     rows (chunk_from g dump cells o) m ≡ rows (looked_of (seen_says (record_at g dump) added) o n g.layout.«data») m
 rows_held g dump n e added cells held o m =

@@ -1,20 +1,21 @@
 -- Gathering in place: of the first n words, which are keys, the first of each chunk has its row taken from behind them. No more rows are taken than
 -- keys are passed, so that no word is written over before it is read.
-use Prim.Native.Nat.{ℕ, suc, ◌+◌, ◌≤◌, ◌<◌, zero-le}
+use Prim.Native.Nat.{ℕ, suc, ◌+◌, ◌-◌, ◌≤◌, ◌<◌, zero-le}
 use mathlib.Core.List.{List, [], ◌∷◌, ◌++◌, append_assoc, append-nil}
 use mathlib.Core.Path.{◌≡◌, refl, sym, ap, ◌∙◌}
 use native.Mathlib.Numerals.{add-one}
 use native.Mathlib.Omega.{arith}
 use lib.Dec.{eqb}
-use lib.ListN.{length, take, drop, set, get_or, length-append, length-take, drop_of_length-le}
+use lib.ListN.{length, take, drop, set, get_or, replicate, length-append, length-take, length-drop, drop_of_length-le}
 use lib.Seq.{sets, sets-eq, length-sets, drop-set-lt, length-take-le, take_at, drop-cons, drop-drop, get_or-take}
+use borrow.Author.Tests.{eq-eqb, ne_eqb}
+use borrow.Rule.Slice.PartMut.{put_mid}
 use Rattle.page.proofs.Searching.{by_test}
 use Rattle.sort.specs.Arranged.{Every}
 use Rattle.sort.specs.Packed.{key_of, value_of}
-use Rattle.sort.specs.Room.{in_room}
-use Rattle.sort.proofs.Arranging.{every_get}
+use Rattle.sort.proofs.Arranging.{arranged_length, every_get}
 use Rattle.sort.proofs.Behind.{behind_same}
-use Rattle.file.specs.Copies.{room_for, first_of, firsts}
+use Rattle.file.specs.Copies.{room_for, first_of, firsts, keys_sorted, padded}
 
 -- a run of stores, and the words before and behind it
 take_sets : (w : List ℕ) (m : ℕ) (F : List ℕ) → m + length F ≤ length w → take (m + length F) (sets w m F) ≡ take m w ++ F
@@ -25,6 +26,10 @@ take_sets w m F h =
 drop_sets : (k : ℕ) (w : List ℕ) (m : ℕ) (F : List ℕ) → m + length F ≤ k → drop k (sets w m F) ≡ drop k w
 drop_sets k w m [] h = refl
 drop_sets k w m (x ∷ F) h = drop_sets k (set w m x) (suc m) F (omega arith) ∙ drop-set-lt k w m x (omega arith)
+
+-- sorting keys leaves the length
+pub sorted_length : (w : List ℕ) → length (keys_sorted w) ≡ length w
+sorted_length w = simp (length-append, arranged_length, length-take, length-drop) (omega arith)
 
 module _ {A : Type 0} (at : ℕ → A) where
   pub firsts_none : (last : ℕ) → firsts at last [] ≡ []
@@ -68,7 +73,7 @@ module _ (w₀ : List ℕ) (n : ℕ) where
         rw (key-at h) at k
 
     -- one key more
-    pub gather_more :
+    gather_more :
         (F : List ℕ) → F ≡ first_of (λ j. get_or w (n + j) 0) last (get_or w i 0) → i < n →
         Gathered (sets w m F) (key_of (get_or w i 0)) (m + length F) (i + 1)
     gather_more F e h =
@@ -90,16 +95,21 @@ module _ (w₀ : List ℕ) (n : ℕ) where
               ∙ ap (λ (r : List ℕ). r ++ firsts at (key_of k) (drop (i + 1) (take n w₀))) (sym (take_sets w m F (omega (arith, g.order, g.long))));
         }
 
+    -- which is the first of its chunk, or not
+    pub gather_first : i < n → (key_of (get_or w i 0) ≡ last → ⊥) → Gathered (set w m (get_or w (n + value_of (get_or w i 0)) 0)) (key_of (get_or w i 0)) (m + 1) (i + 1)
+    gather_first h d = rw (ne_eqb _ _ d) at (gather_more _ refl h)
+
+    pub gather_older : i < n → key_of (get_or w i 0) ≡ last → Gathered w (key_of (get_or w i 0)) m (i + 1)
+    gather_older h e = let same : m + 0 ≡ m = omega arith in rw (eq-eqb _ _ e, same) at (gather_more _ refl h)
+
     -- all keys are passed
     pub gather_end :
-        (v : List ℕ) (to : ℕ) → to ≡ room_for n → v ≡ in_room (take m w) to w → n ≤ i →
-        (m ≡ length (firsts at 0 (take n w₀))) × (m ≤ n) × (v ≡ in_room (firsts at 0 (take n w₀)) (room_for n) w₀)
-    gather_end v to r e h =
-        let j : i ≡ n = omega (arith, g.inside) in
+        (zeros : List ℕ) → zeros ≡ replicate (length (take (length w - m) (drop m w))) 0 → n ≤ i →
+        (m ≡ length (firsts at 0 (take n w₀))) × (m ≤ n) × (put_mid m (length w - m) w zeros ≡ padded (firsts at 0 (take n w₀)) (length w₀))
+    gather_end zeros z h =
         let none : drop i (take n w₀) ≡ [] = drop_of_length-le (take n w₀) {i = i} (omega (arith, length-take n w₀)) in
         let all : firsts at 0 (take n w₀) ≡ take m w = g.taken ∙ rw (none, firsts_none at last) (append-nil (take m w)) in
-        let two : room_for n ≡ n + n = omega arith in
-        let rest : drop (room_for n) w ≡ drop (room_for n) w₀ =
-        rw two (sym (drop-drop n n w) ∙ ap (λ (r : List ℕ). drop n r) (rw j at g.unread) ∙ drop-drop n n w₀) in
-        let long : length (take m w) ≡ m = length-take-le m w (omega (arith, g.order, g.long)) in
-        (sym (ap length all ∙ long), omega (arith, g.order), rw (all, ← rest, ← r) e)
+        let long : length (take m w) ≡ m = length-take-le m w (omega (arith, g.order, g.inside, g.long)) in
+        let rest : length (take (length w - m) (drop m w)) ≡ length w - m = simp (length-take, length-drop) (omega arith) in
+        let behind : drop (length w - m) (drop m w) ≡ [] = drop_of_length-le (drop m w) {i = length w - m} (omega (arith, length-drop m w)) in
+        (sym (ap length all ∙ long), omega (arith, g.order, g.inside), rw (behind, append-nil zeros, all, long, z, rest, g.long))

@@ -1,5 +1,6 @@
 -- What is met is a chunk of the file that is not hidden.
 use Prim.Native.Nat.{ℕ, ◌≤◌, ◌<◌}
+use Rattle.std.specs.Prelude.{Option}
 use mathlib.Core.Bool.{Bool, true, false, ◌||◌}
 use mathlib.Core.Path.{◌≡◌, refl}
 use native.Mathlib.Omega.{arith}
@@ -8,14 +9,13 @@ use borrow.Author.Tests.{eqb-false, ne_eqb, ltb-false, le-ltb, not-true}
 use Rattle.page.proofs.Searching.{clash}
 use Rattle.chunk.specs.Records.{base_of}
 use Rattle.chunk.specs.Cuts.{hides}
-use Rattle.chunk.specs.declared.cut.Cut.{Cut}
 use Rattle.file.specs.Shows.{is_met}
 
 or_false : (a b : Bool) → a || b ≡ false → (a ≡ false) × (b ≡ false)
 or_false true b e = clash (cc)
 or_false false b e = (refl, e)
 
-module _ (P m : ℕ) (cut : Cut) (c : ℕ) where
+module _ (P m : ℕ) (cut : (Option ℕ)) (c : ℕ) where
   pub met_in_lem : is_met P m cut c ≡ true → (0 < c) × (c ≤ m) × (hides cut (base_of P c) ≡ false)
   met_in_lem e =
       let a = or_false (eqb c 0 || ltb m c) (hides cut (base_of P c)) (not-true _ e) in

@@ -1,7 +1,8 @@
 -- A walk along the pages of a list of words, in place of a chain: word after word, and at the last one it is at its end.
 use Prim.Native.Nat.{ℕ, suc, ◌+◌, ◌≤◌, ◌<◌}
+use Rattle.std.specs.Prelude.{Ok, Option, None}
 use mathlib.Core.Bool.{Bool, true, false}
-use mathlib.Core.List.{List, [], ◌∷◌, map}
+use mathlib.Core.List.{List, [], ◌∷◌, ◌++◌, map}
 use mathlib.Core.Path.{◌≡◌, refl, sym, ◌∙◌}
 use native.Mathlib.Numerals.{add-one}
 use native.Mathlib.Omega.{arith}
@@ -13,7 +14,6 @@ use Rattle.page.specs.Lengths.{opened_of}
 use Rattle.page.specs.Numbers.{page_values}
 use Rattle.page.specs.Records.{is_header, is_data, record_at}
 use Rattle.page.specs.declared.geometry.Geometry.{Geometry}
-use Rattle.page.specs.declared.geometry.Opened.TheVariants as opened
 use Rattle.page.specs.declared.record.Data.{Data}
 use Rattle.page.specs.declared.record.Record.{Record}
 use Rattle.page.specs.declared.record.Record.TheVariants as said
@@ -23,18 +23,16 @@ use Rattle.page.proofs.Within.{data_within, page_beyond}
 use Rattle.sort.specs.Packed.{value_of}
 use Rattle.sort.specs.Room.{in_room}
 use Rattle.chunk.specs.Records.{chunk_of}
-use Rattle.chunk.specs.declared.cut.Cut.{Cut}
-use Rattle.chunk.specs.declared.cut.Cut.TheVariants.{Nowhere}
 use Rattle.index.specs.Ahead.{still_newest}
 use Rattle.index.specs.Chains.{Trace, clean, rec}
 use Rattle.index.specs.Held.{from_list}
 use Rattle.index.specs.Walks.{records_in, cut_by}
 use Rattle.index.proofs.Walk.Visits.{length_list}
-use Rattle.file.specs.Along.{copies_along, met_along, shown_by, along_on, along_left}
-use Rattle.file.specs.Copies.{packed_copy, room_for, met}
+use Rattle.file.specs.Along.{met_on, copies_along, met_along, shown_by, along_on, along_left}
+use Rattle.file.specs.Copies.{padded, packed_copy, room_for, met}
 use Rattle.file.specs.Shows.{is_met}
 use Rattle.file.specs.Table.{chunks_in}
-use Rattle.file.specs.declared.along.Along.TheVariants.{Rows}
+use Rattle.file.specs.Laid.{Rows}
 use Rattle.file.specs.declared.copy.Copy.{Copy}
 use Rattle.file.proofs.Newest.{over, over_none, over_behind, over_same, over_before, newest_of}
 use Rattle.file.proofs.Shown.{met_shown}
@@ -46,7 +44,7 @@ said_other (said.Header x) h d = clash (cc)
 said_other (said.Data x) h d = clash (cc)
 
 -- data of an accepted dump has a page of it
-pub data_few : (g : Geometry) (dump : List ℕ) (n q : ℕ) (d : Data) → opened_of g (length dump) ≡ opened.Pages n → record_at g dump q ≡ said.Data d → q < page_values
+pub data_few : (g : Geometry) (dump : List ℕ) (n q : ℕ) (d : Data) → opened_of g (length dump) ≡ Ok n → record_at g dump q ≡ said.Data d → q < page_values
 data_few g dump n q d e k =
     by_test (ltb q n) _
     (λ t. omega (arith, ltb-true q n t, opened_pages g (length dump) n e))
@@ -70,16 +68,15 @@ module _ (list : List ℕ) where
 
 -- what is gathered of all copies that are met along a list of pages
 pub along_gathered :
-    (says : ℕ → Record) (P size : ℕ) (pages : List ℕ) (chunks n r : ℕ) (w v : List ℕ) →
-    chunks ≡ chunks_in P size →
-    n ≡ length (met says P chunks size true Nowhere (from_list pages)) →
-    r ≡ length (newest_of (met says P chunks size true Nowhere (from_list pages))) →
-    v ≡ in_room (map packed_copy (newest_of (met says P chunks size true Nowhere (from_list pages)))) (room_for n) w →
-    (r ≡ length (copies_along says P size pages)) × (v ≡ in_room (map packed_copy (copies_along says P size pages)) (room_for (met_along says P size pages)) w)
+    (says : ℕ → Record) (P size : ℕ) (pages : List ℕ) (n r : ℕ) (w v : List ℕ) →
+    n ≡ length (met_on says P size pages) →
+    r ≡ length (newest_of (met_on says P size pages)) →
+    v ≡ padded (map packed_copy (newest_of (met_on says P size pages))) (room_for n) →
+    (r ≡ length (copies_along says P size pages)) × (v ++ drop (room_for n) w ≡ in_room (map packed_copy (copies_along says P size pages)) (room_for (met_along says P size pages)) w)
 unfolding copies_along met_along
-along_gathered says P size pages chunks n r w v e a b d =
-    let same = met_shown says P chunks size (from_list pages) true Nowhere in
-    (b ∙ rw (same, e), d ∙ rw (a, same, e))
+along_gathered says P size pages n r w v a b d =
+    let same = met_shown says P (chunks_in P size) size (from_list pages) true None in
+    (b ∙ rw same, rw d (rw (a, same)))
 
 -- a list of pages shows no more copies than it has pages: no more are met, and of those the newest are shown
 over_few : (x : Copy) (L : List Copy) → length (over x L) ≤ suc (length L)
@@ -101,7 +98,7 @@ newest_few [] = omega arith
 newest_few (x ∷ L) = omega (arith, over_few x (newest_of L), newest_few L)
 
 module _ (says : ℕ → Record) (P size : ℕ) where
-  met_few : (m : ℕ) (newest : Bool) (cut : Cut) (pages : List ℕ) → length (met says P m size newest cut (from_list pages)) ≤ length pages
+  met_few : (m : ℕ) (newest : Bool) (cut : (Option ℕ)) (pages : List ℕ) → length (met says P m size newest cut (from_list pages)) ≤ length pages
   unfolding met from_list
   met_few m newest cut [] = omega arith
   met_few m newest cut (q ∷ pages) =
@@ -112,12 +109,12 @@ module _ (says : ℕ → Record) (P size : ℕ) where
   unfolding copies_along
   along_few pages =
       let m = chunks_in P size in
-      rw (← met_shown says P m size (from_list pages) true Nowhere)
-      (omega (arith, newest_few (met says P m size true Nowhere (from_list pages)), met_few m true Nowhere pages))
+      rw (← met_shown says P m size (from_list pages) true None)
+      (omega (arith, newest_few (met says P m size true None (from_list pages)), met_few m true None pages))
 
 -- an accepted dump, a list that is not too long, and room: nothing is refused
 module _
-    (g : Geometry) (dump list : List ℕ) (size n : ℕ) (words : List ℕ) (e : opened_of g (length dump) ≡ opened.Pages n)
+    (g : Geometry) (dump list : List ℕ) (size n : ℕ) (words : List ℕ) (e : opened_of g (length dump) ≡ Ok n)
     (few : length list < page_values)
     (room : room_for (length list) ≤ length words)
   where

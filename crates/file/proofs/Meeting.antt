@@ -1,5 +1,6 @@
 -- The walk that meets copies. Its turns put what is met, one record after the other; at the end all copies of the chain are put.
 use Prim.Native.Nat.{ℕ, ◌+◌, ◌≤◌}
+use Rattle.std.specs.Prelude.{Option, None}
 use mathlib.Core.Bool.{Bool, true, false}
 use mathlib.Core.List.{List, [], ◌++◌}
 use mathlib.Core.Path.{◌≡◌, refl, sym, ap, ◌∙◌}
@@ -12,8 +13,6 @@ use Rattle.page.specs.declared.record.Record.TheVariants as said
 use Rattle.page.proofs.Searching.{by_test}
 use Rattle.chunk.specs.Records.{chunk_of, base_of}
 use Rattle.chunk.specs.Lookups.{shown_of, valid_of}
-use Rattle.chunk.specs.declared.cut.Cut.{Cut}
-use Rattle.chunk.specs.declared.cut.Cut.TheVariants.{Nowhere}
 use Rattle.chunk.proofs.Cuts.{leaves_most}
 use Rattle.chunk.proofs.Records.{header_chunk}
 use Rattle.index.specs.Chains.{Trace, clean, broken, rec}
@@ -27,12 +26,12 @@ use Rattle.file.specs.declared.copy.Copy.{Copy}
 use Rattle.file.proofs.Putting.{put_none, put_on, put_length}
 
 -- no more bytes are valid than a page has
-pub valid_most : (P c : ℕ) (k : Record) (z : ℕ) (cut : Cut) → valid_of P c k (shown_of P c z) cut ≤ P
+pub valid_most : (P c : ℕ) (k : Record) (z : ℕ) (cut : (Option ℕ)) → valid_of P c k (shown_of P c z) cut ≤ P
 valid_most P c k z cut = omega (arith, leaves_most cut (base_of P c) (shown_of P c z))
 
 -- a header is not met as a copy, and the newest one is no longer ahead; data does not cut
 module _ (says : ℕ → Record) (P m size : ℕ) where
-  module _ (newest : Bool) (cut : Cut) (t : Trace) where
+  module _ (newest : Bool) (cut : (Option ℕ)) (t : Trace) where
     met-end : t ≡ clean → met says P m size newest cut t ≡ []
     unfolding met
     met-end e = rw e
@@ -62,19 +61,19 @@ module _ (says : ℕ → Record) (P m size : ℕ) where
   -- the words w₀ of a walk along a chain that puts n copies, on the way
   module _ (n pages : ℕ) (w₀ : List ℕ) (all : Trace) where
     abbrev whole : List Copy
-    whole = met says P m size true Nowhere all
+    whole = met says P m size true None all
 
-    pub record Underway (w : List ℕ) (newest : Bool) (cut : Cut) (copies : ℕ) (t : Trace) : Type 0 where
+    pub record Underway (w : List ℕ) (newest : Bool) (cut : (Option ℕ)) (copies : ℕ) (t : Trace) : Type 0 where
       pub long : length w ≡ length w₀
       pub few : copies + records_in t ≤ pages
       pub count : copies + length (met says P m size newest cut t) ≡ length whole
       pub puts : put_from n w copies (met says P m size newest cut t) ≡ put_from n w₀ 0 whole
       pub ends : is_broken t ≡ is_broken all
 
-    pub under_start : records_in all ≤ pages → Underway w₀ true Nowhere 0 all
+    pub under_start : records_in all ≤ pages → Underway w₀ true None 0 all
     under_start h = record { long = refl; few = omega arith; count = omega arith; puts = refl; ends = refl }
 
-    module _ (w : List ℕ) (newest : Bool) (cut : Cut) (copies : ℕ) (t : Trace) (u : Underway w newest cut copies t) where
+    module _ (w : List ℕ) (newest : Bool) (cut : (Option ℕ)) (copies : ℕ) (t : Trace) (u : Underway w newest cut copies t) where
       -- past a record, with what is met there
       module _ (q : ℕ) (rest : Trace) (e : t ≡ rec q rest) where
         abbrev here : List Copy

@@ -1,6 +1,6 @@
 -- The words of copies, one store at a time: what a walk puts. Where n copies are put, the first n words are their keys, from the last to the
 -- first, the next n their rows, and all behind those is as it was.
-use Prim.Native.Nat.{ℕ, suc, ◌+◌, ◌-◌, ◌≤◌, zero-le}
+use Prim.Native.Nat.{ℕ, suc, ◌+◌, ◌-◌, ◌≤◌}
 use mathlib.Core.Bool.{Bool, true, false}
 use mathlib.Core.List.{List, [], ◌∷◌, ◌++◌, map, append_assoc, append-nil}
 use mathlib.Core.Path.{◌≡◌, refl, sym, ap, ◌∙◌}
@@ -8,7 +8,7 @@ use native.Mathlib.Omega.{arith}
 use lib.Dec.{ltb}
 use lib.ListN.{length, take, drop, set, length-set, length-drop, drop_of_length-le}
 use lib.Seq.{sets, sets-eq, take-set-le, take-set-lt, drop-set-add, drop-set-lt, length-take-le, drop-drop}
-use borrow.Author.Tests.{lt-ltb, le-ltb}
+use borrow.Author.Tests.{lt-ltb}
 use Rattle.sort.specs.Packed.{packed}
 use Rattle.sort.proofs.Arranging.{backwards}
 use Rattle.sort.proofs.Behind.{drop_set_at}
@@ -39,12 +39,6 @@ module _ (n : ℕ) where
   unfolding put_from
   put_length w i [] = refl
   put_length w i (x ∷ L) = put_length (put_copy n w i x) (suc i) L ∙ one_length w i x _ refl
-
--- of no copies none is put
-pub put_zero : (w : List ℕ) (i : ℕ) (L : List Copy) → put_from 0 w i L ≡ w
-unfolding put_from
-put_zero w i [] = refl
-put_zero w i (x ∷ L) = let e = le-ltb i 0 zero-le in rw e (put_zero w (suc i) L)
 
 -- the keys of copies from number i on
 abbrev pub keys_from : ℕ → List Copy → List ℕ

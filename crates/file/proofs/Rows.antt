@@ -1,12 +1,13 @@
 -- Rows of a table. On a walk, the row of each chunk is free, and then the answer still lies ahead, or it is done, and then it has the answer.
 -- Noting a record keeps that: it writes to the row of its own chunk alone, if that is free and the record is the answer.
-use Prim.Native.Nat.{ℕ, zero, suc, ◌+◌, ◌-◌, ◌≤◌, ◌<◌, min}
+use Prim.Native.Nat.{ℕ, zero, suc, ◌+◌, ◌-◌, ◌≤◌, ◌<◌, min, max}
+use Rattle.std.specs.Prelude.{Option}
 use mathlib.Core.Bool.{Bool, true, false, not, ◌&&◌}
 use mathlib.Core.List.{List, [], ◌∷◌, ◌++◌, append_assoc}
 use mathlib.Core.Path.{◌≡◌, refl, sym, ap, ◌∙◌}
 use native.Mathlib.Omega.{arith}
-use lib.ListN.{length, take, drop, set, get_or, replicate, length-set, length-append, length-drop, length-replicate, get_or-replicate, get_or-append, take-append-drop}
-use lib.Seq.{take-suc, get_or-set_same, get_or-set_other, get_or-drop, drop-set-lt, drop_at, drop-drop}
+use lib.ListN.{length, take, drop, set, get_or, replicate, length-set, get_or-replicate}
+use lib.Seq.{take_all, take-suc, get_or-set_same, get_or-set_other, get_or-drop, drop-set-lt, drop-drop}
 use lib.Dec.{eqb}
 use borrow.Author.Tests.{eqb-true, eqb-false, eq-eqb, ne_eqb, not-true}
 use Rattle.page.specs.Records.{is_header}
@@ -18,9 +19,8 @@ use Rattle.page.proofs.Layouts.{and_left, and_right}
 use Rattle.page.proofs.Searching.{by_test}
 use Rattle.chunk.specs.Records.{base_of}
 use Rattle.chunk.specs.Cuts.{hides, leaves}
-use Rattle.chunk.specs.declared.cut.Cut.{Cut}
-use Rattle.chunk.specs.declared.answer.Looked.{Looked}
-use Rattle.chunk.specs.declared.answer.Looked.TheVariants as looked
+use Rattle.chunk.specs.Looked.{Looked}
+use Rattle.chunk.specs.Looked as looked
 use Rattle.chunk.specs.Lookups.{shown_of}
 use Rattle.index.specs.Cells.{word, link_to}
 use Rattle.index.specs.Chains.{Trace, rec}
@@ -48,14 +48,14 @@ abbrev pub Told : List ℕ → ℕ → Looked → Type 0
 Told t c answer = Has t c (where_word answer) (valid_word answer)
 
 -- what is noted
-abbrev valid_at : (P size : ℕ) → Cut → (ch n : ℕ) → ℕ
+abbrev valid_at : (P size : ℕ) → Option ℕ → (ch n : ℕ) → ℕ
 valid_at P size cut ch n = min n (leaves cut (base_of P ch) (shown_of P ch size))
 
-abbrev stored : (t : List ℕ) (P size : ℕ) → Cut → (q ch n : ℕ) → List ℕ
+abbrev stored : (t : List ℕ) (P size : ℕ) → Option ℕ → (q ch n : ℕ) → List ℕ
 stored t P size cut q ch n = set (set t (row_at ch) (link_to q)) (row_at ch + 1) (valid_at P size cut ch n)
 
 -- a record is noted in the free row of its chunk, which is not hidden; or nothing is
-pub data Noted (t : List ℕ) (m P size : ℕ) (cut : Cut) (q ch n : ℕ) : Type 0 where
+pub data Noted (t : List ℕ) (m P size : ℕ) (cut : (Option ℕ)) (q ch n : ℕ) : Type 0 where
   passed : noted t m P size cut q ch n ≡ t → Noted t m P size cut q ch n
   wrote :
       0 < ch →
@@ -65,7 +65,7 @@ pub data Noted (t : List ℕ) (m P size : ℕ) (cut : Cut) (q ch n : ℕ) : Type
       noted t m P size cut q ch n ≡ stored t P size cut q ch n →
       Noted t m P size cut q ch n
 
-module _ (t : List ℕ) (m P size : ℕ) (cut : Cut) (q ch n : ℕ) where
+module _ (t : List ℕ) (m P size : ℕ) (cut : (Option ℕ)) (q ch n : ℕ) where
   pub noting : Noted t m P size cut q ch n
   unfolding noted
   noting =
@@ -85,7 +85,7 @@ module _ (t : List ℕ) (m P size : ℕ) (cut : Cut) (q ch n : ℕ) where
   unfolding noted
   writes h i z b = rw (is_met_lem P m cut ch h i b, eq-eqb (word t (row_at ch)) 0 z)
 
-  -- noting leaves the length, and the words behind the rows
+  -- noting leaves the length
   pub noted_length : length (noted t m P size cut q ch n) ≡ length t
   noted_length = go noting
     where
@@ -93,17 +93,7 @@ module _ (t : List ℕ) (m P size : ℕ) (cut : Cut) (q ch n : ℕ) where
       go (passed s) = rw s
       go (wrote h i z b s) = rw s (length-set (set t (row_at ch) (link_to q)) _ _ ∙ length-set t _ _)
 
-  pub noted_rest : drop (words_of m) (noted t m P size cut q ch n) ≡ drop (words_of m) t
-  noted_rest = go noting
-    where
-      go : Noted t m P size cut q ch n → drop (words_of m) (noted t m P size cut q ch n) ≡ drop (words_of m) t
-      go (passed s) = rw s
-      go (wrote h i z b s) =
-          rw s
-          (drop-set-lt (words_of m) (set t (row_at ch) (link_to q)) (row_at ch + 1) (valid_at P size cut ch n) (omega arith)
-          ∙ drop-set-lt (words_of m) t (row_at ch) (link_to q) (omega arith))
-
-module _ (t : List ℕ) (P size : ℕ) (cut : Cut) (q ch n : ℕ) where
+module _ (t : List ℕ) (P size : ℕ) (cut : (Option ℕ)) (q ch n : ℕ) where
   abbrev first : List ℕ
   first = set t (row_at ch) (link_to q)
 
@@ -129,8 +119,8 @@ module _ (t : List ℕ) (P size : ℕ) (cut : Cut) (q ch n : ℕ) where
     of = get_or-set_same first (row_at ch + 1) (valid_at P size cut ch n) 0 (rw (length-set t (row_at ch) (link_to q)) (omega arith));
   }
 
-module _ (says : ℕ → Record) (P size m : ℕ) (t : List ℕ) (newest : Bool) (cut : Cut) (chain : Trace) (q : ℕ) (rest : Trace) (e : chain ≡ rec q rest) where
-  abbrev from : (c : ℕ) → Bool → Cut → Trace → Looked
+module _ (says : ℕ → Record) (P size m : ℕ) (t : List ℕ) (newest : Bool) (cut : (Option ℕ)) (chain : Trace) (q : ℕ) (rest : Trace) (e : chain ≡ rec q rest) where
+  abbrev from : (c : ℕ) → Bool → Option ℕ → Trace → Looked
   from c = ahead says P c (shown_of P c size)
 
   module _ (c : ℕ) (answer : Looked) where
@@ -220,22 +210,10 @@ module _ (t : List ℕ) (c : ℕ) (rest answer : Looked) where
     of = d.valid c h i ∙ f.of;
   }
 
--- words that are cleared: free rows, and the rest as it was
-module _ (t u : List ℕ) (m : ℕ) (room : words_of m ≤ length t) (e : u ≡ replicate (min (words_of m) (length t)) 0 ++ drop (min (words_of m) (length t)) t) where
-  front : u ≡ replicate (words_of m) 0 ++ drop (words_of m) t
-  front = let k : min (words_of m) (length t) ≡ words_of m = omega arith in rw k at e
-
-  zeros : length (replicate {A = ℕ} (words_of m) 0) ≡ words_of m
-  zeros = length-replicate {A = ℕ} (words_of m) 0
-
-  pub clear_length : length u ≡ length t
-  clear_length = rw front (length-append (replicate (words_of m) 0) (drop (words_of m) t) ∙ rw (zeros, length-drop (words_of m) t) (omega arith))
-
-  pub clear_rest : drop (words_of m) u ≡ drop (words_of m) t
-  clear_rest = rw front (drop_at (replicate (words_of m) 0) (drop (words_of m) t) (words_of m) zeros)
-
+-- words that are cleared are free rows
+module _ (u : List ℕ) (m : ℕ) (zeros : u ≡ replicate (words_of m) 0) where
   zero_at : (j : ℕ) → j < words_of m → word u j ≡ 0
-  zero_at j k = rw front (get_or-append (replicate (words_of m) 0) (drop (words_of m) t) 0 j (rw zeros k) ∙ get_or-replicate (words_of m) j 0 0 k)
+  zero_at j k = rw zeros (get_or-replicate (words_of m) j 0 0 k)
 
   pub cleared : (c : ℕ) → 0 < c → c ≤ m → Has u c 0 0
   cleared c h i = record { at = zero_at (row_at c) (omega arith); of = zero_at (row_at c + 1) (omega arith) }
@@ -261,8 +239,8 @@ module _ (look : ℕ → Looked) (t : List ℕ) where
       ∙ append_assoc (take (words_of m) t) (get_or t (words_of m) 0 ∷ []) (get_or t (suc (words_of m)) 0 ∷ [])
       ∙ rw (at, of, rows_are m (omega arith) (λ c a b. r c a (omega arith))))
 
-  pub table_is : (m : ℕ) (t₀ : List ℕ) → words_of m ≤ length t → drop (words_of m) t ≡ drop (words_of m) t₀ → AllTold m → t ≡ rows look m ++ drop (words_of m) t₀
-  table_is m t₀ h e r = sym (take-append-drop (words_of m) t) ∙ rw (rows_are m h r, e)
+  pub table_is : (m : ℕ) → length t ≡ words_of m → AllTold m → t ≡ rows look m
+  table_is m h r = sym (take_all (words_of m) t (omega arith)) ∙ rows_are m (omega arith) r
 
 -- rows of the same words
 pub rows_same :
@@ -274,6 +252,10 @@ rows_same a b zero h = refl
 rows_same a b (suc m) h =
     let s = h (suc m) (omega arith) (omega arith) in
     rw (s.0, s.1, rows_same a b m (λ c i j. h c i (omega arith)))
+
+-- the larger of a row's first word and 1 is closed
+pub closed_max : (w : ℕ) → max w 1 ≡ closed_word w
+closed_max w = by_test (eqb w 0) _ (λ t. let e : w ≡ 0 = eqb-true _ _ t in rw t (omega arith)) (λ t. let some : w ≡ 0 → ⊥ = eqb-false _ _ t in rw t (omega arith))
 
 -- rows closed one after the other
 pub closed_none : (t : List ℕ) → Closed 0 t t

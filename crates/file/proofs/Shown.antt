@@ -1,6 +1,7 @@
 -- The newest of the copies that a walk meets are those that the lookups of the chunks answer. Both go by the chain from its end: a copy that is met
 -- is found for its own chunk, before any older one, and for no other.
 use Prim.Native.Nat.{ℕ, zero, suc, ◌≤◌, ◌<◌}
+use Rattle.std.specs.Prelude.{Option, Err}
 use mathlib.Core.Bool.{Bool, true, false, ◌&&◌}
 use mathlib.Core.List.{List, [], ◌∷◌, ◌++◌}
 use mathlib.Core.Path.{◌≡◌, refl, sym, ap, ap₂, ◌∙◌}
@@ -16,9 +17,8 @@ use Rattle.page.proofs.Searching.{by_test}
 use Rattle.chunk.specs.Records.{chunk_of, is_copy, base_of}
 use Rattle.chunk.specs.Cuts.{hides}
 use Rattle.chunk.specs.Lookups.{shown_of, valid_of}
-use Rattle.chunk.specs.declared.cut.Cut.{Cut}
-use Rattle.chunk.specs.declared.answer.Looked.{Looked}
-use Rattle.chunk.specs.declared.answer.Looked.TheVariants as looked
+use Rattle.chunk.specs.Looked.{Looked}
+use Rattle.chunk.specs.Looked as looked
 use Rattle.chunk.proofs.Records.{copy_chunk}
 use Rattle.index.specs.Chains.{Trace, clean, broken, rec}
 use Rattle.index.specs.Walks.{is_shown, cut_by}
@@ -63,17 +63,17 @@ over_back x (y ∷ L) M e = over_behind x y (L ++ M) e.0 ∙ ap (λ (r : List Co
 in_chunk : (P : ℕ → Type 0) (c : ℕ) (l : Looked) → P c → EveryCopy (λ y. P y.chunk) (copy_in c l)
 in_chunk P c (looked.Copy p a s v) h = (h, tt)
 in_chunk P c (looked.Hole s v) h = tt
-in_chunk P c (looked.Refused r v n) h = tt
+in_chunk P c (Err e) h = tt
 
 over_own : (x : Copy) (c : ℕ) (l : Looked) → c ≡ x.chunk → over x (copy_in c l) ≡ x ∷ []
 over_own x c (looked.Copy p a s v) e = over_same x _ [] e
 over_own x c (looked.Hole s v) e = over_none x
-over_own x c (looked.Refused r v n) e = over_none x
+over_own x c (Err f) e = over_none x
 
 in_few : (c : ℕ) (l : Looked) → length (copy_in c l) ≤ 1
 in_few c (looked.Copy p a s v) = omega arith
 in_few c (looked.Hole s v) = omega arith
-in_few c (looked.Refused r v n) = omega arith
+in_few c (Err e) = omega arith
 
 every_append : (P : Copy → Type 0) (L M : List Copy) → EveryCopy P L → EveryCopy P M → EveryCopy P (L ++ M)
 every_append P [] M e f = f
@@ -164,12 +164,12 @@ refused_same a b (suc m) h = rw (h (suc m) (omega arith) (omega arith), refused_
 pub copy_unvisited : (c : ℕ) (l : Looked) → copy_in c (unvisited l) ≡ copy_in c l
 copy_unvisited c (looked.Copy p a s v) = refl
 copy_unvisited c (looked.Hole s v) = refl
-copy_unvisited c (looked.Refused r v n) = refl
+copy_unvisited c (Err e) = refl
 
 pub refused_unvisited : (l : Looked) → is_refused (unvisited l) ≡ is_refused l
 refused_unvisited (looked.Copy p a s v) = refl
 refused_unvisited (looked.Hole s v) = refl
-refused_unvisited (looked.Refused r v n) = refl
+refused_unvisited (Err e) = refl
 
 -- a copy is one of its own chunk alone
 own_copy : (k : Record) → 0 < chunk_of k → is_copy (chunk_of k) k ≡ true
@@ -179,10 +179,10 @@ own_copy (said.Data d) h = eq-eqb d.chunk.0 d.chunk.0 refl
 
 module _ (says : ℕ → Record) (P m size : ℕ) where
   -- what lies ahead for each chunk
-  abbrev pub ahead_of : (newest : Bool) → Cut → Trace → ℕ → Looked
+  abbrev pub ahead_of : (newest : Bool) → Option ℕ → Trace → ℕ → Looked
   ahead_of newest cut t c = ahead says P c (shown_of P c size) newest cut t
 
-  module _ (newest : Bool) (cut : Cut) (q : ℕ) (t : Trace) where
+  module _ (newest : Bool) (cut : (Option ℕ)) (q : ℕ) (t : Trace) where
     abbrev chunk : ℕ
     chunk = chunk_of (says q)
 
@@ -224,7 +224,7 @@ module _ (says : ℕ → Record) (P m size : ℕ) where
         never (sym (rw e at h) ∙ is_met_lem P m cut c i j b))
         (λ s. s)))
 
-  pub met_shown : (t : Trace) (newest : Bool) (cut : Cut) → newest_of (met says P m size newest cut t) ≡ copies_to (ahead_of newest cut t) m
+  pub met_shown : (t : Trace) (newest : Bool) (cut : (Option ℕ)) → newest_of (met says P m size newest cut t) ≡ copies_to (ahead_of newest cut t) m
   unfolding met newest_of
   met_shown clean newest cut = sym (copies_none _ m (λ c. ap (copy_in c) (ahead_end says P c (shown_of P c size) newest cut clean refl)))
   met_shown broken newest cut = sym (copies_none _ m (λ c. ap (copy_in c) (ahead_broken says P c (shown_of P c size) newest cut broken refl)))
@@ -235,7 +235,7 @@ module _ (says : ℕ → Record) (P m size : ℕ) where
       (λ h. rw h (on ∙ sym (met-past newest cut q t h)))
 
   -- every copy that is met has a chunk number
-  pub met_some : (t : Trace) (newest : Bool) (cut : Cut) → EveryCopy (λ y. 0 < y.chunk) (met says P m size newest cut t)
+  pub met_some : (t : Trace) (newest : Bool) (cut : (Option ℕ)) → EveryCopy (λ y. 0 < y.chunk) (met says P m size newest cut t)
   unfolding met
   met_some clean newest cut = tt
   met_some broken newest cut = tt
@@ -246,7 +246,7 @@ module _ (says : ℕ → Record) (P m size : ℕ) where
       (λ h. rw h on)
 
   -- a lookup is refused where a damaged link comes before a copy
-  none_refused : (c : ℕ) (t : Trace) (newest : Bool) (cut : Cut) → is_broken t ≡ false → is_refused (ahead_of newest cut t c) ≡ false
+  none_refused : (c : ℕ) (t : Trace) (newest : Bool) (cut : (Option ℕ)) → is_broken t ≡ false → is_refused (ahead_of newest cut t c) ≡ false
   unfolding is_broken ahead
   none_refused c clean newest cut e = refl
   none_refused c broken newest cut e = e
@@ -254,7 +254,7 @@ module _ (says : ℕ → Record) (P m size : ℕ) where
       by_test (is_shown says P c cut q) _ (λ h. rw h refl) (λ h. rw h (none_refused c t (still_newest says newest q) (cut_by says newest q cut) e))
 
   all_refused :
-      (c : ℕ) (t : Trace) (newest : Bool) (cut : Cut) → is_broken t ≡ true →
+      (c : ℕ) (t : Trace) (newest : Bool) (cut : (Option ℕ)) → is_broken t ≡ true →
       is_refused (ahead_of newest cut t c) ≡ eqb (length (copy_in c (ahead_of newest cut t c))) 0
   unfolding is_broken ahead
   all_refused c clean newest cut e = never e
@@ -263,7 +263,7 @@ module _ (says : ℕ → Record) (P m size : ℕ) where
       by_test (is_shown says P c cut q) _ (λ h. rw h refl) (λ h. rw h (all_refused c t (still_newest says newest q) (cut_by says newest q cut) e))
 
   -- and for no other reason
-  pub ahead_damaged : (c : ℕ) (t : Trace) (newest : Bool) (cut : Cut) → is_refused (ahead_of newest cut t c) ≡ true → ahead_of newest cut t c ≡ looked.Refused IndexDamaged 0 0
+  pub ahead_damaged : (c : ℕ) (t : Trace) (newest : Bool) (cut : (Option ℕ)) → is_refused (ahead_of newest cut t c) ≡ true → ahead_of newest cut t c ≡ looked.Refused IndexDamaged 0 0
   unfolding ahead
   ahead_damaged c clean newest cut e = never e
   ahead_damaged c broken newest cut e = refl
@@ -273,7 +273,7 @@ module _ (says : ℕ → Record) (P m size : ℕ) where
       (λ h. rw h (ahead_damaged c t (still_newest says newest q) (cut_by says newest q cut) (rw h at e)))
 
   pub ahead_refused :
-      (t : Trace) (newest : Bool) (cut : Cut) →
+      (t : Trace) (newest : Bool) (cut : (Option ℕ)) →
       any_refused (ahead_of newest cut t) m ≡ is_broken t && ltb (length (copies_to (ahead_of newest cut t) m)) m
   ahead_refused t newest cut =
       by_test (is_broken t) _

@@ -1,9 +1,10 @@
 -- Every row tells its copy: the chunk is one of the file's, no link leads outside the dump, and no more bytes are valid than a page has data. So what
 -- was packed comes out again.
 use Prim.Native.Nat.{ℕ, zero, suc, ◌≤◌, ◌<◌}
+use Rattle.std.specs.Prelude.{Ok, Option, None, Err}
 use mathlib.Core.Bool.{Bool, true, false}
 use mathlib.Core.List.{List, [], ◌∷◌, map}
-use mathlib.Core.Path.{◌≡◌, refl, sym, ap₂, ◌∙◌}
+use mathlib.Core.Path.{◌≡◌, refl, sym, ap, ap₂, ◌∙◌}
 use native.Mathlib.Omega.{arith}
 use lib.Dec.{eqb, ltb}
 use lib.ListN.{length}
@@ -12,18 +13,16 @@ use Rattle.page.specs.Records.{record_at}
 use Rattle.page.specs.Lengths.{opened_of}
 use Rattle.page.specs.Numbers.{page_values}
 use Rattle.page.specs.declared.geometry.Geometry.{Geometry}
-use Rattle.page.specs.declared.geometry.Opened.TheVariants as opened
 use Rattle.page.specs.declared.record.Record.{Record}
 use Rattle.page.specs.declared.refusal.Refusal.TheVariants.{IndexDamaged}
 use Rattle.page.proofs.Lengths.{opened_pages}
 use Rattle.page.proofs.Searching.{by_test, clash}
 use Rattle.chunk.specs.Records.{age_of, chunk_of}
 use Rattle.chunk.specs.Lookups.{looked_of}
-use Rattle.chunk.specs.declared.cut.Cut.{Cut}
-use Rattle.chunk.specs.declared.cut.Cut.TheVariants.{Nowhere}
-use Rattle.chunk.specs.declared.answer.Looked.{Looked}
-use Rattle.chunk.specs.declared.answer.Looked.TheVariants as looked
-use Rattle.chunk.specs.declared.answer.Sized.TheVariants as sized
+use Rattle.chunk.specs.Looked.{Looked}
+use Rattle.chunk.specs.Looked as looked
+use Rattle.chunk.specs.Sized as sized
+use Rattle.chunk.proofs.Alike.{unread_by}
 use Rattle.chunk.proofs.Undamaged.{chunk_undamaged}
 use Rattle.index.specs.Cells.{word, link_at}
 use Rattle.index.specs.Slots.{first_link}
@@ -90,7 +89,7 @@ module _ (Q : Copy → Type 0) where
 
 -- all that is met fits
 module _ (says : ℕ → Record) (P m size n : ℕ) (h : m < chunk_values) (i : n < page_values) (j : P < valid_values) where
-  met_fits : (t : Trace) (newest : Bool) (cut : Cut) → Inside n t → EveryCopy Fits (met says P m size newest cut t)
+  met_fits : (t : Trace) (newest : Bool) (cut : (Option ℕ)) → Inside n t → EveryCopy Fits (met says P m size newest cut t)
   unfolding met
   met_fits clean newest cut k = tt
   met_fits broken newest cut k = tt
@@ -122,22 +121,22 @@ copies_unpacked (x ∷ L) e = ap₂ {C = List Copy} (λ y M. y ∷ M) (copy_told
 
 -- the rows of a file tell the copies that the lookups of its chunks answer
 pub copies_told :
-    (g : Geometry) (dump cells : List ℕ) (o z v n : ℕ) → opened_of g (length dump) ≡ opened.Pages n → size_from g dump cells o ≡ sized.Size z v →
+    (g : Geometry) (dump cells : List ℕ) (o z v n : ℕ) → opened_of g (length dump) ≡ Ok n → size_from g dump cells o ≡ sized.Size z v →
     map copy_of (map packed_copy (copies_to (chunk_from g dump cells o) (chunks_in g.layout.«data» z)))
     ≡ copies_to (chunk_from g dump cells o) (chunks_in g.layout.«data» z)
 copies_told g dump cells o z v n e s =
     let says = record_at g dump in
     let P = g.layout.«data» in
     let links = under says n cells o top (first_link n cells o) in
-    let same = met_shown says P (chunks_in P z) z links true Nowhere ∙ copies_looked g dump cells o z v n e s in
+    let same = met_shown says P (chunks_in P z) z links true None ∙ copies_looked g dump cells o z v n e s in
     let fits =
-    met_fits says P (chunks_in P z) z n (omega (arith, chunks_most P z)) (opened_pages g (length dump) n e) (opened_data g (length dump) n e) links true Nowhere
+    met_fits says P (chunks_in P z) z n (omega (arith, chunks_most P z)) (opened_pages g (length dump) n e) (opened_data g (length dump) n e) links true None
     (inside n (objects says) (age_of says) cells o top (first_link n cells o)) in
-    copies_unpacked (copies_to (chunk_from g dump cells o) (chunks_in P z)) (rw same at (newest_every Fits (met says P (chunks_in P z) z true Nowhere links) fits))
+    copies_unpacked (copies_to (chunk_from g dump cells o) (chunks_in P z)) (rw same at (newest_every Fits (met says P (chunks_in P z) z true None links) fits))
 
 -- on cells that hold exactly the added pages, they are those that the rules answer where pages not added read as blank
 module _
-    (g : Geometry) (dump : List ℕ) (n : ℕ) (e : opened_of g (length dump) ≡ opened.Pages n)
+    (g : Geometry) (dump : List ℕ) (n : ℕ) (e : opened_of g (length dump) ≡ Ok n)
     (added : ℕ → Bool) (cells : List ℕ) (held : Held n (objects (record_at g dump)) (age_of (record_at g dump)) added cells) (o m : ℕ)
   where
     pub copies_held : copies_to (chunk_from g dump cells o) m ≡ copies_to (looked_of (seen_says (record_at g dump) added) o n g.layout.«data») m
@@ -147,7 +146,7 @@ module _
     bare-damaged : (l : Looked) → unvisited l ≡ looked.Refused IndexDamaged 0 0 → ((v k : ℕ) → l ≡ looked.Refused IndexDamaged v k → ⊥) → ⊥
     bare-damaged (looked.Copy p a s v) q never = clash (cc)
     bare-damaged (looked.Hole s v) q never = clash (cc)
-    bare-damaged (looked.Refused r v k) q never = let same : r ≡ IndexDamaged = cc in never v k (rw same)
+    bare-damaged (Err e) q never = let same : e.answer.refusal ≡ IndexDamaged = let h = ap unread_by q in cc in never e.visits e.answer.need (rw same)
 
     pub held_undamaged : (z v : ℕ) → size_from g dump cells o ≡ sized.Size z v → any_refused (chunk_from g dump cells o) (chunks_in g.layout.«data» z) ≡ false
     held_undamaged z v s =

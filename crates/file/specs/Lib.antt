@@ -1,3 +1,6 @@
+pub mod Tabled
+pub mod Copied
+pub mod Laid
 pub mod Copies
 pub mod Along
 pub mod Shows

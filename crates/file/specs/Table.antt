@@ -1,7 +1,8 @@
 -- The table of a file's chunks. It has a row of two words for each chunk from 1 on, by what the chunk's lookup on the index answers. The
 -- first word says where the copy is: 0 for a hole, 1 where a damaged link is met before a copy, q + 2 for page q. The second is the copy's
 -- valid length.
-use Rattle.std.specs.Prelude.{ℕ, zero, suc, ◌+◌, ◌-◌, ◌*◌, ◌/◌, ◌≤◌, ◌<◌, min, true, not, List, [], ◌∷◌, ◌++◌, ◌≡◌, length, set, drop, eqb, ltb}
+use Rattle.std.specs.Prelude.{ℕ, zero, suc, ◌+◌, ◌-◌, ◌*◌, ◌≤◌, ◌<◌, min, true, not, List, [], ◌∷◌, ◌++◌, ◌≡◌, length, set, drop, eqb, ltb, Option, None, Ok, Err}
+use Rattle.std.specs.Int.{div_ceil}
 use Rattle.page.specs.Choice.{pick}
 use Rattle.page.specs.Numbers.{most_chunk}
 use Rattle.page.specs.declared.record.Record.{Record}
@@ -10,31 +11,28 @@ use Rattle.page.specs.declared.refusal.Refusal.TheVariants.{ShortBuffer}
 use Rattle.chunk.specs.Records.{base_of}
 use Rattle.chunk.specs.Cuts.{leaves}
 use Rattle.chunk.specs.Answers.{valid_part}
-use Rattle.chunk.specs.declared.cut.Cut.{Cut}
-use Rattle.chunk.specs.declared.cut.Cut.TheVariants.{Nowhere}
-use Rattle.chunk.specs.declared.answer.Looked.{Looked}
-use Rattle.chunk.specs.declared.answer.Looked.TheVariants as looked
-use Rattle.chunk.specs.declared.answer.Sized.{Sized}
-use Rattle.chunk.specs.declared.answer.Sized.TheVariants as sized
+use Rattle.chunk.specs.Looked.{Looked}
+use Rattle.chunk.specs.Looked as looked
+use Rattle.chunk.specs.Sized.{Sized}
 use Rattle.chunk.specs.Lookups.{shown_of}
 use Rattle.index.specs.Cells.{word, link_to}
 use Rattle.index.specs.Chains.{top}
 use Rattle.index.specs.Walks.{under, size_from}
 use Rattle.index.specs.Ahead.{ahead}
 use Rattle.file.specs.Shows.{is_met}
-use Rattle.file.specs.declared.table.Tabled.{Tabled}
-use Rattle.file.specs.declared.table.Tabled.TheVariants.{Rows, Refused}
+use Rattle.file.specs.Tabled.{Tabled}
+use Rattle.file.specs.Tabled.{Rows, Refused}
 
 -- the words of a row, by what the lookup answers
 abbrev pub where_word : Looked → ℕ
 where_word (looked.Copy p a s v) = link_to p.0
 where_word (looked.Hole s v) = 0
-where_word (looked.Refused r v n) = 1
+where_word (Err e) = 1
 
 abbrev pub valid_word : Looked → ℕ
 valid_word (looked.Copy p a s v) = a
 valid_word (looked.Hole s v) = 0
-valid_word (looked.Refused r v n) = 0
+valid_word (Err e) = 0
 
 -- the part of a dump that a row of these words names: the valid bytes of the copy, and an empty part for the others
 unfoldable pub row_part : Geometry → (dump : List ℕ) (place valid : ℕ) → List ℕ
@@ -50,7 +48,7 @@ row_at c = words_of (c - 1)
 
 -- how many chunks a file of a size has, with P data bytes to a page, of those that have numbers
 unfoldable pub chunks_in : (P size : ℕ) → ℕ
-chunks_in P size = pick (eqb size 0) 0 (min most_chunk ((size - 1) / P + 1))
+chunks_in P size = min most_chunk (div_ceil size P)
 
 -- the rows of chunks 1 to m
 unfoldable pub rows : (ℕ → Looked) → ℕ → List ℕ
@@ -59,13 +57,13 @@ rows look (suc c) = rows look c ++ (where_word (look (suc c)) ∷ valid_word (lo
 
 -- the table of a file that has a size or not, in so many words
 unfoldable pub table_by : (P room : ℕ) → Sized → Tabled
-table_by P room (sized.Refused r v) = Refused r 0
-table_by P room (sized.Size z v) = pick (ltb room (words_of (chunks_in P z))) (Refused ShortBuffer (words_of (chunks_in P z))) (Rows z (chunks_in P z))
+table_by P room (Err e) = Refused e.answer 0
+table_by P room (Ok x) = pick (ltb room (words_of (chunks_in P x.answer))) (Refused ShortBuffer (words_of (chunks_in P x.answer))) (Rows x.answer (chunks_in P x.answer))
 
 -- the words after the call: the rows, and those behind them as they were; after a refusal all as they were
 unfoldable pub filled_by : (ℕ → Looked) → List ℕ → Tabled → List ℕ
-filled_by look table (Refused r n) = table
-filled_by look table (Rows z m) = rows look m ++ drop (words_of m) table
+filled_by look table (Err e) = table
+filled_by look table (Ok x) = rows look x.rows ++ drop (words_of x.rows) table
 
 -- the table of object o of a dump, by any cells, in so many words
 unfoldable pub table_from : Geometry → (dump cells : List ℕ) (object room : ℕ) → Tabled
@@ -73,10 +71,10 @@ table_from g dump cells o room = table_by g.layout.«data» room (size_from g du
 
 -- what lies ahead for each chunk of a file of a size, from a link on
 abbrev pub all_ahead : (says : ℕ → Record) (P size pages : ℕ) (cells : List ℕ) (object first chunk : ℕ) → Looked
-all_ahead says P size n cells o first c = ahead says P c (shown_of P c size) true Nowhere (under says n cells o top first)
+all_ahead says P size n cells o first c = ahead says P c (shown_of P c size) true None (under says n cells o top first)
 
 -- a table of m rows in which page q, of chunk number c and byte count n, is noted: if it is met as a copy, and nothing is noted in its row
-unfoldable pub noted : (table : List ℕ) (rows P size : ℕ) → Cut → (page chunk count : ℕ) → List ℕ
+unfoldable pub noted : (table : List ℕ) (rows P size : ℕ) → Option ℕ → (page chunk count : ℕ) → List ℕ
 noted t m P size cut q c n =
     pick (not (is_met P m cut c)) t
     (pick (not (eqb (word t (row_at c)) 0)) t

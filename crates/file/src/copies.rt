@@ -1,83 +1,63 @@
 // The copies that a file shows: for each chunk that has one, the page that holds it and how many bytes of that are valid. Holes take no room, so
 // that the cost goes by the object's records, and not by the size that its header claims.
-ghost use Rattle.std.specs.Prelude.{true, ◌&&◌, map, ◌≡◌, ◌+◌, ◌≤◌, ◌<◌, ◌^◌, ltb, length, take, get_or};
-ghost use Rattle.std.proofs.lemmas.List.Edits.{sets};
+ghost use Rattle.std.specs.Prelude.{map, ◌≡◌, ◌+◌, ◌/◌, ◌≤◌, ◌<◌, length, take};
 ghost use Rattle.page.specs.Records.{record_at};
 ghost use Rattle.page.specs.Lengths.{opened_of};
 ghost use Rattle.page.specs.Numbers.{page_values};
-ghost use Rattle.page.specs.declared.geometry.Opened.TheVariants as opened;
 ghost use Rattle.page.specs.declared.record.Record.TheVariants as said;
 ghost use Rattle.sort.specs.Packed.{value_of};
 ghost use Rattle.sort.specs.Arranged.{Every};
-ghost use Rattle.sort.specs.Room.{in_room};
-ghost use Rattle.chunk.specs.declared.cut.Cut.TheVariants.{Nowhere};
-ghost use Rattle.index.specs.Cells.{cells_for};
 ghost use Rattle.index.specs.Chains.{top};
 ghost use Rattle.index.specs.Walks.{under};
-ghost use Rattle.file.specs.Table.{all_ahead};
 ghost use Rattle.index.specs.Recorded.{is_broken};
-ghost use Rattle.file.specs.Copies.{copies_to, packed_copy, chunk_values, valid_values, Fits, put_copy, put_from, room_for, met_of, met, first_of, firsts, copied_from, rows_from};
+ghost use Rattle.file.specs.Copies.{packed_copy, chunk_values, valid_values, Fits, put_copy, put_from, room_for, met_of, met_ahead, copies_ahead, keys_sorted, gathered, padded, copied_from, rows_from};
 
+use crate::answer::Copies;
 use crate::copy::Copy;
 use crate::shows::{is_met, valid_in};
-use crate::table::chunks_in;
-use chunk::answer::Sized;
+use crate::table::{chunks_in, words_of};
+use chunk::answer::Visited;
 use chunk::cut::Cut;
-use index::cells::link_at;
+use index::cells::link_of;
 use index::chains::{Role, Step, TOP, follow};
 use index::lookups::size;
 use index::slots::first_link;
 use index::walks::cut_past;
-use page::geometry::{Geometry, Opened};
+use page::geometry::Geometry;
 use page::number::{ObjectId, PageNumber};
 use page::record::Data;
-use page::refusal::Refusal;
+use page::refusal::{Refusal, Short};
 use sort::keys::sort;
-use sort::room::clear;
 use sort::rows::{key_of, pack, value_of};
 
-// The size of a file, how many rows its copies are, and whether the lookup of one of its chunks meets a damaged link; or a refusal, with the
-// words that ShortBuffer needs.
-#[derive(Clone, Copy)]
-pub enum Copied {
-    Rows(u64, u32, bool),
-    Refused(Refusal, u32),
-}
+// The copies of a file; or a refusal, with the words that ShortBuffer needs.
+pub type Copied = Result<Copies, Short<u32>>;
 
-// How many copies a walk down a chain met, and whether the chain ends at a damaged link.
+// How many copies a walk down a chain met, and whether the chain ends at a damaged link. No Result: the copies are wanted either way.
 #[derive(Clone, Copy)]
 struct Walked {
     copies: u32,
     broken: bool,
 }
 
-// How many words so many copies need: a key and a row for each.
-pub(crate) fn room_for(n: usize) -> usize
-    requires { n < 2 ^ 63 }
-    ensures { result ≡ room_for n }
+// Puts copy i: the key that sorts it into the front half of the words, and its row into the other; where there is no room, nothing. Keys come from the
+// back on: a file that was written in order is met from its last chunk on, and keys in order need no sorting.
+fn put(rows: &mut [u64], i: u32, x: Copy)
+    requires { Fits x }
+    ensures { rows.new ≡ put_copy (length rows.old / 2) rows.old i x }
 {
-    2 * n
-}
-
-// Puts copy i of n: the key that sorts it, and its row; where i is not below n, nothing. Keys come from the back on: a file that was written in order
-// is met from its last chunk on, and keys in order need no sorting.
-fn put(rows: &mut [u64], n: usize, i: u32, x: Copy)
-    requires n_in_bounds { room_for n ≤ length rows.old }
-    requires fits { Fits x }
-    ensures { rows.new ≡ put_copy n rows.old i x }
-{
+    let n = rows.len() / 2;
     let at = i as usize;
-    if n <= at {
-        return;
+    if at < n {
+        rows[n - 1 - at] = pack(x.chunk, i);
+        rows[n + at] = x.packed();
     }
-    rows[n - 1 - at] = pack(x.chunk, i);
-    rows[n + at] = x.packed();
 }
 
-// Puts page q, of this data, as copy i of n, if it is met as one. Answers how many copies are met with it.
+// Puts page q, of this data, as copy i, if it is met as one. Answers how many copies are met with it.
+#[tactic(auto, using(crate::proofs::IsMet::met_in_lem, crate::proofs::Meeting::valid_most), unfolding(crate::specs::Copies::put_from))]
 pub(crate) fn meet(
     rows: &mut [u64],
-    n: usize,
     i: u32,
     chunks: u32,
     data: u32,
@@ -86,13 +66,12 @@ pub(crate) fn meet(
     q: PageNumber,
     d: Data,
 ) -> u32
-    requires n_in_bounds { room_for n ≤ length rows.old }
     requires i_lt_page_values { i < page_values }
     requires chunks_lt_chunk_values { chunks < chunk_values }
     requires data_lt_valid_values { «data» < valid_values }
     requires q_lt_page_values { q.0 < page_values }
     ensures value { result ≡ i + length (met_of «data» chunks size cut q.0 (said.Data d)) }
-    ensures rows_after { rows.new ≡ put_from n rows.old i (met_of «data» chunks size cut q.0 (said.Data d)) }
+    ensures rows_after { rows.new ≡ put_from (length rows.old / 2) rows.old i (met_of «data» chunks size cut q.0 (said.Data d)) }
 {
     if !is_met(chunks, data, cut, d) {
         return i;
@@ -102,11 +81,13 @@ pub(crate) fn meet(
         page: q.0,
         valid: valid_in(data, size, cut, d),
     };
-    put(rows, n, i, x);
+    put(rows, i, x);
     i + 1
 }
 
-// Walks down the chain of object o from a link, and puts the first n copies that are met.
+// Walks down the chain of object o from a link, and puts the first copies that are met, as many as there is room for. Along a list (along.rt) there is no
+// link to follow and no damage to meet: the two loops share their steps, and one for both would be no plainer.
+#[tactic(auto, using(crate::proofs::Chunks::data_some))]
 fn walk(
     dump: &[u8],
     g: Geometry,
@@ -115,28 +96,22 @@ fn walk(
     o: ObjectId,
     first: u32,
     size: u64,
-    chunks: u32,
-    n: usize,
     rows: &mut [u64],
 ) -> Walked
-    requires pages_lt_page_values { pages < page_values }
-    requires pages_in_bounds { cells_for pages ≤ length cells.now }
-    requires chunks_lt_chunk_values { chunks < chunk_values }
-    requires data_bound { g.layout.«data» < valid_values }
-    requires n_in_bounds { room_for n ≤ length rows.old }
-    ensures copies_value { result.copies ≡ length (met (record_at g dump.now) g.layout.«data» chunks size true Nowhere (under (record_at g dump.now) pages cells.now o.0 top first)) }
+    requires { opened_of g (length dump.now) ≡ Ok pages }
+    ensures copies_value { result.copies ≡ length (met_ahead (record_at g dump.now) g.layout.«data» size pages cells.now o.0 first) }
     ensures broken_value { result.broken ≡ is_broken (under (record_at g dump.now) pages cells.now o.0 top first) }
     ensures copies_le_pages { result.copies ≤ pages }
-    ensures rows_after { rows.new ≡ put_from n rows.old 0 (met (record_at g dump.now) g.layout.«data» chunks size true Nowhere (under (record_at g dump.now) pages cells.now o.0 top first)) }
+    ensures rows_after { rows.new ≡ put_from (length rows.old / 2) rows.old 0 (met_ahead (record_at g dump.now) g.layout.«data» size pages cells.now o.0 first) }
 {
+    let chunks = chunks_in(g.layout.data, size);
     let mut link = first;
     let mut bound = TOP;
-    let mut cut = Cut::Nowhere;
+    let mut cut = None;
     let mut newest = true;
     let mut copies: u32 = 0;
     loop {
-        let step = follow(dump, g, pages, o, bound, link);
-        match step {
+        match follow(dump, g, pages, o, bound, link) {
             Step::End => {
                 return Walked {
                     copies,
@@ -151,57 +126,47 @@ fn walk(
             }
             Step::Record(q, age, role) => {
                 bound = age;
-                let i = link_at(q);
-                link = cells[i];
-                let Role::Data(d) = role else {
-                    cut = cut_past(dump, g, q, newest, cut);
-                    newest = false;
-                    continue;
-                };
-                copies = meet(rows, n, copies, chunks, g.layout.data, size, cut, q, d);
+                link = link_of(cells, q);
+                match role {
+                    Role::Header => {
+                        cut = cut_past(dump, g, q, newest, cut);
+                        newest = false;
+                    }
+                    Role::Data(d) => {
+                        copies = meet(rows, copies, chunks, g.layout.data, size, cut, q, d);
+                    }
+                }
             }
         }
     }
 }
 
-// Takes the row that a key's number stands for as row m, if the key is not of the same chunk as the last. Answers how many rows are taken with it.
-fn take_first(rows: &mut [u64], n: usize, m: usize, last: u32, key: u64) -> usize
-    requires m_in_bounds { m < length rows.old }
-    requires key_in_bounds { n + value_of key < length rows.old }
-    ensures value { result ≡ m + length (first_of (λ j. get_or rows.old (n + j) 0) last key) }
-    ensures rows_after { rows.new ≡ sets rows.old m (first_of (λ j. get_or rows.old (n + j) 0) last key) }
+// Of keys in the front half of the words and rows in the other, keeps the row of each chunk's first key, ascending, and clears the rest. Answers how many
+// rows are kept. Keys and rows are in one slice, since the rows that are kept go where the keys were, in words that the caller lends.
+pub(crate) fn gather(rows: &mut [u64]) -> usize
+    requires { Every (λ k. value_of k < length rows.old / 2) (take (length rows.old / 2) (keys_sorted rows.old)) }
+    ensures value { result ≡ length (gathered rows.old) }
+    ensures upper_bound { result ≤ length rows.old / 2 }
+    ensures rows_after { rows.new ≡ padded (gathered rows.old) (length rows.old) }
 {
-    if key_of(key) == last {
-        return m;
-    }
-    let i = n + (value_of(key) as usize);
-    rows[m] = rows[i];
-    m + 1
-}
-
-// Of n keys in ascending order and n rows behind them, keeps the row of each chunk's first key, and clears the rest of their room.
-pub(crate) fn gather(rows: &mut [u64], n: usize) -> usize
-    requires n_in_bounds { room_for n ≤ length rows.old }
-    requires every { Every (λ k. value_of k < n) (take n rows.old) }
-    ensures value { result ≡ length (firsts (λ j. get_or rows.old (n + j) 0) 0 (take n rows.old)) }
-    ensures upper_bound { result ≤ n }
-    ensures rows_after { rows.new ≡ in_room (firsts (λ j. get_or rows.old (n + j) 0) 0 (take n rows.old)) (room_for n) rows.old }
-{
-    let mut last: u32 = 0;
-    let mut m: usize = 0;
-    let mut i: usize = 0;
-    while i < n {
+    let n = rows.len() / 2;
+    sort(rows, n);
+    let mut last = 0;
+    let mut m = 0;
+    for i in 0..n {
         let key = rows[i];
-        m = take_first(rows, n, m, last, key);
-        last = key_of(key);
-        i += 1;
+        let chunk = key_of(key);
+        if chunk != last {
+            rows[m] = rows[n + value_of(key) as usize];
+            m += 1;
+        }
+        last = chunk;
     }
-    let room = room_for(n);
-    clear(rows, m, room);
+    rows[m..].fill(0);
     m
 }
 
-// Fills rows with the copies of a file of this size and so many chunks, whose object is o, by its chain from a link, on which n copies are met.
+// Fills words with the copies of a file of this size, whose object is o, by its chain from a link, if there is a key and a row for each copy that is met.
 fn fill(
     dump: &[u8],
     g: Geometry,
@@ -210,35 +175,19 @@ fn fill(
     o: ObjectId,
     first: u32,
     size: u64,
-    chunks: u32,
-    n: usize,
     rows: &mut [u64],
 ) -> u32
-    requires pages_lt_page_values { pages < page_values }
-    requires pages_in_bounds { cells_for pages ≤ length cells.now }
-    requires chunks_lt_chunk_values { chunks < chunk_values }
-    requires data_bound { g.layout.«data» < valid_values }
-    requires n_in_bounds { room_for n ≤ length rows.old }
-    requires n_value { n ≡ length (met (record_at g dump.now) g.layout.«data» chunks size true Nowhere (under (record_at g dump.now) pages cells.now o.0 top first)) }
-    ensures value { result ≡ length (copies_to (all_ahead (record_at g dump.now) g.layout.«data» size pages cells.now o.0 first) chunks) }
-    ensures rows_after { rows.new ≡ in_room (map packed_copy (copies_to (all_ahead (record_at g dump.now) g.layout.«data» size pages cells.now o.0 first) chunks)) (room_for n) rows.old }
+    requires dump_value { opened_of g (length dump.now) ≡ Ok pages }
+    requires rows_length { length rows.old ≡ room_for (length (met_ahead (record_at g dump.now) g.layout.«data» size pages cells.now o.0 first)) }
+    ensures value { result ≡ length (copies_ahead (record_at g dump.now) g.layout.«data» size pages cells.now o.0 first) }
+    ensures rows_after { rows.new ≡ padded (map packed_copy (copies_ahead (record_at g dump.now) g.layout.«data» size pages cells.now o.0 first)) (length rows.old) }
 {
-    walk(dump, g, pages, cells, o, first, size, chunks, n, rows);
-    sort(rows, n);
-    gather(rows, n) as u32
-}
-
-// Whether a chunk has no copy because a link is damaged: the chain ends at such a link, and not every chunk has a copy.
-fn is_damaged(broken: bool, copies: u32, chunks: u32) -> bool
-    ensures { result ≡ broken && ltb copies chunks }
-{
-    if !broken {
-        return false;
-    }
-    copies < chunks
+    walk(dump, g, pages, cells, o, first, size, rows);
+    gather(rows) as u32
 }
 
 // Fills rows with the copies of object o of a dump of so many pages.
+#[tactic(auto, using(crate::proofs::Chunks::data_some, page::proofs::Lengths::opened_pages), unfolding(crate::specs::Copies::copied_from, crate::specs::Copies::copied_by, crate::specs::Copies::rows_from, crate::specs::Copies::rows_by))]
 fn copies_in(
     dump: &[u8],
     g: Geometry,
@@ -247,37 +196,36 @@ fn copies_in(
     o: ObjectId,
     rows: &mut [u64],
 ) -> Copied
-    requires { opened_of g (length dump.now) ≡ opened.Pages pages }
+    requires { opened_of g (length dump.now) ≡ Ok pages }
     ensures value { result ≡ copied_from g dump.now cells.now o.0 (length rows.old) }
     ensures rows_after { rows.new ≡ rows_from g dump.now cells.now o.0 rows.old result }
 {
-    let s = size(dump, g, cells, o);
-    match s {
-        Sized::Refused(r, _) => Copied::Refused(r, 0),
-        Sized::Size(bytes, _) => {
-            let chunks = chunks_in(g.layout.data, bytes);
-            let first = first_link(cells, o, pages);
-            let w = walk(dump, g, pages, cells, o, first, bytes, chunks, 0, rows);
-            let n = w.copies as usize;
-            let room = room_for(n);
-            if rows.len() < room {
-                return Copied::Refused(Refusal::ShortBuffer, room as u32);
-            }
-            let m = fill(dump, g, pages, cells, o, first, bytes, chunks, n, rows);
-            Copied::Rows(bytes, m, is_damaged(w.broken, m, chunks))
-        }
+    let Visited { answer: size, .. } = size(dump, g, cells, o).map_err(|refused| refused.answer)?;
+    let first = first_link(cells, o, pages);
+    // a walk without room only counts
+    let w = walk(dump, g, pages, cells, o, first, size, &mut []);
+    let room = words_of(w.copies as usize);
+    if rows.len() < room {
+        return Err(Short {
+            refusal: Refusal::ShortBuffer,
+            need: room as u32,
+        });
     }
+    let count = fill(dump, g, pages, cells, o, first, size, &mut rows[..room]);
+    Ok(Copies {
+        size,
+        count,
+        damaged: w.broken && count < chunks_in(g.layout.data, size),
+    })
 }
 
 // Fills rows with the copies that object o of a dump shows, by its index, if there is room for all that the object has: ascending by chunk, each
 // with the page and the valid length that the lookup of its chunk answers.
+#[tactic(auto, unfolding(crate::specs::Copies::copied_from, crate::specs::Copies::copied_by, crate::specs::Copies::rows_from, crate::specs::Copies::rows_by))]
 pub fn copies(dump: &[u8], g: Geometry, cells: &[u32], o: ObjectId, rows: &mut [u64]) -> Copied
     ensures value { result ≡ copied_from g dump.now cells.now o.0 (length rows.old) }
     ensures rows_after { rows.new ≡ rows_from g dump.now cells.now o.0 rows.old result }
 {
-    let p = g.opened(dump.len());
-    match p {
-        Opened::Refused(r) => Copied::Refused(r, 0),
-        Opened::Pages(pages) => copies_in(dump, g, pages, cells, o, rows),
-    }
+    let pages = g.opened(dump.len())?;
+    copies_in(dump, g, pages, cells, o, rows)
 }

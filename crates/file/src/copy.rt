@@ -16,16 +16,16 @@ pub struct Copy {
 const VALID_VALUES: u64 = 0x8000;
 
 impl Copy {
-    // The number of a copy.
+    // The number of a copy. No From: only a copy that fits is packed.
     pub(crate) fn packed(self) -> u64
         requires { Fits self }
         ensures { result ≡ packed_copy self }
     {
-        ((self.chunk as u64) * PAGE_VALUES + (self.page as u64)) * VALID_VALUES
-            + (self.valid as u64)
+        (u64::from(self.chunk) * PAGE_VALUES + u64::from(self.page)) * VALID_VALUES
+            + u64::from(self.valid)
     }
 
-    // The copy of a number.
+    // The copy of a number; named as its way back.
     pub fn of(row: u64) -> Copy
         ensures { result ≡ copy_of row }
     {

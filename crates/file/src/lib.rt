@@ -2,6 +2,7 @@
 #![tactic(auto)]
 
 pub mod along;
+pub mod answer;
 pub mod copies;
 pub mod copy;
 mod shows;

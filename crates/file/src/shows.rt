@@ -4,7 +4,7 @@ ghost use Rattle.page.specs.declared.record.Record.TheVariants as said;
 ghost use Rattle.chunk.specs.Lookups.{shown_of, valid_of};
 ghost use Rattle.file.specs.Shows.{is_met};
 
-use chunk::cut::Cut;
+use chunk::cut::{Cut, hides};
 use chunk::lookup::{shown_of, valid_of};
 use chunk::record::base_of;
 use page::record::Data;
@@ -13,14 +13,7 @@ use page::record::Data;
 pub(crate) fn is_met(chunks: u32, data: u32, cut: Cut, d: Data) -> bool
     ensures { result ≡ is_met «data» chunks cut d.chunk.0 }
 {
-    if d.chunk.0 == 0 {
-        return false;
-    }
-    if chunks < d.chunk.0 {
-        return false;
-    }
-    let base = base_of(data, d.chunk);
-    !cut.hides(base)
+    0 < d.chunk.0 && d.chunk.0 <= chunks && !hides(cut, base_of(data, d.chunk))
 }
 
 // How many bytes of this data are valid in a file of this size, under the lowest cut of newer headers.

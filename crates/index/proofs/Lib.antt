@@ -1,4 +1,5 @@
 -- Laws by subject, from the table of objects up to demand 3; docs/ARCHITECTURE.md has the way.
+pub mod Mapped
 pub mod Slot
 pub mod Sorted
 pub mod Chain

@@ -2,7 +2,7 @@
 --
 -- Start an index for one unchanged dump and layout with any seed, whatever the lent words held. Then, for every list of additions, lookups by object and
 -- listings on it, in any order and refused calls included, each with its own K and its own length of slice, the fields below hold after the list.
-use Rattle.std.specs.Prelude.{ℕ, ◌<◌, ◌≤◌, Bool, true, List, ◌++◌, ◌⊎◌, ◌≡◌, length, take, drop}
+use Rattle.std.specs.Prelude.{ℕ, ◌<◌, ◌≤◌, Bool, true, List, ◌++◌, ◌⊎◌, ◌≡◌, length, take, drop, Ok}
 use Rattle.page.specs.Records.{record_at}
 use Rattle.page.specs.Lengths.{page_count}
 use Rattle.page.specs.declared.geometry.Geometry.{Geometry}
@@ -15,7 +15,6 @@ use Rattle.index.specs.Chains.{objects, Trace, clean, broken, rec, chain, top}
 use Rattle.index.specs.Held.{none_added}
 use Rattle.index.specs.Walks.{seen_says, size_visits, chunk_visits}
 use Rattle.index.specs.Requests.{Request, Given, size_seen, chunk_seen, answers_on, words_of, answers_by, added_of}
-use Rattle.index.specs.declared.additions.Added.TheVariants.{Done}
 
 -- page p is one of the records of a chain
 abbrev pub OnChain : (page : ℕ) → Trace → Type 0
@@ -69,6 +68,6 @@ module _ (g : Geometry) (dump c : List ℕ) (rs : List Request) where
 abbrev pub Demand : Type 0
 Demand =
     (g : Geometry) (dump : List ℕ) (w seed : ℕ) (c : List ℕ) →
-    (start_of g dump (take w c) seed).answer ≡ Done →
+    (start_of g dump (take w c) seed).answer ≡ (Ok tt) →
     (rs : List Request) →
     Demand3 g dump (started g dump w seed c) rs

@@ -1,3 +1,5 @@
+pub mod Run
+pub mod Reached
 pub mod Cells
 pub mod Slots
 pub mod Chains

@@ -1,7 +1,8 @@
 -- Listing the live objects and counting all objects by the index, on any cells (document 01, "Index" and the refusal table's last sentences).
 -- The table of objects is gone over slot by slot, and of each object the links are met that a size lookup of it meets: those down to its newest
 -- header.
-use Rattle.std.specs.Prelude.{ℕ, Bool, true, false, ◌&&◌, List, [], length, eqb, ltb}
+use Rattle.std.specs.Prelude.{ℕ, Bool, true, false, ◌&&◌, List, [], length, eqb, ltb, Result, Ok, Err}
+use Rattle.page.specs.declared.refusal.Refusal.{Refusal}
 use Rattle.page.specs.Choice.{pick}
 use Rattle.page.specs.Search.{count}
 use Rattle.page.specs.Records.{is_header, record_at}
@@ -13,10 +14,8 @@ use Rattle.chunk.specs.Records.{is_gone}
 use Rattle.chunk.specs.Answers.{on_pages}
 use Rattle.chunk.specs.Live.{ids_of}
 use Rattle.chunk.specs.Lists.{listed_by}
-use Rattle.chunk.specs.declared.answer.Listed.{Listed}
-use Rattle.chunk.specs.declared.answer.Listed.TheVariants as listed
-use Rattle.chunk.specs.declared.answer.Tallied.{Tallied}
-use Rattle.chunk.specs.declared.answer.Tallied.TheVariants as tallied
+use Rattle.chunk.specs.Listed.{Listed}
+use Rattle.chunk.specs.Listed as listed
 use Rattle.index.specs.Cells.{cells_for, slots_for, keys}
 use Rattle.index.specs.Slots.{slot_of, used}
 use Rattle.index.specs.Chains.{Trace, clean, broken, rec}
@@ -81,8 +80,8 @@ module _ (ask : Ask) (says : ℕ → Record) (P : ℕ) (cells : List ℕ) (n : �
   slot_ids = ids_of asked_slot (keys cells) (slots_for n)
 
   -- how many they are, if no damaged link is met
-  unfoldable pub tally_in : Tallied
-  tally_in = pick (ltb 0 (count damaged_slot (slots_for n))) (tallied.Refused IndexDamaged) (tallied.Count (count asked_slot (slots_for n)))
+  unfoldable pub tally_in : Result ℕ Refusal
+  tally_in = pick (ltb 0 (count damaged_slot (slots_for n))) (Err IndexDamaged) (Ok (count asked_slot (slots_for n)))
 
 -- the calls on the cells of n pages
 module _ (says : ℕ → Record) (P : ℕ) (cells : List ℕ) (n : ℕ) where
@@ -94,8 +93,8 @@ module _ (says : ℕ → Record) (P : ℕ) (cells : List ℕ) (n : ℕ) where
       (listed_by room (slot_ids Live says P cells n)))
 
   -- counting all objects
-  unfoldable pub objects_in : Tallied
-  objects_in = pick (ltb (length cells) (cells_for n)) (tallied.Refused ShortIndex) (tally_in Any says P cells n)
+  unfoldable pub objects_in : Result ℕ Refusal
+  objects_in = pick (ltb (length cells) (cells_for n)) (Err ShortIndex) (tally_in Any says P cells n)
 
 -- the calls on a dump, by any cells
 module _ (g : Geometry) (dump cells : List ℕ) where
@@ -106,5 +105,5 @@ module _ (g : Geometry) (dump cells : List ℕ) where
   unfoldable pub list_from : ℕ → Listed
   list_from room = on_pages (λ r. listed.Refused r 0) (λ n. list_in (record_at g dump) g.layout.«data» cells n room) (opened_of g (length dump))
 
-  unfoldable pub objects_from : Tallied
-  objects_from = on_pages (λ r. tallied.Refused r) (λ n. objects_in (record_at g dump) g.layout.«data» cells n) (opened_of g (length dump))
+  unfoldable pub objects_from : Result ℕ Refusal
+  objects_from = on_pages (λ r. Err r) (λ n. objects_in (record_at g dump) g.layout.«data» cells n) (opened_of g (length dump))

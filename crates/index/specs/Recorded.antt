@@ -1,5 +1,6 @@
 -- The records of an object by the index, on any cells: the pages of its chain, from the newest on.
-use Rattle.std.specs.Prelude.{ℕ, Bool, true, false, List, [], ◌∷◌, length, eqb, ltb}
+use Rattle.std.specs.Prelude.{ℕ, Bool, true, false, List, [], ◌∷◌, length, eqb, ltb, Result, Ok, Err}
+use Rattle.page.specs.declared.refusal.Refusal.{Refusal}
 use Rattle.page.specs.Choice.{pick}
 use Rattle.page.specs.Records.{record_at}
 use Rattle.page.specs.Lengths.{opened_of}
@@ -9,10 +10,8 @@ use Rattle.page.specs.declared.geometry.Geometry.{Geometry}
 use Rattle.page.specs.declared.refusal.Refusal.TheVariants.{BadObject, NoObject, ShortIndex, IndexDamaged}
 use Rattle.chunk.specs.Answers.{on_pages}
 use Rattle.chunk.specs.Lists.{listed_by}
-use Rattle.chunk.specs.declared.answer.Listed.{Listed}
-use Rattle.chunk.specs.declared.answer.Listed.TheVariants as listed
-use Rattle.chunk.specs.declared.answer.Tallied.{Tallied}
-use Rattle.chunk.specs.declared.answer.Tallied.TheVariants as tallied
+use Rattle.chunk.specs.Listed.{Listed}
+use Rattle.chunk.specs.Listed as listed
 use Rattle.index.specs.Cells.{cells_for}
 use Rattle.index.specs.Chains.{Trace, clean, broken, rec}
 use Rattle.index.specs.Walks.{records_in, chain_of}
@@ -30,13 +29,13 @@ is_broken broken = true
 is_broken (rec q t) = is_broken t
 
 -- how many records a chain has, if it has no damaged link
-unfoldable pub tally_of : Trace → Tallied
-tally_of t = pick (is_broken t) (tallied.Refused IndexDamaged) (tallied.Count (records_in t))
+unfoldable pub tally_of : Trace → Result ℕ Refusal
+tally_of t = pick (is_broken t) (Err IndexDamaged) (Ok (records_in t))
 
 -- the pages of a chain in so many words, if there is one, by that tally
-unfoldable pub records_by : (room : ℕ) (pages : List ℕ) → Tallied → Listed
-records_by room L (tallied.Refused r) = listed.Refused r 0
-records_by room L (tallied.Count m) = pick (eqb m 0) (listed.Refused NoObject 0) (listed_by room L)
+unfoldable pub records_by : (room : ℕ) (pages : List ℕ) → Result ℕ Refusal → Listed
+records_by room L (Err r) = listed.Refused r 0
+records_by room L (Ok m) = pick (eqb m 0) (listed.Refused NoObject 0) (listed_by room L)
 
 -- the records of object o on the cells of n pages
 module _ (says : ℕ → Record) (P : ℕ) (cells : List ℕ) (o n : ℕ) where

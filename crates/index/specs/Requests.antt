@@ -1,7 +1,7 @@
 -- A list of requests on one memory of words, for one unchanged dump and layout (document 01, "Demand 3 exactly"): what our calls answer and
 -- leave, and beside it what the paper says. Each request has its own K, so that it reads the dump by the list's layout in blocks of its own, and
 -- its own length of slice; the words past the slice stay as they are.
-use Rattle.std.specs.Prelude.{ℕ, min, Bool, List, [], ◌∷◌, ◌++◌, ◌⊎◌, ◌≡◌, length, take, drop, ltb, leb}
+use Rattle.std.specs.Prelude.{ℕ, min, Bool, List, [], ◌∷◌, ◌++◌, ◌⊎◌, ◌≡◌, length, take, drop, ltb, leb, Result, Ok, Err}
 use Rattle.page.specs.Choice.{pick}
 use Rattle.page.specs.Lengths.{in_blocks, opened_of}
 use Rattle.page.specs.Records.{record_at}
@@ -12,19 +12,17 @@ use Rattle.chunk.specs.Answers.{on_pages, read_by, buffer_by, part_by}
 use Rattle.chunk.specs.Lookups.{sized_of, looked_of}
 use Rattle.chunk.specs.Live.{live_ids}
 use Rattle.chunk.specs.Lists.{listed_by, words_by}
-use Rattle.chunk.specs.declared.answer.Listed.{Listed}
-use Rattle.chunk.specs.declared.answer.Listed.TheVariants as listed
-use Rattle.chunk.specs.declared.answer.Sized.{Sized}
-use Rattle.chunk.specs.declared.answer.Sized.TheVariants as sized
-use Rattle.chunk.specs.declared.answer.Looked.{Looked}
-use Rattle.chunk.specs.declared.answer.Looked.TheVariants as looked
+use Rattle.chunk.specs.Listed.{Listed}
+use Rattle.chunk.specs.Listed as listed
+use Rattle.chunk.specs.Sized.{Sized}
+use Rattle.chunk.specs.Sized as sized
+use Rattle.chunk.specs.Looked.{Looked}
+use Rattle.chunk.specs.Looked as looked
 use Rattle.index.specs.Cells.{cells_for}
 use Rattle.index.specs.Additions.{start_of, add_of}
 use Rattle.index.specs.Held.{none_added, with}
 use Rattle.index.specs.Walks.{seen_says, size_from, chunk_from}
 use Rattle.index.specs.Listing.{ids_from, list_from}
-use Rattle.index.specs.declared.additions.Added.{Added}
-use Rattle.index.specs.declared.additions.Added.TheVariants.{Done, Refused}
 
 -- a request: its K, how many words it is lent, and what it asks
 pub data Request : Type 0 where
@@ -38,7 +36,7 @@ pub data Request : Type 0 where
 
 -- an answer; a read's and a listing's have the buffer afterwards, a borrowed part's its bytes
 pub data Answer : Type 0 where
-  addition : Added → Answer
+  addition : Result Unit Refusal → Answer
   a_size : Sized → Answer
   a_chunk : Looked → Answer
   a_read : Looked → (buffer : List ℕ) → Answer
@@ -47,19 +45,19 @@ pub data Answer : Type 0 where
 
 -- that an answer is this refusal; a borrowed part's bytes carry none
 abbrev pub Refuses : Refusal → Answer → Type 0
-Refuses r (addition Done) = ⊥
-Refuses r (addition (Refused s)) = s ≡ r
-Refuses r (a_size (sized.Size n v)) = ⊥
-Refuses r (a_size (sized.Refused s v)) = s ≡ r
+Refuses r (addition (Ok tt)) = ⊥
+Refuses r (addition (Err s)) = s ≡ r
+Refuses r (a_size (Ok x)) = ⊥
+Refuses r (a_size (Err e)) = e.answer ≡ r
 Refuses r (a_chunk (looked.Copy p a n v)) = ⊥
 Refuses r (a_chunk (looked.Hole n v)) = ⊥
-Refuses r (a_chunk (looked.Refused s v m)) = s ≡ r
+Refuses r (a_chunk (Err e)) = e.answer.refusal ≡ r
 Refuses r (a_read (looked.Copy p a n v) buffer) = ⊥
 Refuses r (a_read (looked.Hole n v) buffer) = ⊥
-Refuses r (a_read (looked.Refused s v m) buffer) = s ≡ r
+Refuses r (a_read (Err e) buffer) = e.answer.refusal ≡ r
 Refuses r (a_part bytes) = ⊥
 Refuses r (a_list (listed.Ids m) words) = ⊥
-Refuses r (a_list (listed.Refused s m) words) = s ≡ r
+Refuses r (a_list (Err e) words) = e.refusal ≡ r
 
 -- that one of these answers is this refusal
 abbrev pub Given : Refusal → List Answer → Type 0
@@ -116,8 +114,8 @@ module _ (g : Geometry) (dump : List ℕ) where
         on_pages refuse (λ n. pick (ltb (min w room) (cells_for n)) (refuse ShortIndex) (answer n)) (opened_of (in_blocks g k) (length dump))
 
     -- an addition of page p of n: BadPage, AlreadyAdded where it has been added, else done
-    abbrev pub added_by : (done : ℕ → Bool) (page pages : ℕ) → Added
-    added_by done p n = pick (leb n p) (Refused BadPage) (pick (done p) (Refused AlreadyAdded) Done)
+    abbrev pub added_by : (done : ℕ → Bool) (page pages : ℕ) → Result Unit Refusal
+    added_by done p n = pick (leb n p) (Err BadPage) (pick (done p) (Err AlreadyAdded) (Ok tt))
 
     -- demand 2's lookups, pages not yet added read as blank
     abbrev pub size_seen : (done : ℕ → Bool) (object pages : ℕ) → Sized
@@ -134,8 +132,8 @@ module _ (g : Geometry) (dump : List ℕ) where
     live_seen done n = live_ids (seen_says (record_at g dump) done) n
 
     unfoldable pub answer_by : (done : ℕ → Bool) → Request → Answer
-    answer_by done (start k w seed) = addition (unless_refused Refused (λ n. Done) k w)
-    answer_by done (add k w p) = addition (unless_refused Refused (added_by done p) k w)
+    answer_by done (start k w seed) = addition (unless_refused Err (λ n. (Ok tt)) k w)
+    answer_by done (add k w p) = addition (unless_refused Err (added_by done p) k w)
     answer_by done (size k w o) = a_size (unless_refused (λ r. sized.Refused r 0) (size_seen done o) k w)
     answer_by done (chunk k w o c) = a_chunk (looked_by done k w o c)
     answer_by done (read k w o c buffer) = read_answer k buffer (looked_by done k w o c)

@@ -1,24 +1,18 @@
 -- The table of objects, searched by open addressing. An object's slot has its id as key and the link to its newest record.
-use Rattle.std.specs.Prelude.{ℕ, zero, suc, ◌+◌, ◌*◌, ◌/◌, ◌%◌, Bool, not, ◌||◌, List, length, eqb, ltb}
+use Rattle.std.specs.Prelude.{ℕ, zero, suc, ◌+◌, ◌*◌, ◌/◌, ◌%◌, Bool, not, ◌||◌, List, length, eqb, ltb, Option, Some, None}
+use Rattle.std.specs.Option.{unwrap_or}
 use Rattle.page.specs.Choice.{pick}
 use Rattle.sort.specs.Packed.{word_values}
 use Rattle.index.specs.Cells.{cells_for, slots_for, word, keys, first_at, seed_of}
-use Rattle.index.specs.declared.slots.Found.{Found}
-use Rattle.index.specs.declared.slots.Found.TheVariants.{Slot, Nothing}
 
 -- whether a slot with key k may be the slot of object o: it is free, or the object's
 abbrev pub serves : (object key : ℕ) → Bool
 serves o k = eqb k 0 || eqb k o
 
 -- the first slot that serves object o, from slot m - 1 down to slot 0
-unfoldable pub down : (key : ℕ → ℕ) (object slots : ℕ) → Found
-down key o zero = Nothing
-down key o (suc s) = pick (serves o (key s)) (Slot s) (down key o s)
-
--- the slot that was found, or else another
-abbrev pub found_or : Found → ℕ → ℕ
-found_or Nothing s = s
-found_or (Slot j) s = j
+unfoldable pub down : (key : ℕ → ℕ) (object slots : ℕ) → Option ℕ
+down key o zero = None
+down key o (suc s) = pick (serves o (key s)) (Some s) (down key o s)
 
 -- what lies below the middle of a product of an id and a seed, and below that of a square
 abbrev pub below_product : ℕ
@@ -38,7 +32,7 @@ home_of m w o = mixed w o % m
 
 -- the slot of object o among m: from its home down, then from the last one down, the first that serves; its home where none does
 unfoldable pub slot : (slots home : ℕ) (key : ℕ → ℕ) (object : ℕ) → ℕ
-slot m h key o = found_or (down key o (h + 1)) (found_or (down key o m) h)
+slot m h key o = unwrap_or (down key o (h + 1)) (unwrap_or (down key o m) h)
 
 -- the slot of object o on the cells of n pages
 unfoldable pub slot_of : (pages : ℕ) (cells : List ℕ) (object : ℕ) → ℕ

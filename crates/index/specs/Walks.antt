@@ -1,6 +1,7 @@
 -- Lookups down the chain of an object, on any chain (document 01, "Index" for the visits, and the refusal table). A lookup visits records from
 -- the newest on, and meets the links that lead to them; v counts the records visited.
-use Rattle.std.specs.Prelude.{ℕ, suc, ◌+◌, max, Bool, true, false, not, ◌&&◌, List, length, eqb, ltb, leb}
+use Rattle.std.specs.Prelude.{ℕ, suc, ◌+◌, max, Bool, true, false, not, ◌&&◌, List, length, eqb, ltb, leb, Option, Some, None, Ok, Err}
+use Rattle.page.specs.declared.number.PageNumber.{PageNumber}
 use Rattle.page.specs.Choice.{pick}
 use Rattle.page.specs.Records.{is_header, record_of, record_at}
 use Rattle.page.specs.Lengths.{opened_of}
@@ -14,20 +15,15 @@ use Rattle.chunk.specs.Cuts.{cut_of, lower, hides}
 use Rattle.chunk.specs.Sizes.{end_of}
 use Rattle.chunk.specs.Lookups.{file_at, shown_of, valid_of}
 use Rattle.chunk.specs.Answers.{on_pages}
-use Rattle.chunk.specs.declared.cut.Cut.{Cut}
-use Rattle.chunk.specs.declared.cut.Cut.TheVariants.{Nowhere}
-use Rattle.chunk.specs.declared.answer.File.{File}
-use Rattle.chunk.specs.declared.answer.File.TheVariants as file
-use Rattle.chunk.specs.declared.answer.Sized.{Sized}
-use Rattle.chunk.specs.declared.answer.Sized.TheVariants as sized
-use Rattle.chunk.specs.declared.answer.Looked.{Looked}
-use Rattle.chunk.specs.declared.answer.Looked.TheVariants as looked
+use Rattle.chunk.specs.File.{File}
+use Rattle.chunk.specs.Sized.{Sized}
+use Rattle.chunk.specs.Sized as sized
+use Rattle.chunk.specs.Looked.{Looked}
+use Rattle.chunk.specs.Looked as looked
 use Rattle.index.specs.Cells.{cells_for, word, link_at}
 use Rattle.index.specs.Chains.{objects, Trace, clean, broken, rec, trace, chain}
-use Rattle.index.specs.declared.walks.Met.{Met}
-use Rattle.index.specs.declared.walks.Met.TheVariants.{Copy, Nothing}
-use Rattle.index.specs.declared.walks.Reached.{Reached}
-use Rattle.index.specs.declared.walks.Reached.TheVariants as reached
+use Rattle.index.specs.Reached.{Reached}
+use Rattle.index.specs.Reached as reached
 
 -- what the pages say, with those not yet added read as blank
 abbrev pub seen_says : (ℕ → Record) → (ℕ → Bool) → ℕ → Record
@@ -41,27 +37,27 @@ records_in (rec q t) = suc (records_in t)
 
 -- the records that a lookup reports visiting
 abbrev pub size_visits : Sized → ℕ
-size_visits (sized.Size z v) = v
-size_visits (sized.Refused r v) = v
+size_visits (Ok x) = x.visits
+size_visits (Err e) = e.visits
 
 abbrev pub chunk_visits : Looked → ℕ
 chunk_visits (looked.Copy p a s v) = v
 chunk_visits (looked.Hole s v) = v
-chunk_visits (looked.Refused r v n) = v
+chunk_visits (Err e) = e.visits
 
 -- a chain that ends before a header was met: no record at all, or data records only
 abbrev pub headless : ℕ → Reached
 headless v = pick (eqb v 0) (reached.Refused NoObject 0) (reached.Refused NoHeader v)
 
 -- the first copy met of a chunk, with page q too, which is one or not
-abbrev pub met_by : (isOne : Bool) (page : ℕ) → Met → Met
-met_by isOne q (Copy p) = Copy p
-met_by isOne q Nothing = pick isOne (Copy (record { 0 = q })) Nothing
+abbrev pub met_by : (isOne : Bool) (page : ℕ) → Option PageNumber → Option PageNumber
+met_by isOne q (Some p) = Some p
+met_by isOne q None = pick isOne (Some (record { 0 = q })) None
 
 -- the size of a live file
 abbrev pub size_file : (size : ℕ) → File → Sized
-size_file size (file.Refused r v) = sized.Refused r v
-size_file size (file.Header h v) = sized.Size size v
+size_file size (Err e) = Err e
+size_file size (Ok x) = sized.Size size x.visits
 
 module _ (says : ℕ → Record) where
   -- what is left of a chain behind its newest header
@@ -76,20 +72,20 @@ module _ (says : ℕ → Record) where
 
   -- the size by what was reached
   unfoldable pub size_reached : Reached → Sized
-  size_reached (reached.Refused r v) = sized.Refused r v
-  size_reached (reached.Header h end m v) = size_file (size_at h.0 end) (file_at (says h.0) h.0 v)
+  size_reached (Err e) = Err e
+  size_reached (Ok x) = size_file (size_at x.page.0 x.end) (file_at (says x.page.0) x.page.0 x.visits)
 
   -- the lowest cut, with page q too, which is the newest header or not
-  abbrev pub cut_by : (isNewest : Bool) (page : ℕ) → Cut → Cut
+  abbrev pub cut_by : (isNewest : Bool) (page : ℕ) → Option ℕ → Option ℕ
   cut_by isNewest q cut = pick (is_header (says q)) (lower (cut_of isNewest (says q)) cut) cut
 
   module _ (P c : ℕ) where
     -- the first copy met of chunk c, with page q too
-    abbrev pub met_with : (page : ℕ) → Met → Met
+    abbrev pub met_with : (page : ℕ) → Option PageNumber → Option PageNumber
     met_with q m = met_by (is_copy c (says q)) q m
 
     -- down to the newest header, with the largest end of data and the first copy met so far
-    unfoldable pub reach : (end : ℕ) → Met → (visits : ℕ) → Trace → Reached
+    unfoldable pub reach : (end : ℕ) → Option PageNumber → (visits : ℕ) → Trace → Reached
     reach end m v clean = headless v
     reach end m v broken = reached.Refused IndexDamaged 0
     reach end m v (rec q t) =
@@ -97,43 +93,43 @@ module _ (says : ℕ → Record) where
         (reach (max (end_of P (says q)) end) (met_with q m) (v + 1) t)
 
     -- page q is the copy of chunk c, where `cut` is the lowest cut of newer headers
-    abbrev pub found : (shown : ℕ) → Cut → (page visits : ℕ) → Looked
+    abbrev pub found : (shown : ℕ) → Option ℕ → (page visits : ℕ) → Looked
     found shown cut q v = looked.Copy (record { 0 = q }) (valid_of P c (says q) shown cut) shown v
 
     -- whether page q is a copy of chunk c that the lowest cut of newer headers does not hide
-    abbrev pub is_shown : Cut → (page : ℕ) → Bool
+    abbrev pub is_shown : (Option ℕ) → (page : ℕ) → Bool
     is_shown cut q = is_copy c (says q) && not (hides cut (base_of P c))
 
     -- below the newest header, down to the first copy that is not hidden. What hides a copy hides all older ones too, so that behind a hidden
     -- copy there is none to be found; for a hole every record is visited
-    unfoldable pub seek : (shown : ℕ) → Cut → (visits : ℕ) → Trace → Looked
+    unfoldable pub seek : (shown : ℕ) → Option ℕ → (visits : ℕ) → Trace → Looked
     seek shown cut v clean = looked.Hole shown v
     seek shown cut v broken = looked.Refused IndexDamaged 0 0
     seek shown cut v (rec q t) = pick (is_shown cut q) (found shown cut q (v + 1)) (seek shown (cut_by false q cut) (v + 1) t)
 
     -- the copy that was met above the newest header h, where nothing cuts, or else the copy below it
-    unfoldable pub copy_from : (header shown visits : ℕ) → Trace → Met → Looked
-    copy_from h shown v t (Copy q) = found shown Nowhere q.0 v
-    copy_from h shown v t Nothing = seek shown (cut_by true h Nowhere) v t
+    unfoldable pub copy_from : (header shown visits : ℕ) → Trace → Option PageNumber → Looked
+    copy_from h shown v t (Some q) = found shown None q.0 v
+    copy_from h shown v t None = seek shown (cut_by true h None) v t
 
     -- chunk c of a live file of a size, which ends before it or not
-    unfoldable pub chunk_file : (size : ℕ) → Met → Trace → File → Looked
-    chunk_file size m t (file.Refused r v) = looked.Refused r v 0
-    chunk_file size m t (file.Header h v) =
-        pick (leb size (base_of P c)) (looked.Refused PastEnd v 0) (copy_from h.0 (shown_of P c size) v t m)
+    unfoldable pub chunk_file : (size : ℕ) → Option PageNumber → Trace → File → Looked
+    chunk_file size m t (Err e) = looked.Refused e.answer e.visits 0
+    chunk_file size m t (Ok x) =
+        pick (leb size (base_of P c)) (looked.Refused PastEnd x.visits 0) (copy_from x.answer.0 (shown_of P c size) x.visits t m)
 
     -- chunk c by what was reached, and the chain behind that
     unfoldable pub chunk_reached : Trace → Reached → Looked
-    chunk_reached t (reached.Refused r v) = looked.Refused r v 0
-    chunk_reached t (reached.Header h end m v) = chunk_file (size_at h.0 end) m t (file_at (says h.0) h.0 v)
+    chunk_reached t (Err e) = looked.Refused e.answer e.visits 0
+    chunk_reached t (Ok x) = chunk_file (size_at x.page.0 x.end) x.met t (file_at (says x.page.0) x.page.0 x.visits)
 
     -- a chunk lookup
     unfoldable pub chunk_walk : Trace → Looked
-    chunk_walk t = chunk_reached (behind t) (reach 0 Nothing 0 t)
+    chunk_walk t = chunk_reached (behind t) (reach 0 None 0 t)
 
   -- a size lookup, which asks for no chunk: none has the number 0
   unfoldable pub size_walk : ℕ → Trace → Sized
-  size_walk P t = size_reached (reach P 0 0 Nothing 0 t)
+  size_walk P t = size_reached (reach P 0 0 None 0 t)
 
 -- the chain of object o from the link w and below the age b, and from below page h, on the cells of n pages
 module _ (says : ℕ → Record) (n : ℕ) (cells : List ℕ) (o : ℕ) where

@@ -1,9 +1,9 @@
 // Where the words of the index stand: those of the whole index, then four for each page, its link and three of the table of objects.
 // The link of a page is 0 where the page has not been added, 1 where its object has no older record, and q + 2 where that is page q.
+// The words are lent by the caller, who knows how many they are (include/): so links and keys are words, and 0 stands for none.
 ghost use Rattle.std.specs.Prelude.{◌≡◌, ◌++◌, ◌<◌, ◌^◌, min, length, set, replicate, drop};
 ghost use Rattle.index.specs.Cells.{cells_for, slots_for, word, link_at, table_at, key_at, first_at, seed_at, seed_of, marked};
 
-use chunk::record::lesser;
 use page::number::PageNumber;
 
 // The words for the whole index.
@@ -31,25 +31,18 @@ pub fn link_at(p: PageNumber) -> usize
     SHARED + PER_PAGE * (p.0 as usize)
 }
 
-// The link of page p; one that leads nowhere where there are not so many words.
+// The link of page p; 0, which leads nowhere, where there are not so many words: a link is a word as it is stored.
 pub fn link_of(cells: &[u32], p: PageNumber) -> u32
     ensures { result ≡ word cells.now (link_at p.0) }
 {
-    let i = link_at(p);
-    if cells.len() <= i {
-        return 0;
-    }
-    cells[i]
+    cells.get(link_at(p)).copied().unwrap_or(0)
 }
 
-// The seed; 0 where there are no words.
+// The seed; 0, a seed too, where there are no words.
 pub(crate) fn seed_of(cells: &[u32]) -> u32
     ensures { result ≡ seed_of cells.now }
 {
-    if cells.len() <= SEED {
-        return 0;
-    }
-    cells[SEED]
+    cells.get(SEED).copied().unwrap_or(0)
 }
 
 // Stores the seed.
@@ -68,6 +61,7 @@ pub(crate) fn slots_for(pages: u32) -> usize
 }
 
 // Where a word of the table of objects stands.
+#[tactic(auto, unfolding(crate::specs::Cells::table_at))]
 fn table_at(u: usize) -> usize
     requires { u < 2 ^ 35 }
     ensures value { result ≡ table_at u }
@@ -98,20 +92,13 @@ pub(crate) fn first_at(s: usize) -> usize
 pub(crate) fn marked_link(link: u32) -> u32
     ensures { result ≡ marked link }
 {
-    if link < LINKS {
-        return LAST;
-    }
-    link
+    link.max(LAST)
 }
 
-// Makes the first words 0: so many, or all where they are fewer.
+// Makes the first words 0: so many, or all where they are fewer. The end is no length of the words: those behind it are kept.
 pub fn clear(words: &mut [u32], end: usize)
     ensures { words.new ≡ replicate (min end (length words.old)) 0 ++ drop (min end (length words.old)) words.old }
 {
-    let stop = lesser(end, words.len());
-    let mut i: usize = 0;
-    while i < stop {
-        words[i] = 0;
-        i += 1;
-    }
+    let stop = end.min(words.len());
+    words[..stop].fill(0);
 }

@@ -13,14 +13,16 @@ use page::record::{Data, Record, record_at};
 // An age that is above that of every record.
 pub const TOP: u64 = 18_446_744_073_709_551_615;
 
-// What a record is on its chain. What a header says is not read here: it stands elsewhere on the page.
+// What a record is on its chain. What a header says is not read here: it stands elsewhere on the page. No Option of Data: the name says that
+// what has no data is a header.
 #[derive(Clone, Copy)]
 pub enum Role {
     Header,
     Data(Data),
 }
 
-// A step down a chain by a link: it leads nowhere, where it may not, or to a record, with its age and what it is.
+// A step down a chain by a link: it leads nowhere, where it may not, or to a record, with its age and what it is. A `match` on three cases is
+// plainer than on an Option in a Result.
 #[derive(Clone, Copy)]
 pub enum Step {
     End,
@@ -39,18 +41,18 @@ fn step_to(
 ) -> Step
     ensures { result ≡ step_at q.0 object.0 sequence role o.0 bound }
 {
-    if object.0 != o.0 {
-        return Step::Damaged;
-    }
     let age = order_of(sequence, q);
-    if bound <= age {
+    if object != o || bound <= age {
         return Step::Damaged;
     }
     Step::Record(q, age, role)
 }
 
+// The walks down a chain are loops over `follow`, each with what it gathers of its own: one walk for all took longer (docs/DECISIONS.md, 8.10).
+
 // Where a link leads in the chain of object o below an age, in a dump of so many pages. A link may not lead outside the dump, to a page that
 // is not a record of that object, or to one that is not older.
+#[tactic(auto, unfolding(crate::specs::Chains::step_of, crate::specs::Chains::lead_of))]
 pub fn follow(dump: &[u8], g: Geometry, pages: u32, o: ObjectId, bound: u64, link: u32) -> Step
     ensures { result ≡ step_of (record_at g dump.now) (lead_of pages (objects (record_at g dump.now)) (age_of (record_at g dump.now)) o.0 bound link) }
 {
@@ -62,6 +64,7 @@ pub fn follow(dump: &[u8], g: Geometry, pages: u32, o: ObjectId, bound: u64, lin
         return Step::Damaged;
     }
     let r = record_at(dump, g, q);
+    // taken apart by let .. else, as document 01 names the form
     let Record::Data(d) = r else {
         let Record::Header(h) = r else {
             return Step::Damaged;

@@ -11,23 +11,23 @@ ghost use Rattle.index.specs.Listing.{is_any, headed_standing, headless_standing
 use crate::cells::{cells_for, key_at, link_of, slots_for};
 use crate::chains::{Role, Step, TOP, follow};
 use crate::slots::{first_of, slot_of};
-use chunk::answer::{Listed, Tallied};
+use chunk::answer::Listed;
 use chunk::list::put_id;
 use chunk::record::is_gone;
-use page::geometry::{Geometry, Opened};
+use page::geometry::Geometry;
 use page::number::{ObjectId, PageNumber};
 use page::record::record_at;
-use page::refusal::Refusal;
+use page::refusal::{Refusal, Short};
 use sort::words::sort;
 
-// Which objects are asked for: the live ones, or any that has a record.
+// Which objects are asked for: the live ones, or any that has a record. Contracts name it, and two tests would be no plainer as a closure.
 #[derive(Clone, Copy)]
 pub enum Ask {
     Live,
     Any,
 }
 
-// How an object stands: it is asked for, a damaged link was met, or neither.
+// How an object stands: it is asked for, a damaged link was met, or neither; three cases by name are plainer than a Result of a bool.
 #[derive(Clone, Copy)]
 pub enum Standing {
     Asked,
@@ -39,10 +39,7 @@ impl Ask {
     fn is_any(self) -> bool
         ensures { result ≡ is_any self }
     {
-        match self {
-            Ask::Live => false,
-            Ask::Any => true,
-        }
+        matches!(self, Ask::Any)
     }
 }
 
@@ -50,10 +47,7 @@ impl Ask {
 fn headed_standing(dump: &[u8], g: Geometry, ask: Ask, q: PageNumber) -> Standing
     ensures { result ≡ headed_standing ask (record_at g dump.now q.0) }
 {
-    if ask.is_any() {
-        return Standing::Asked;
-    }
-    if is_gone(record_at(dump, g, q)) {
+    if !ask.is_any() && is_gone(record_at(dump, g, q)) {
         return Standing::Other;
     }
     Standing::Asked
@@ -63,10 +57,7 @@ fn headed_standing(dump: &[u8], g: Geometry, ask: Ask, q: PageNumber) -> Standin
 fn headless_standing(ask: Ask, met: bool) -> Standing
     ensures { result ≡ headless_standing ask met }
 {
-    if !ask.is_any() {
-        return Standing::Other;
-    }
-    if met {
+    if ask.is_any() && met {
         return Standing::Asked;
     }
     Standing::Other
@@ -88,8 +79,7 @@ fn standing_from(
     let mut bound = TOP;
     let mut met = false;
     loop {
-        let step = follow(dump, g, pages, o, bound, link);
-        match step {
+        match follow(dump, g, pages, o, bound, link) {
             Step::End => {
                 return headless_standing(ask, met);
             }
@@ -109,15 +99,16 @@ fn standing_from(
 }
 
 // The key of slot s.
+#[tactic(auto, using(crate::proofs::Slot::Words::key_room))]
 fn key_of(cells: &[u32], s: usize) -> ObjectId
     requires { InTable cells.now s }
     ensures { result.0 ≡ keys cells.now s }
 {
-    let i = key_at(s);
-    ObjectId(cells[i])
+    ObjectId(cells[key_at(s)])
 }
 
 // How object o, the key of slot s, stands, if that is where it is looked for. Most slots are free: callers pass over those themselves.
+#[tactic(auto, unfolding(crate::specs::Listing::standing_at, crate::specs::Chains::chain, crate::specs::Slots::first))]
 fn standing_at(
     dump: &[u8],
     g: Geometry,
@@ -142,55 +133,48 @@ fn standing_at(
 }
 
 // How many slots have objects that are asked for, if no damaged link is met.
-fn tally_in(dump: &[u8], g: Geometry, ask: Ask, pages: u32, cells: &[u32]) -> Tallied
+#[tactic(auto, using(crate::proofs::Slot::Words::slot_in, crate::proofs::Slot::Words::slots_pages, page::proofs::Searching::count_none))]
+fn tally_in(dump: &[u8], g: Geometry, ask: Ask, pages: u32, cells: &[u32]) -> Result<u32, Refusal>
     requires pages_bound { pages ≤ 2 ^ 31 }
     requires pages_in_bounds { cells_for pages ≤ length cells.now }
     ensures { result ≡ tally_in ask (record_at g dump.now) g.layout.«data» cells.now pages }
 {
-    let slots = slots_for(pages);
     let mut count: u32 = 0;
-    let mut s: usize = 0;
-    while s < slots {
-        let at = s;
-        let o = key_of(cells, at);
-        s += 1;
+    for s in 0..slots_for(pages) {
+        let o = key_of(cells, s);
         if o.0 == 0 {
             continue;
         }
-        let standing = standing_at(dump, g, ask, pages, cells, at, o);
-        match standing {
+        match standing_at(dump, g, ask, pages, cells, s, o) {
             Standing::Asked => {
                 count += 1;
             }
             Standing::Damaged => {
-                return Tallied::Refused(Refusal::IndexDamaged);
+                return Err(Refusal::IndexDamaged);
             }
             Standing::Other => {
                 continue;
             }
         }
     }
-    Tallied::Count(count)
+    Ok(count)
 }
 
-// Writes the ids of the live slots, ascending, to words that have room for them.
+// Writes the ids of the live slots, ascending, to words that have room for them: all were counted before, since nothing is written where they do
+// not fit. What both walks share is how a slot stands.
+#[tactic(auto, using(crate::proofs::Slot::Words::slot_in, crate::proofs::Slot::Words::slots_pages))]
 fn write_ids(dump: &[u8], g: Geometry, pages: u32, cells: &[u32], words: &mut [u32])
     requires pages_in_bounds { cells_for pages ≤ length cells.now }
     requires pages_in_bounds_2 { count (asked_slot Ask.Live (record_at g dump.now) g.layout.«data» cells.now pages) (slots_for pages) ≤ length words.old }
     ensures { words.new ≡ in_front (slot_ids Ask.Live (record_at g dump.now) g.layout.«data» cells.now pages) words.old }
 {
-    let slots = slots_for(pages);
     let mut count: usize = 0;
-    let mut s: usize = 0;
-    while s < slots {
-        let at = s;
-        let o = key_of(cells, at);
-        s += 1;
+    for s in 0..slots_for(pages) {
+        let o = key_of(cells, s);
         if o.0 == 0 {
             continue;
         }
-        let standing = standing_at(dump, g, Ask::Live, pages, cells, at, o);
-        let Standing::Asked = standing else {
+        let Standing::Asked = standing_at(dump, g, Ask::Live, pages, cells, s, o) else {
             continue;
         };
         put_id(words, count, o);
@@ -200,58 +184,54 @@ fn write_ids(dump: &[u8], g: Geometry, pages: u32, cells: &[u32], words: &mut [u
 }
 
 // Lists the live objects of a dump of so many pages.
+#[tactic(auto, using(crate::proofs::Answer::Listings::list_refused), unfolding(crate::specs::Listing::list_in, chunk::specs::Lists::words_by))]
 fn list_in(dump: &[u8], g: Geometry, pages: u32, cells: &[u32], words: &mut [u32]) -> Listed
     requires { pages ≤ 2 ^ 31 }
     ensures value { result ≡ list_in (record_at g dump.now) g.layout.«data» cells.now pages (length words.old) }
     ensures words_after { words.new ≡ words_by (slot_ids Ask.Live (record_at g dump.now) g.layout.«data» cells.now pages) words.old result }
 {
     if cells.len() < cells_for(pages) {
-        return Listed::Refused(Refusal::ShortIndex, 0);
+        return Err(Refusal::ShortIndex.into());
     }
-    let tally = tally_in(dump, g, Ask::Live, pages, cells);
-    match tally {
-        Tallied::Refused(r) => Listed::Refused(r, 0),
-        Tallied::Count(need) => {
-            if words.len() < (need as usize) {
-                return Listed::Refused(Refusal::ShortBuffer, need);
-            }
-            write_ids(dump, g, pages, cells, words);
-            Listed::Ids(need)
-        }
+    let need = tally_in(dump, g, Ask::Live, pages, cells)?;
+    if words.len() < (need as usize) {
+        return Err(Short {
+            refusal: Refusal::ShortBuffer,
+            need,
+        });
     }
+    write_ids(dump, g, pages, cells, words);
+    Ok(need)
 }
 
 // Lists the live objects of a dump, by its index: their ids, ascending, are written to the words, if they all
 // fit.
+#[tactic(auto, using(page::proofs::Lengths::opened_most), unfolding(crate::specs::Listing::list_from, crate::specs::Listing::ids_from, chunk::specs::Lists::words_by))]
 pub fn list(dump: &[u8], g: Geometry, cells: &[u32], words: &mut [u32]) -> Listed
     ensures value { result ≡ list_from g dump.now cells.now (length words.old) }
     ensures words_after { words.new ≡ words_by (ids_from g dump.now cells.now) words.old result }
 {
-    let p = g.opened(dump.len());
-    match p {
-        Opened::Refused(r) => Listed::Refused(r, 0),
-        Opened::Pages(pages) => list_in(dump, g, pages, cells, words),
-    }
+    let pages = g.opened(dump.len())?;
+    list_in(dump, g, pages, cells, words)
 }
 
 // Counts the objects of a dump of so many pages.
-fn objects_in(dump: &[u8], g: Geometry, pages: u32, cells: &[u32]) -> Tallied
+#[tactic(auto, unfolding(crate::specs::Listing::objects_in))]
+fn objects_in(dump: &[u8], g: Geometry, pages: u32, cells: &[u32]) -> Result<u32, Refusal>
     requires { pages ≤ 2 ^ 31 }
     ensures { result ≡ objects_in (record_at g dump.now) g.layout.«data» cells.now pages }
 {
     if cells.len() < cells_for(pages) {
-        return Tallied::Refused(Refusal::ShortIndex);
+        return Err(Refusal::ShortIndex);
     }
     tally_in(dump, g, Ask::Any, pages, cells)
 }
 
 // How many objects a dump has, by its index: those with data records only too.
-pub fn objects(dump: &[u8], g: Geometry, cells: &[u32]) -> Tallied
+#[tactic(auto, using(page::proofs::Lengths::opened_most), unfolding(crate::specs::Listing::objects_from))]
+pub fn objects(dump: &[u8], g: Geometry, cells: &[u32]) -> Result<u32, Refusal>
     ensures { result ≡ objects_from g dump.now cells.now }
 {
-    let p = g.opened(dump.len());
-    match p {
-        Opened::Refused(r) => Tallied::Refused(r),
-        Opened::Pages(pages) => objects_in(dump, g, pages, cells),
-    }
+    let pages = g.opened(dump.len())?;
+    objects_in(dump, g, pages, cells)
 }

@@ -11,15 +11,8 @@ use page::geometry::Geometry;
 use page::number::{ObjectId, PageNumber};
 use page::refusal::Refusal;
 
-// Where in the cells the link to a page goes, or why nowhere.
-#[derive(Clone, Copy)]
-pub enum Place {
-    At(usize),
-    Refused(Refusal),
-}
-
 // Where the link to page p of object o and of this age goes in the chain whose first link stands at `from`: the link to the first record that
-// is not newer, or the last link.
+// is not newer, or the last link. A loop of its own, as chains.rt says of all walks.
 fn place_from(
     dump: &[u8],
     g: Geometry,
@@ -29,7 +22,7 @@ fn place_from(
     p: PageNumber,
     age: u64,
     from: usize,
-) -> Place
+) -> Result<usize, Refusal>
     requires recorded { Recorded (record_at g dump.now) pages cells.now o.0 p.0 age }
     requires from_in_bounds { from < length cells.now }
     ensures value { result ≡ place_from (record_at g dump.now) pages cells.now o.0 p.0 (word cells.now from) from }
@@ -38,20 +31,19 @@ fn place_from(
     let mut at = from;
     let mut bound = TOP;
     loop {
-        let step = follow(dump, g, pages, o, bound, cells[at]);
-        match step {
+        match follow(dump, g, pages, o, bound, cells[at]) {
             Step::End => {
-                return Place::At(at);
+                return Ok(at);
             }
             Step::Damaged => {
-                return Place::Refused(Refusal::IndexDamaged);
+                return Err(Refusal::IndexDamaged);
             }
             Step::Record(q, a, _) => {
                 if a <= age {
-                    if q.0 == p.0 {
-                        return Place::Refused(Refusal::AlreadyAdded);
+                    if q == p {
+                        return Err(Refusal::AlreadyAdded);
                     }
-                    return Place::At(at);
+                    return Ok(at);
                 }
                 bound = a;
                 at = link_at(q);
@@ -61,6 +53,7 @@ fn place_from(
 }
 
 // Where the link to page p goes in the chain of its object o, whose slot is s; an object without a slot has an empty chain.
+#[tactic(auto, using(crate::proofs::Slot::Words::key_room, crate::proofs::Chain::Place::place_end, crate::proofs::Chain::Links::trace_end), unfolding(crate::specs::Slots::first_in))]
 pub(crate) fn place_of(
     dump: &[u8],
     g: Geometry,
@@ -70,16 +63,15 @@ pub(crate) fn place_of(
     p: PageNumber,
     age: u64,
     s: usize,
-) -> Place
+) -> Result<usize, Refusal>
     requires recorded { Recorded (record_at g dump.now) pages cells.now o.0 p.0 age }
     requires in_table { InTable cells.now s }
     ensures value { result ≡ place_from (record_at g dump.now) pages cells.now o.0 p.0 (first_in cells.now s o.0) (first_at s) }
     ensures within { Within (length cells.now) result }
 {
     let from = first_at(s);
-    let i = key_at(s);
-    if cells[i] != o.0 {
-        return Place::At(from);
+    if cells[key_at(s)] != o.0 {
+        return Ok(from);
     }
     place_from(dump, g, pages, cells, o, p, age, from)
 }
@@ -89,11 +81,11 @@ pub(crate) fn is_marked(cells: &[u32], p: PageNumber) -> bool
     requires { link_at p.0 < length cells.now }
     ensures { result ≡ is_marked cells.now p.0 }
 {
-    let i = link_at(p);
-    cells[i] != 0
+    cells[link_at(p)] != 0
 }
 
 // Puts page p in at a place of the cells.
+#[tactic(auto, unfolding(crate::specs::Cells::linked))]
 pub(crate) fn put_link(cells: &mut [u32], p: PageNumber, at: usize)
     requires p_bound { p.0 < 2 ^ 31 }
     requires p_in_bounds { link_at p.0 < length cells.old }

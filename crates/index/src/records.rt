@@ -9,26 +9,32 @@ ghost use Rattle.index.specs.Recorded.{pages_of, tally_of, records_at, pages_fro
 use crate::cells::{cells_for, link_of};
 use crate::chains::{Step, TOP, follow};
 use crate::slots::first_link;
-use chunk::answer::{Listed, Tallied};
-use page::geometry::{Geometry, Opened};
+use chunk::answer::Listed;
+use page::geometry::Geometry;
 use page::number::ObjectId;
-use page::refusal::Refusal;
+use page::refusal::{Refusal, Short};
 
-// How many records the chain of object o has from a link on, if no damaged link is met.
-fn tally(dump: &[u8], g: Geometry, pages: u32, cells: &[u32], o: ObjectId, first: u32) -> Tallied
+// How many records the chain of object o has from a link on, if no damaged link is met. A loop of its own, as chains.rt says of all walks.
+fn tally(
+    dump: &[u8],
+    g: Geometry,
+    pages: u32,
+    cells: &[u32],
+    o: ObjectId,
+    first: u32,
+) -> Result<u32, Refusal>
     ensures { result ≡ tally_of (under (record_at g dump.now) pages cells.now o.0 top first) }
 {
     let mut link = first;
     let mut bound = TOP;
     let mut count: u32 = 0;
     loop {
-        let step = follow(dump, g, pages, o, bound, link);
-        match step {
+        match follow(dump, g, pages, o, bound, link) {
             Step::End => {
-                return Tallied::Count(count);
+                return Ok(count);
             }
             Step::Damaged => {
-                return Tallied::Refused(Refusal::IndexDamaged);
+                return Err(Refusal::IndexDamaged);
             }
             Step::Record(q, age, _) => {
                 count += 1;
@@ -39,7 +45,8 @@ fn tally(dump: &[u8], g: Geometry, pages: u32, cells: &[u32], o: ObjectId, first
     }
 }
 
-// Writes the pages of the chain of object o from a link on to words that have room for them.
+// Writes the pages of the chain of object o from a link on to words that have room for them: all were counted before, since nothing is written
+// where they do not fit.
 fn write_pages(
     dump: &[u8],
     g: Geometry,
@@ -56,12 +63,8 @@ fn write_pages(
     let mut bound = TOP;
     let mut count: usize = 0;
     loop {
-        let step = follow(dump, g, pages, o, bound, link);
-        match step {
-            Step::End => {
-                return;
-            }
-            Step::Damaged => {
+        match follow(dump, g, pages, o, bound, link) {
+            Step::End | Step::Damaged => {
                 return;
             }
             Step::Record(q, age, _) => {
@@ -75,6 +78,7 @@ fn write_pages(
 }
 
 // Lists the records of object o of a dump of so many pages.
+#[tactic(auto, using(crate::proofs::Slot::Search::first_link_lem, crate::proofs::Walk::Recorded::pages_length, crate::proofs::Walk::Recorded::tally_counted), unfolding(chunk::specs::Lists::listed_by, chunk::specs::Lists::words_by, crate::specs::Recorded::records_at, crate::specs::Recorded::records_by, crate::specs::Chains::chain))]
 fn records_in(
     dump: &[u8],
     g: Geometry,
@@ -88,36 +92,32 @@ fn records_in(
     ensures words_after { words.new ≡ words_by (pages_of (chain_of (record_at g dump.now) g.layout.«data» cells.now o.0 pages)) words.old result }
 {
     if cells.len() < cells_for(pages) {
-        return Listed::Refused(Refusal::ShortIndex, 0);
+        return Err(Refusal::ShortIndex.into());
     }
     if o.is_bad() {
-        return Listed::Refused(Refusal::BadObject, 0);
+        return Err(Refusal::BadObject.into());
     }
     let first = first_link(cells, o, pages);
-    let tallied = tally(dump, g, pages, cells, o, first);
-    match tallied {
-        Tallied::Refused(r) => Listed::Refused(r, 0),
-        Tallied::Count(count) => {
-            if count == 0 {
-                return Listed::Refused(Refusal::NoObject, 0);
-            }
-            if words.len() < (count as usize) {
-                return Listed::Refused(Refusal::ShortBuffer, count);
-            }
-            write_pages(dump, g, pages, cells, o, first, words);
-            Listed::Ids(count)
-        }
+    let need = tally(dump, g, pages, cells, o, first)?;
+    if need == 0 {
+        return Err(Refusal::NoObject.into());
     }
+    if words.len() < (need as usize) {
+        return Err(Short {
+            refusal: Refusal::ShortBuffer,
+            need,
+        });
+    }
+    write_pages(dump, g, pages, cells, o, first, words);
+    Ok(need)
 }
 
 // Lists the records of object o of a dump, by its index: their pages, from the newest to the oldest, are written to the words, if they all fit.
+#[tactic(auto, using(page::proofs::Lengths::opened_some), unfolding(crate::specs::Recorded::records_from, crate::specs::Recorded::pages_from, chunk::specs::Lists::words_by))]
 pub fn records(dump: &[u8], g: Geometry, cells: &[u32], o: ObjectId, words: &mut [u32]) -> Listed
     ensures value { result ≡ records_from g dump.now cells.now o.0 (length words.old) }
     ensures words_after { words.new ≡ words_by (pages_from g dump.now cells.now o.0) words.old result }
 {
-    let p = g.opened(dump.len());
-    match p {
-        Opened::Refused(r) => Listed::Refused(r, 0),
-        Opened::Pages(pages) => records_in(dump, g, pages, cells, o, words),
-    }
+    let pages = g.opened(dump.len())?;
+    records_in(dump, g, pages, cells, o, words)
 }

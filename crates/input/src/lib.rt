@@ -4,29 +4,22 @@
 
 ghost use Rattle.input.specs.Within.{Within, TakesWhole};
 
+use std::io;
 use std::io::Read;
 
-// The input is so many bytes, or more where they fill all that was lent; or a read failed.
-#[derive(Clone, Copy)]
-pub enum Input {
-    Bytes(usize),
-    Failed,
-}
-
-// Reads until the bytes lent are full, the input ends or a read fails. A read that a signal interrupts has failed.
-pub fn read_all<R: Read>(reader: &mut R, buf: &mut [u8]) -> Input
+// Reads until the bytes lent are full, the input ends or a read fails, and answers how many bytes were read. A read that a signal interrupts has
+// failed.
+pub fn read_all<R: Read>(reader: &mut R, buf: &mut [u8]) -> io::Result<usize>
     ensures within { Within buf.new result }
     ensures known { TakesWhole (R.remaining reader.old) (R.remaining reader.new) buf.new result }
 {
-    let mut done: usize = 0;
+    let mut done = 0;
     while done < buf.len() {
-        let Ok(more) = reader.read(&mut buf[done..]) else {
-            return Input::Failed;
-        };
+        let more = reader.read(&mut buf[done..])?;
         if more == 0 {
-            return Input::Bytes(done);
+            return Ok(done);
         }
         done += more;
     }
-    Input::Bytes(done)
+    Ok(done)
 }

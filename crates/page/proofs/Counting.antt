@@ -1,5 +1,6 @@
 -- Laws of the counts of pages by kind: kinds exclude each other, so the counts add up.
 use Prim.Native.Nat.{ℕ, zero, suc, ◌+◌, ◌/◌, ◌≤◌}
+use Rattle.std.specs.Prelude.{Ok}
 use mathlib.Core.Bool.{Bool}
 use mathlib.Core.List.{List}
 use mathlib.Core.Path.{◌≡◌, refl}
@@ -13,8 +14,6 @@ use Rattle.page.specs.Kinds.{kind_at}
 use Rattle.page.specs.Counts.{counts_below, counted_in, counted_of, with_kind, AtMost, is_blank, is_foreign, is_damaged, is_header, is_data}
 use Rattle.page.specs.declared.geometry.Geometry.{Geometry}
 use Rattle.page.specs.declared.count.Counts.{Counts}
-use Rattle.page.specs.declared.count.Counted.TheVariants as counted
-use Rattle.page.specs.declared.geometry.Opened.TheVariants.{Pages}
 use Rattle.page.specs.declared.kind.Kind.{Kind}
 use Rattle.page.specs.declared.kind.Kind.TheVariants.{Blank, Foreign, Damaged, Header, Data}
 use Rattle.page.proofs.Searching.{count_le}
@@ -50,7 +49,7 @@ module _ (g : Geometry) (dump : List ℕ) where
       }
 
   -- counting an accepted dump is not refused
-  pub counted_pages : (n : ℕ) → opened_of g (length dump) ≡ Pages n → counted_of g dump ≡ counted.Counts (counts_below g dump n)
+  pub counted_pages : (n : ℕ) → opened_of g (length dump) ≡ Ok n → counted_of g dump ≡ Ok (counts_below g dump n)
   unfolding counted_of counted_in
   counted_pages n e = rw e
 

@@ -1,6 +1,8 @@
 -- Laws of finding the layout: a found layout fits and divides the dump, which is accepted under it; no candidate has a higher score and none
 -- before it as high a one.
 use Prim.Native.Nat.{ℕ, ◌≤◌, ◌<◌}
+use Rattle.std.specs.Prelude.{Result, Ok, Err}
+use Rattle.page.specs.declared.refusal.Refusal.{Refusal}
 use mathlib.Core.Bool.{Bool, true, not}
 use mathlib.Core.List.{List}
 use mathlib.Core.Path.{◌≡◌, refl, sym}
@@ -13,10 +15,7 @@ use Rattle.page.specs.Lengths.{geometry_of, block_fits, length_fits, whole_block
 use Rattle.page.specs.Tags.{claim_at}
 use Rattle.page.specs.Find.{candidate_at, score_of, marked_of, score_fits, fitting_score, candidate_score, winner_of, find_of}
 use Rattle.page.specs.declared.layout.Layout.{Layout}
-use Rattle.page.specs.declared.layout.Named.{Named}
-use Rattle.page.specs.declared.layout.Named.TheVariants as named
 use Rattle.page.specs.declared.refusal.Refusal.TheVariants.{BadLayout, BadLength, NoLayout}
-use Rattle.page.specs.declared.geometry.Opened.TheVariants.{Pages}
 use Rattle.page.proofs.Searching.{clash, pick_cases, by_test}
 use Rattle.page.proofs.Layouts.{row_listed}
 use Rattle.page.proofs.Leading.{winning, highest_bounds, won_named, won_refused}
@@ -51,7 +50,7 @@ fitting_scores dump k c d f = rw (d, f)
 
 -- an answer that is neither of the first refusals is the winner
 past_refusals :
-    (dump : List ℕ) (k : ℕ) (r : Named) → (named.Refused BadLayout ≡ r → ⊥) → (named.Refused BadLength ≡ r → ⊥) → find_of dump k ≡ r → winner_of (candidate_score dump k) ≡ r
+    (dump : List ℕ) (k : ℕ) (r : (Result Layout Refusal)) → (Err BadLayout ≡ r → ⊥) → (Err BadLength ≡ r → ⊥) → find_of dump k ≡ r → winner_of (candidate_score dump k) ≡ r
 unfolding find_of
 past_refusals dump k r f g e =
     pick_cases (not (block_fits k)) _ _ _ _ e (λ t z. absurd (f z)) (λ t z. pick_cases (not (length_fits (length dump))) _ _ _ _ z (λ u y. absurd (g y)) (λ u y. y))
@@ -65,9 +64,9 @@ pub record Found (dump : List ℕ) (k : ℕ) (l : Layout) : Type 0 where
   pub highest : (c : ℕ) → c < layouts → candidate_score dump k c ≤ candidate_score dump k number
   pub first : (c : ℕ) → c < number → candidate_score dump k c < candidate_score dump k number
 
-pub found_is : (dump : List ℕ) (k : ℕ) (l : Layout) → find_of dump k ≡ named.Layout l → Found dump k l
+pub found_is : (dump : List ℕ) (k : ℕ) (l : Layout) → find_of dump k ≡ Ok l → Found dump k l
 found_is dump k l e =
-    let w = past_refusals dump k (named.Layout l) (λ z. clash (cc)) (λ z. clash (cc)) e in
+    let w = past_refusals dump k (Ok l) (λ z. clash (cc)) (λ z. clash (cc)) e in
     let score = candidate_score dump k in
     let o = winning score in
     let t = o.won in
@@ -88,7 +87,7 @@ found_is dump k l e =
     })
 
 -- what finding refuses first: a block and a length that do not fit
-first_tests : (dump : List ℕ) (k : ℕ) (l : Layout) → find_of dump k ≡ named.Layout l → (block_fits k ≡ true) × (length_fits (length dump) ≡ true)
+first_tests : (dump : List ℕ) (k : ℕ) (l : Layout) → find_of dump k ≡ Ok l → (block_fits k ≡ true) × (length_fits (length dump) ≡ true)
 unfolding find_of
 first_tests dump k l e =
     pick_cases (not (block_fits k)) _ _ _ _ e (λ t z. clash (cc))
@@ -96,8 +95,8 @@ first_tests dump k l e =
 
 -- a dump is accepted under the layout that was found
 pub found_opens :
-    (dump : List ℕ) (k : ℕ) (l : Layout) → find_of dump k ≡ named.Layout l
-    → opened_of (geometry_of l k) (length dump) ≡ Pages (page_count (geometry_of l k) (length dump))
+    (dump : List ℕ) (k : ℕ) (l : Layout) → find_of dump k ≡ Ok l
+    → opened_of (geometry_of l k) (length dump) ≡ Ok (page_count (geometry_of l k) (length dump))
 unfolding opened_of
 found_opens dump k l e =
     let f = found_is dump k l e in
@@ -105,9 +104,9 @@ found_opens dump k l e =
     rw (← f.row, lt-leb layouts (number_of (layout_at f.number)) (row_listed f.number f.listed), t.0, t.1, f.fits.divides)
 
 -- where NoLayout is given, no candidate has a score
-pub none_found : (dump : List ℕ) (k : ℕ) → find_of dump k ≡ named.Refused NoLayout → (c : ℕ) → c < layouts → candidate_score dump k c ≡ 0
+pub none_found : (dump : List ℕ) (k : ℕ) → find_of dump k ≡ Err NoLayout → (c : ℕ) → c < layouts → candidate_score dump k c ≡ 0
 none_found dump k e c h =
-    let w = past_refusals dump k (named.Refused NoLayout) (λ z. clash (cc)) (λ z. clash (cc)) e in
+    let w = past_refusals dump k (Err NoLayout) (λ z. clash (cc)) (λ z. clash (cc)) e in
     let o = winning (candidate_score dump k) in
     let b = highest_bounds (candidate_score dump k) layouts c h in
     by_test (eqb o.best 0) _

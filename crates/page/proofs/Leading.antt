@@ -2,6 +2,7 @@
 -- that stands before it in the table as high a one. Table order settles equal scores, so a candidate needs one more than the best to lead before
 -- an earlier one, and as much to lead before a later one. Once all have had their turn the leader has won.
 use Prim.Native.Nat.{ℕ, zero, suc, ◌+◌, ◌≤◌, ◌<◌, zero-le}
+use Rattle.std.specs.Prelude.{Ok, Err}
 use mathlib.Core.Bool.{Bool, true, false}
 use mathlib.Core.Path.{◌≡◌, refl, ◌∙◌}
 use mathlib.Core.Logic.{⊎_elim}
@@ -14,7 +15,6 @@ use Rattle.page.specs.Search.{first_from}
 use Rattle.page.specs.Layouts.{layouts, layout_at}
 use Rattle.page.specs.Find.{highest, winner, winner_of}
 use Rattle.page.specs.Leaving.{in_turn, need_of}
-use Rattle.page.specs.declared.layout.Named.TheVariants as named
 use Rattle.page.specs.declared.refusal.Refusal.TheVariants.{NoLayout}
 use Rattle.page.proofs.Searching.{by_test, one_more}
 
@@ -183,12 +183,12 @@ module _ {score : ℕ → ℕ} {best found : ℕ} (w : Won score best found) whe
       (λ c less. ne_eqb (score c) (highest score layouts) (λ e. let b = w.before c less in omega (arith, e, w.top)))
 
   -- it is the answer, if it has a score
-  pub won_named : 0 < best → winner_of score ≡ named.Layout (layout_at found)
+  pub won_named : 0 < best → winner_of score ≡ Ok (layout_at found)
   unfolding winner_of
   won_named some = rw (← w.top, ne_eqb best 0 (λ e. omega arith), found_wins some)
 
   -- and if it has none, no candidate fits
-  pub won_refused : best ≡ 0 → winner_of score ≡ named.Refused NoLayout
+  pub won_refused : best ≡ 0 → winner_of score ≡ Err NoLayout
   unfolding winner_of
   won_refused none = rw (← w.top, eq-eqb best 0 none)
 

@@ -1,5 +1,6 @@
 -- Laws of what a dump measures, for any layout with room.
 use Prim.Native.Nat.{ℕ, suc, ◌+◌, ◌*◌, ◌/◌, ◌%◌, ◌<◌, ◌≤◌}
+use Rattle.std.specs.Prelude.{Ok, Err}
 use mathlib.Core.Bool.{true, not}
 use mathlib.Core.Path.{◌≡◌}
 use mathlib.Core.Logic.{◌↔◌}
@@ -12,7 +13,6 @@ use Rattle.page.specs.Numbers.{page_values}
 use Rattle.page.specs.Layouts.{most_bytes, page_len, roomy, number_of}
 use Rattle.page.specs.Lengths.{block_fits, length_fits, whole_blocks, page_count, page_in, opened_of}
 use Rattle.page.specs.declared.geometry.Geometry.{Geometry}
-use Rattle.page.specs.declared.geometry.Opened.TheVariants.{Pages, Refused}
 use Rattle.page.specs.declared.refusal.Refusal.{Refusal}
 use Rattle.page.specs.declared.refusal.Refusal.TheVariants.{IndexDamaged}
 use Rattle.page.proofs.Layouts.{and_left, and_right, roomy_facts, listed_roomy}
@@ -54,7 +54,7 @@ pub record Open (g : Geometry) (n m : ℕ) : Type 0 where
   pub whole : whole_blocks g n ≡ true
   pub pages : page_count g n ≡ m
 
-pub opened_facts : (g : Geometry) (n m : ℕ) → opened_of g n ≡ Pages m → Open g n m
+pub opened_facts : (g : Geometry) (n m : ℕ) → opened_of g n ≡ Ok m → Open g n m
 unfolding opened_of
 opened_facts g n m e =
     pick_cases (leb 13 (number_of g.layout)) _ _ _ _ e (λ _ q. refused q)
@@ -72,11 +72,11 @@ opened_facts g n m e =
       pages = cc;
     }))))
   where
-    refused : {r : Refusal} → Refused r ≡ Pages m → Open g n m
+    refused : {r : Refusal} → Err r ≡ Ok m → Open g n m
     refused q = clash (cc)
 
 -- a dump is refused for its layout or its length alone
-pub opened_undamaged : (g : Geometry) (n : ℕ) → opened_of g n ≡ Refused IndexDamaged → ⊥
+pub opened_undamaged : (g : Geometry) (n : ℕ) → opened_of g n ≡ Err IndexDamaged → ⊥
 unfolding opened_of
 opened_undamaged g n e =
     pick_cases (leb 13 (number_of g.layout)) _ _ _ ⊥ e (λ _ q. clash (cc))
@@ -85,13 +85,13 @@ opened_undamaged g n e =
     (λ _ e₃. pick_cases (not (whole_blocks g n)) _ _ _ ⊥ e₃ (λ _ q. clash (cc)) (λ _ q. clash (cc)))))
 
 -- a dump has fewer than 2^31 pages
-pub opened_most : (g : Geometry) (n m : ℕ) → opened_of g n ≡ Pages m → m ≤ most_bytes
+pub opened_most : (g : Geometry) (n m : ℕ) → opened_of g n ≡ Ok m → m ≤ most_bytes
 opened_most g n m e =
     let f = opened_facts g n m e in
     omega (arith, f.pages, length_most n f.long, div-le_self n (page_len g.layout))
 
 -- and fewer pages than there are page numbers, since a page has room for a header and for tags
-pub opened_pages : (g : Geometry) (n m : ℕ) → opened_of g n ≡ Pages m → m < page_values
+pub opened_pages : (g : Geometry) (n m : ℕ) → opened_of g n ≡ Ok m → m < page_values
 opened_pages g n m e =
     let f = opened_facts g n m e in
     let r = roomy_facts g.layout f.room in
@@ -100,7 +100,7 @@ opened_pages g n m e =
     omega (arith, length_most n f.long)
 
 -- a dump has a page: a length that is whole blocks and not 0 is at least a block
-pub opened_some : (g : Geometry) (n m : ℕ) → opened_of g n ≡ Pages m → 0 < m
+pub opened_some : (g : Geometry) (n m : ℕ) → opened_of g n ≡ Ok m → 0 < m
 unfolding whole_blocks
 opened_some g n m e =
     let f = opened_facts g n m e in

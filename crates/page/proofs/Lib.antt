@@ -1,6 +1,4 @@
 -- for the proofs of functions
-pub mod Tests
-pub mod Arms
 -- choices and searches, layouts, lengths, pages and their kinds
 pub mod Searching
 pub mod Layouts
@@ -23,3 +21,4 @@ pub mod Headers
 -- computed
 pub mod Marked
 pub mod Needed
+pub mod Passing

@@ -1,5 +1,6 @@
 -- The shelf dump W, the marked cases about pages and the limits of a dump's length: computed from the definitions, in one table.
 use Prim.Native.Nat.{ℕ, zero, suc, ◌+◌, ◌≤◌, ◌<◌}
+use Rattle.std.specs.Prelude.{Ok, Err}
 use mathlib.Core.List.{List, map}
 use mathlib.Core.Path.{◌≡◌, refl, sym, ap, ◌∙◌, fun_ext}
 use lib.Dec.{ltb}
@@ -22,9 +23,6 @@ use Rattle.page.specs.Shelf.{shelf_layout, shelf_geometry, word_bytes, tagged, h
 use Rattle.page.specs.declared.geometry.Geometry.{Geometry}
 use Rattle.page.specs.declared.kind.Kind.{Kind}
 use Rattle.page.specs.declared.kind.Kind.TheVariants.{Blank}
-use Rattle.page.specs.declared.geometry.Opened.TheVariants.{Pages, Refused}
-use Rattle.page.specs.declared.count.Counted.TheVariants.{Counts}
-use Rattle.page.specs.declared.layout.Named.TheVariants as named
 use Rattle.page.specs.declared.refusal.Refusal.TheVariants.{BadLength}
 use Rattle.page.proofs.Searching.{by_test}
 use Rattle.page.proofs.Within.{blank_beyond}
@@ -36,14 +34,14 @@ one_page = record { layout = shelf_layout; block = 1 }
 pub record Marked : Type 0 where
   -- W has 4,224 bytes, in blocks of 4 it has 8 pages, of these kinds and with these counts
   pub shelf_length : length shelf ≡ 4224
-  pub shelf_opened : opened_of shelf_geometry 4224 ≡ Pages 8
+  pub shelf_opened : opened_of shelf_geometry 4224 ≡ Ok 8
   pub shelf_kinds_lem : kinds_from shelf_geometry shelf 0 8 ≡ shelf_kinds
-  pub shelf_counts : counted_of shelf_geometry shelf ≡ Counts (record { blank = 1; foreign = 0; damaged = 0; headers = 3; «data» = 4 })
+  pub shelf_counts : counted_of shelf_geometry shelf ≡ Ok (record { blank = 1; foreign = 0; damaged = 0; headers = 3; «data» = 4 })
   -- every row of cases 8 to 11
   pub page_cases_lem : map kind_in page_cases ≡ map (λ c. c.kind) page_cases
   -- the longest dump of the shortest pages, and the first length of them that is too long
-  pub longest : opened_of one_page 1073741328 ≡ Pages 2033601
-  pub too_long : opened_of one_page 1073741856 ≡ Refused BadLength
+  pub longest : opened_of one_page 1073741328 ≡ Ok 2033601
+  pub too_long : opened_of one_page 1073741856 ≡ Err BadLength
 
 pub marked : Marked
 unfolding shelf shelf_pages dump_of header_page data_page blank_page tagged word_bytes retagged kinds_from shelf_kinds page_cases kind_in opened_of block_fits length_fits whole_blocks number_of_sizes first_from has_sizes layout_at data_sizes spare_sizes tag_offsets kind_at page_in roomy page_at kind_of kind_by header_of bad_type type_differs claim_on claim_of header_claim data_claim object_in bad_object tags_of tag_bytes le32 counted_of counted_in counts_below count
@@ -58,7 +56,7 @@ marked = record {
 }
 
 -- and its layout is found
-pub shelf_found : find_of shelf 4 ≡ named.Layout shelf_layout
+pub shelf_found : find_of shelf 4 ≡ Ok shelf_layout
 unfolding shelf shelf_pages dump_of header_page data_page blank_page tagged word_bytes find_of block_fits length_fits whole_blocks winner_of winner highest first_from candidate_score fitting_score score_fits count is_scored block_sequence first_sequence bears_sequence claim_at page_in roomy layout_at data_sizes spare_sizes tag_offsets claim_on claim_of header_claim data_claim object_in bad_object tags_of tag_bytes page_at le32
 shelf_found = refl
 
@@ -75,7 +73,7 @@ module _ (g : Geometry) (dump : List ℕ) where
   kinds_at i (suc n) (suc j) h = let e : i + 1 + j ≡ i + suc j = omega arith in rw (← e) (kinds_at (i + 1) n j (omega arith))
 
   -- a dump whose kinds are known has them at their numbers, and blank pages beyond
-  pub kinds_known : (m : ℕ) (ks : List Kind) → opened_of g (length dump) ≡ Pages m → kinds_from g dump 0 m ≡ ks → (i : ℕ) → kind_at g dump i ≡ get_or ks i Blank
+  pub kinds_known : (m : ℕ) (ks : List Kind) → opened_of g (length dump) ≡ Ok m → kinds_from g dump 0 m ≡ ks → (i : ℕ) → kind_at g dump i ≡ get_or ks i Blank
   kinds_known m ks o e i =
       by_test (ltb i m) _
       (λ t. rw (← e) (sym (rw zero-add at (kinds_at 0 m i (ltb-true i m t)))))

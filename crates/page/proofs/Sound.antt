@@ -1,5 +1,7 @@
 -- Laws of page kinds, for this crate and for those above, which need not see through the definitions.
 use Prim.Native.Nat.{ℕ, ◌+◌, ◌≤◌}
+use Rattle.std.specs.Prelude.{Result, Ok, Err}
+use Rattle.page.specs.declared.refusal.Refusal.{Refusal}
 use mathlib.Core.Bool.{true, false}
 use mathlib.Core.List.{List}
 use mathlib.Core.Path.{◌≡◌, refl}
@@ -11,8 +13,6 @@ use Rattle.page.specs.Kinds.{kind_at, told_in, told_of}
 use Rattle.page.specs.Counts.{is_header}
 use Rattle.page.specs.Asked.{asked_by, asked_of}
 use Rattle.page.specs.declared.geometry.Geometry.{Geometry}
-use Rattle.page.specs.declared.geometry.Placed.{Placed}
-use Rattle.page.specs.declared.geometry.Placed.TheVariants as placed
 use Rattle.page.specs.Headers.{text_place, text_length}
 use Rattle.page.specs.declared.fields.Text.{Text}
 use Rattle.page.specs.declared.fields.Text.TheVariants.{Name, Alias, Reserved}
@@ -23,7 +23,6 @@ use Rattle.page.specs.declared.record.Header as header
 use Rattle.page.specs.declared.record.Data as «data»
 use Rattle.page.specs.declared.record.Record.{Record}
 use Rattle.page.specs.declared.record.Record.TheVariants as recorded
-use Rattle.page.specs.declared.header.Asked.TheVariants as asked
 use Rattle.page.proofs.Searching.{clash, by_test, pick_cases}
 
 -- every field that is bytes lies in the header
@@ -57,12 +56,12 @@ module _ (g : Geometry) (dump : List ℕ) (i : ℕ) where
   unfolding kind_at
   header_in h = by_test (page_in g (length dump) i) _ (λ t. t) (λ t. let z : false ≡ true = rw t at h in cc)
 
-asked_by_lem : (p : Placed) (k : Kind) → asked_by (told_in p k) ≡ asked.Header → is_header k ≡ true
+asked_by_lem : (p : (Result Unit Refusal)) (k : Kind) → asked_by (told_in p k) ≡ (Ok tt) → is_header k ≡ true
 unfolding asked_by told_in
-asked_by_lem (placed.Refused r) k e = clash (cc)
-asked_by_lem placed.Here k e = pick_cases (is_header k) _ _ _ _ e (λ t _. t) (λ _ q. clash (cc))
+asked_by_lem (Err r) k e = clash (cc)
+asked_by_lem (Ok tt) k e = pick_cases (is_header k) _ _ _ _ e (λ t _. t) (λ _ q. clash (cc))
 
 -- a page whose fields can be read is a header, and lies in the dump
-pub asked_in : (g : Geometry) (dump : List ℕ) (i : ℕ) → asked_of g dump i ≡ asked.Header → page_in g (length dump) i ≡ true
+pub asked_in : (g : Geometry) (dump : List ℕ) (i : ℕ) → asked_of g dump i ≡ (Ok tt) → page_in g (length dump) i ≡ true
 unfolding asked_of told_of
 asked_in g dump i e = header_in g dump i (asked_by_lem (placed_of g (length dump) i) (kind_at g dump i) e)

@@ -1,5 +1,6 @@
 -- Where a header field that is bytes stands in the dump, for crates above that hand out places.
 use Prim.Native.Nat.{ℕ, ◌+◌, ◌*◌, ◌≤◌, ◌<◌}
+use Rattle.std.specs.Prelude.{Result, Ok, Err}
 use mathlib.Core.List.{List, []}
 use mathlib.Core.Bool.{true}
 use mathlib.Core.Path.{◌≡◌, refl}
@@ -15,9 +16,6 @@ use Rattle.page.specs.Asked.{asked_of, headed_by, headed_of, text_by, text_at}
 use Rattle.page.specs.declared.geometry.Geometry.{Geometry}
 use Rattle.page.specs.declared.fields.Fields.{Fields}
 use Rattle.page.specs.declared.fields.Text.{Text}
-use Rattle.page.specs.declared.header.Asked.{Asked}
-use Rattle.page.specs.declared.header.Asked.TheVariants as asked
-use Rattle.page.specs.declared.header.Headed.TheVariants as headed
 use Rattle.page.specs.declared.refusal.Refusal.{Refusal}
 use Rattle.page.proofs.Layouts.{roomy_facts}
 use Rattle.page.proofs.Lengths.{page_within}
@@ -33,24 +31,24 @@ part_of_part s a n b m h =
     let j : b + i < n = omega arith in
     rw (get_or-take, get_or-take, get_or-drop, get_or-take, get_or-drop, get_or-drop, add_assoc))
 
-header_asked : (a : Asked) (v g : Fields) → headed_by a v ≡ headed.Fields g → a ≡ asked.Header
+header_asked : (a : (Result Unit Refusal)) (v g : Fields) → headed_by a v ≡ Ok g → a ≡ (Ok tt)
 unfolding headed_by
-header_asked asked.Header v g e = refl
-header_asked (asked.Refused r) v g e = clash (cc)
+header_asked (Ok tt) v g e = refl
+header_asked (Err r) v g e = clash (cc)
 
-no_text : (a : Asked) (v : Fields) (r : Refusal) (s : List ℕ) → headed_by a v ≡ headed.Refused r → text_by a s ≡ []
+no_text : (a : (Result Unit Refusal)) (v : Fields) (r : Refusal) (s : List ℕ) → headed_by a v ≡ Err r → text_by a s ≡ []
 unfolding headed_by text_by
-no_text asked.Header v r s e = clash (cc)
-no_text (asked.Refused q) v r s e = refl
+no_text (Ok tt) v r s e = clash (cc)
+no_text (Err q) v r s e = refl
 
 -- a page whose fields were given lies in the dump
-pub headed_in : (g : Geometry) (dump : List ℕ) (i : ℕ) (v : Fields) → headed_of g dump i ≡ headed.Fields v → page_in g (length dump) i ≡ true
+pub headed_in : (g : Geometry) (dump : List ℕ) (i : ℕ) (v : Fields) → headed_of g dump i ≡ Ok v → page_in g (length dump) i ≡ true
 unfolding headed_of
 headed_in g dump i v e = asked_in g dump i (header_asked (asked_of g dump i) (fields_of (page_at g dump i)) v e)
 
 module _ (f : Text) (g : Geometry) (dump : List ℕ) (i : ℕ) where
   -- the field of a header stands at its offset from the page's begin
-  pub headed_text : (v : Fields) → headed_of g dump i ≡ headed.Fields v → text_at f g dump i ≡ take (text_length f) (drop (i * page_len g.layout + text_place f) dump)
+  pub headed_text : (v : Fields) → headed_of g dump i ≡ Ok v → text_at f g dump i ≡ take (text_length f) (drop (i * page_len g.layout + text_place f) dump)
   unfolding headed_of text_at text_by text_of page_at
   headed_text v e =
       let h = header_asked (asked_of g dump i) (fields_of (page_at g dump i)) v e in
@@ -59,6 +57,6 @@ module _ (f : Text) (g : Geometry) (dump : List ℕ) (i : ℕ) where
       rw h (part_of_part dump (i * page_len g.layout) (page_len g.layout) (text_place f) (text_length f) (omega (arith, text_fits f, r)))
 
   -- a refused page has none
-  pub refused_text : (r : Refusal) → headed_of g dump i ≡ headed.Refused r → text_at f g dump i ≡ []
+  pub refused_text : (r : Refusal) → headed_of g dump i ≡ Err r → text_at f g dump i ≡ []
   unfolding headed_of text_at
   refused_text r e = no_text (asked_of g dump i) (fields_of (page_at g dump i)) r (text_of f (page_at g dump i)) e

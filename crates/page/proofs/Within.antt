@@ -2,6 +2,7 @@
 -- A record's tags passed every test before the one that made them a header or data, so each limit is the failed test of a worse
 -- kind; the tests on a header's types stand behind those. A page that is not in the dump is blank, so a record's page is in it.
 use Prim.Native.Nat.{ℕ, ◌+◌, ◌*◌, ◌%◌, ◌<◌, ◌≤◌, ◌^◌}
+use Rattle.std.specs.Prelude.{Ok}
 use mathlib.Core.Bool.{Bool, true, false, not, ◌||◌}
 use mathlib.Core.List.{List}
 use mathlib.Core.Path.{◌≡◌, refl, ◌∙◌}
@@ -21,7 +22,6 @@ use Rattle.page.specs.Tags.{blank_sequence, least_sequence, most_sequence, ids, 
 use Rattle.page.specs.Records.{record_of, record_at}
 use Rattle.page.specs.Kinds.{bad_type, type_differs, header_of, kind_by, kind_of, kind_at}
 use Rattle.page.specs.declared.geometry.Geometry.{Geometry}
-use Rattle.page.specs.declared.geometry.Opened.TheVariants.{Pages}
 use Rattle.page.specs.declared.fields.Fields.{Fields}
 use Rattle.page.specs.declared.number.ObjectId.{ObjectId}
 use Rattle.page.specs.declared.tags.Tags.{Tags}
@@ -322,7 +322,7 @@ module _ (g : Geometry) (dump : List ℕ) (i : ℕ) where
   unfolding record_at
   other_outside h = rw (blank_outside h)
 
-module _ (g : Geometry) (dump : List ℕ) (m : ℕ) (e : opened_of g (length dump) ≡ Pages m) where
+module _ (g : Geometry) (dump : List ℕ) (m : ℕ) (e : opened_of g (length dump) ≡ Ok m) where
   opened_in : (i : ℕ) → page_in g (length dump) i ≡ ltb i m
   opened_in i = let f = opened_facts g (length dump) m e in rw (← f.pages) (page_in_lem g (length dump) i f.room)
 

@@ -1,16 +1,13 @@
 -- Counting the pages of a dump by their kinds, each kind by its own rule (document 01, "Page kinds").
-use Rattle.std.specs.Prelude.{ℕ, ◌≤◌, Bool, true, false, List, length}
+use Rattle.std.specs.Prelude.{ℕ, ◌≤◌, Bool, true, false, List, length, Result, Ok, Err}
+use Rattle.page.specs.declared.refusal.Refusal.{Refusal}
 use Rattle.page.specs.Search.{count, more}
 use Rattle.page.specs.Lengths.{opened_of}
 use Rattle.page.specs.Kinds.{kind_at}
 use Rattle.page.specs.declared.geometry.Geometry.{Geometry}
-use Rattle.page.specs.declared.geometry.Opened.{Opened}
-use Rattle.page.specs.declared.geometry.Opened.TheVariants as opened
 use Rattle.page.specs.declared.kind.Kind.{Kind}
 use Rattle.page.specs.declared.kind.Kind.TheVariants.{Blank, Foreign, Damaged, Header, Data}
 use Rattle.page.specs.declared.count.Counts.{Counts}
-use Rattle.page.specs.declared.count.Counted.{Counted}
-use Rattle.page.specs.declared.count.Counted.TheVariants as counted
 
 -- whether a page is of one kind
 abbrev pub is_blank : Kind → Bool
@@ -80,10 +77,10 @@ pub record AtMost (n : ℕ) (c : Counts) : Type 0 where
   pub header : c.headers ≤ n
   pub datas : c.«data» ≤ n
 
-unfoldable pub counted_in : Opened → Geometry → List ℕ → Counted
-counted_in (opened.Refused r) g dump = counted.Refused r
-counted_in (opened.Pages n) g dump = counted.Counts (counts_below g dump n)
+unfoldable pub counted_in : Result ℕ Refusal → Geometry → List ℕ → Result Counts Refusal
+counted_in (Err r) g dump = Err r
+counted_in (Ok n) g dump = Ok (counts_below g dump n)
 
 -- the five counts of a dump
-unfoldable pub counted_of : Geometry → List ℕ → Counted
+unfoldable pub counted_of : Geometry → List ℕ → Result Counts Refusal
 counted_of g dump = counted_in (opened_of g (length dump)) g dump

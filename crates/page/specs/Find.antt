@@ -1,15 +1,13 @@
 -- Finding the layout (document 01, "Finding the layout"), over what the tags of each page alone say.
-use Rattle.std.specs.Prelude.{ℕ, zero, suc, ◌+◌, ◌*◌, ◌/◌, max, Bool, true, false, not, ◌&&◌, List, length, eqb, leb}
+use Rattle.std.specs.Prelude.{ℕ, zero, suc, ◌+◌, ◌*◌, ◌/◌, max, Bool, true, false, not, ◌&&◌, List, length, eqb, leb, Result, Ok, Err}
+use Rattle.page.specs.declared.layout.Layout.{Layout}
+use Rattle.page.specs.declared.refusal.Refusal.{Refusal}
 use Rattle.page.specs.Choice.{pick}
 use Rattle.page.specs.Search.{first_from, count}
 use Rattle.page.specs.Layouts.{layouts, layout_at}
 use Rattle.page.specs.Lengths.{geometry_of, block_fits, length_fits, whole_blocks, page_count, opened_of}
 use Rattle.page.specs.Tags.{claim_at}
 use Rattle.page.specs.declared.geometry.Geometry.{Geometry}
-use Rattle.page.specs.declared.geometry.Opened.{Opened}
-use Rattle.page.specs.declared.geometry.Opened.TheVariants as opened
-use Rattle.page.specs.declared.layout.Named.{Named}
-use Rattle.page.specs.declared.layout.Named.TheVariants as named
 use Rattle.page.specs.declared.refusal.Refusal.TheVariants.{BadLayout, BadLength, NoLayout}
 use Rattle.page.specs.declared.tags.Claim.{Claim}
 use Rattle.page.specs.declared.tags.Claim.TheVariants.{Blank, Foreign, Damaged, Header, Data}
@@ -76,9 +74,9 @@ unfoldable pub fitting_score : (said : ℕ → Claim) (k pages : ℕ) → ℕ
 fitting_score said k n = pick (score_fits (score_of said k n) (marked_of said n)) (score_of said k n) 0
 
 -- the same for a dump of so many pages, or none
-unfoldable pub score_in : Opened → (ℕ → Claim) → ℕ → ℕ
-score_in (opened.Refused r) said k = 0
-score_in (opened.Pages n) said k = fitting_score said k n
+unfoldable pub score_in : Result ℕ Refusal → (ℕ → Claim) → ℕ → ℕ
+score_in (Err r) said k = 0
+score_in (Ok n) said k = fitting_score said k n
 
 -- the score of a dump that is read so; 0 where it is refused
 unfoldable pub score_under : List ℕ → Geometry → ℕ
@@ -105,12 +103,12 @@ unfoldable pub winner : (ℕ → ℕ) → ℕ
 winner score = first_from (λ c. eqb (score c) (highest score layouts)) 0 layouts
 
 -- the highest score wins, then table order; NoLayout where no candidate fits
-unfoldable pub winner_of : (ℕ → ℕ) → Named
-winner_of score = pick (eqb (highest score layouts) 0) (named.Refused NoLayout) (named.Layout (layout_at (winner score)))
+unfoldable pub winner_of : (ℕ → ℕ) → Result Layout Refusal
+winner_of score = pick (eqb (highest score layouts) 0) (Err NoLayout) (Ok (layout_at (winner score)))
 
 -- the layout of a dump in blocks of k pages; a length that no candidate divides is NoLayout
-unfoldable pub find_of : (dump : List ℕ) (k : ℕ) → Named
+unfoldable pub find_of : (dump : List ℕ) (k : ℕ) → Result Layout Refusal
 find_of dump k =
-    pick (not (block_fits k)) (named.Refused BadLayout)
-    (pick (not (length_fits (length dump))) (named.Refused BadLength)
+    pick (not (block_fits k)) (Err BadLayout)
+    (pick (not (length_fits (length dump))) (Err BadLength)
     (winner_of (candidate_score dump k)))

@@ -1,5 +1,6 @@
 -- Page kinds, first match wins (document 01, "Page kinds"): what the tags and the page say.
-use Rattle.std.specs.Prelude.{ℕ, Bool, not, ◌&&◌, ◌||◌, List, length, eqb, ltb}
+use Rattle.std.specs.Prelude.{ℕ, Bool, not, ◌&&◌, ◌||◌, List, length, eqb, ltb, Result, Ok, Err}
+use Rattle.page.specs.declared.refusal.Refusal.{Refusal}
 use Rattle.page.specs.Choice.{pick}
 use Rattle.page.specs.Words.{le32}
 use Rattle.page.specs.Lengths.{page_in, placed_of}
@@ -8,14 +9,10 @@ use Rattle.page.specs.Tags.{tags_of, tag_bytes, is_typed, type_in, claim_on}
 use Rattle.page.specs.Headers.{at_type, at_parent, at_size, at_shrink}
 use Rattle.page.specs.declared.geometry.Geometry.{Geometry}
 use Rattle.page.specs.declared.layout.Layout.{Layout}
-use Rattle.page.specs.declared.geometry.Placed.{Placed}
-use Rattle.page.specs.declared.geometry.Placed.TheVariants as placed
 use Rattle.page.specs.declared.number.ObjectId.{ObjectId}
 use Rattle.page.specs.declared.tags.Tags.{Tags}
 use Rattle.page.specs.declared.tags.Claim.{Claim}
 use Rattle.page.specs.declared.tags.Claim.TheVariants as claim
-use Rattle.page.specs.declared.kind.Told.{Told}
-use Rattle.page.specs.declared.kind.Told.TheVariants as told
 use Rattle.page.specs.declared.kind.Kind.{Kind}
 use Rattle.page.specs.declared.kind.Kind.TheVariants.{Blank, Foreign, Damaged, Header, Data}
 
@@ -58,10 +55,10 @@ unfoldable pub kind_at : Geometry → (dump : List ℕ) (page : ℕ) → Kind
 kind_at g dump i = pick (page_in g (length dump) i) (kind_of g.layout (page_at g dump i)) Blank
 
 -- the kind where the page is placed
-unfoldable pub told_in : Placed → Kind → Told
-told_in (placed.Refused r) k = told.Refused r
-told_in placed.Here k = told.Kind k
+unfoldable pub told_in : Result Unit Refusal → Kind → Result Kind Refusal
+told_in (Err r) k = Err r
+told_in (Ok tt) k = Ok k
 
 -- the kind of page i of a dump
-unfoldable pub told_of : Geometry → (dump : List ℕ) (page : ℕ) → Told
+unfoldable pub told_of : Geometry → (dump : List ℕ) (page : ℕ) → Result Kind Refusal
 told_of g dump i = told_in (placed_of g (length dump) i) (kind_at g dump i)

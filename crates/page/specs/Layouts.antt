@@ -1,11 +1,10 @@
 -- Layouts (document 01, "Layouts"): the table of data size P, spare size S and tag offset T.
-use Rattle.std.specs.Prelude.{ℕ, ◌+◌, Bool, ◌&&◌, List, [], ◌∷◌, get_or, eqb, leb}
+use Rattle.std.specs.Prelude.{ℕ, ◌+◌, Bool, ◌&&◌, List, [], ◌∷◌, get_or, eqb, leb, Result, Ok, Err}
+use Rattle.page.specs.declared.refusal.Refusal.{Refusal}
 use Rattle.page.specs.Choice.{pick}
 use Rattle.page.specs.Search.{first_from}
 use Rattle.page.specs.Headers.{at_shrink}
 use Rattle.page.specs.declared.layout.Layout.{Layout}
-use Rattle.page.specs.declared.layout.Named.{Named}
-use Rattle.page.specs.declared.layout.Named.TheVariants as named
 use Rattle.page.specs.declared.refusal.Refusal.TheVariants.{BadLayout}
 
 -- the layout with data size p, spare size s and tag offset t
@@ -42,8 +41,8 @@ unfoldable pub layout_at : ℕ → Layout
 layout_at n = layout_of (get_or data_sizes n 0) (get_or spare_sizes n 0) (get_or tag_offsets n 0)
 
 -- a layout named by its number: 13 and above are not in the table
-unfoldable pub by_number : ℕ → Named
-by_number n = pick (leb layouts n) (named.Refused BadLayout) (named.Layout (layout_at n))
+unfoldable pub by_number : ℕ → Result Layout Refusal
+by_number n = pick (leb layouts n) (Err BadLayout) (Ok (layout_at n))
 
 -- whether a layout has these sizes and this tag offset
 unfoldable pub has_sizes : (size spare tag : ℕ) → Layout → Bool
@@ -54,7 +53,7 @@ unfoldable pub number_of_sizes : (size spare tag : ℕ) → ℕ
 number_of_sizes p s t = first_from (λ n. has_sizes p s t (layout_at n)) 0 layouts
 
 -- a layout named by its sizes and its tag offset
-unfoldable pub by_sizes : (size spare tag : ℕ) → Named
+unfoldable pub by_sizes : (size spare tag : ℕ) → Result Layout Refusal
 by_sizes p s t = by_number (number_of_sizes p s t)
 
 -- the number of a layout in the table; 13 where it is not there

@@ -1,14 +1,10 @@
 -- What a dump measures (document 01, "Layouts"): its length, its blocks and its pages.
-use Rattle.std.specs.Prelude.{ℕ, ◌+◌, ◌*◌, ◌/◌, ◌%◌, Bool, not, ◌&&◌, eqb, leb}
+use Rattle.std.specs.Prelude.{ℕ, ◌+◌, ◌*◌, ◌/◌, ◌%◌, Bool, not, ◌&&◌, eqb, leb, Result, Ok, Err}
+use Rattle.page.specs.declared.refusal.Refusal.{Refusal}
 use Rattle.page.specs.Choice.{pick}
 use Rattle.page.specs.Layouts.{layouts, most_bytes, page_len, roomy, number_of}
 use Rattle.page.specs.declared.geometry.Geometry.{Geometry}
 use Rattle.page.specs.declared.layout.Layout.{Layout}
-use Rattle.page.specs.declared.geometry.Opened.{Opened}
-use Rattle.page.specs.declared.geometry.Opened.TheVariants.{Pages, Refused}
-use Rattle.page.specs.declared.geometry.Placed.{Placed}
-use Rattle.page.specs.declared.geometry.Placed.TheVariants.{Here}
-use Rattle.page.specs.declared.geometry.Placed.TheVariants as placed
 use Rattle.page.specs.declared.refusal.Refusal.TheVariants.{BadLayout, BadLength, BadPage}
 
 -- the most pages of a block
@@ -40,21 +36,21 @@ module _ (g : Geometry) (n : ℕ) where
   page_count = n / page_len g.layout
 
   -- a dump of n bytes
-  unfoldable pub opened_of : Opened
+  unfoldable pub opened_of : Result ℕ Refusal
   opened_of =
-      pick (leb layouts (number_of g.layout)) (Refused BadLayout)
-      (pick (not (block_fits g.block)) (Refused BadLayout)
-      (pick (not (length_fits n)) (Refused BadLength)
-      (pick (not whole_blocks) (Refused BadLength)
-      (Pages page_count))))
+      pick (leb layouts (number_of g.layout)) (Err BadLayout)
+      (pick (not (block_fits g.block)) (Err BadLayout)
+      (pick (not (length_fits n)) (Err BadLength)
+      (pick (not whole_blocks) (Err BadLength)
+      (Ok page_count))))
 
 -- page i where the dump has so many pages: 0 to count - 1
-unfoldable pub placed_in : Opened → ℕ → Placed
-placed_in (Refused r) i = placed.Refused r
-placed_in (Pages count) i = pick (leb count i) (placed.Refused BadPage) Here
+unfoldable pub placed_in : Result ℕ Refusal → ℕ → Result Unit Refusal
+placed_in (Err r) i = Err r
+placed_in (Ok count) i = pick (leb count i) (Err BadPage) (Ok tt)
 
 -- page i of such a dump
-unfoldable pub placed_of : Geometry → (length page : ℕ) → Placed
+unfoldable pub placed_of : Geometry → (length page : ℕ) → Result Unit Refusal
 placed_of g n i = placed_in (opened_of g n) i
 
 -- whether page i lies in a dump of n bytes, with room for a header and for tags

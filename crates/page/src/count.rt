@@ -2,25 +2,18 @@
 ghost use Rattle.std.specs.Prelude.{◌≡◌, ◌<◌, ◌^◌};
 ghost use Rattle.page.specs.Counts.{counts_below, counted_of, with_kind, AtMost};
 
-use crate::geometry::{Geometry, Opened};
+use crate::geometry::Geometry;
 use crate::kind::{Kind, kind_at};
 use crate::number::PageNumber;
 use crate::refusal::Refusal;
 
-#[derive(Clone, Copy)]
+#[derive(Clone, Copy, Default)]
 pub struct Counts {
     pub blank: u32,
     pub foreign: u32,
     pub damaged: u32,
     pub headers: u32,
     pub data: u32,
-}
-
-// The counts of a dump, or why there are none.
-#[derive(Clone, Copy)]
-pub enum Counted {
-    Counts(Counts),
-    Refused(Refusal),
 }
 
 impl Counts {
@@ -45,28 +38,18 @@ fn count_pages(dump: &[u8], g: Geometry, pages: u32) -> Counts
     requires { pages < 2 ^ 31 }
     ensures { result ≡ counts_below g dump.now pages }
 {
-    let mut c = Counts {
-        blank: 0,
-        foreign: 0,
-        damaged: 0,
-        headers: 0,
-        data: 0,
-    };
-    let mut i: u32 = 0;
-    while i < pages {
+    let mut c = Counts::default();
+    for i in 0..pages {
         c = c.with(kind_at(dump, g, PageNumber(i)));
-        i += 1;
     }
     c
 }
 
 // The five counts of a dump.
-pub fn count_kinds(dump: &[u8], g: Geometry) -> Counted
+#[tactic(auto, unfolding(crate::specs::Counts::counted_of, crate::specs::Counts::counted_in))]
+pub fn count_kinds(dump: &[u8], g: Geometry) -> Result<Counts, Refusal>
     ensures { result ≡ counted_of g dump.now }
 {
-    let o = g.opened(dump.len());
-    match o {
-        Opened::Refused(r) => Counted::Refused(r),
-        Opened::Pages(pages) => Counted::Counts(count_pages(dump, g, pages)),
-    }
+    let pages = g.opened(dump.len())?;
+    Ok(count_pages(dump, g, pages))
 }

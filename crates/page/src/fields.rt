@@ -31,7 +31,7 @@ pub struct Fields {
     pub shrink: u32,
 }
 
-// The fields that are bytes.
+// The fields that are bytes; the header of C has a function for each.
 #[derive(Clone, Copy)]
 pub enum Text {
     Name,
@@ -89,7 +89,8 @@ impl Fields {
 
     pub const SHRINK: usize = 0x1FC;
 
-    // The numbers of a header page.
+    // The numbers of a header page. Of a slice of any length, where a From would promise them of each.
+    #[tactic(auto, unfolding(crate::specs::Headers::fields_of))]
     pub(crate) fn of_page(page: &[u8]) -> Fields
         requires { header_bytes ≤ length page.now }
         ensures { result ≡ fields_of page.now }

@@ -7,8 +7,8 @@ ghost use Rattle.page.specs.Tags.{claim_at};
 ghost use Rattle.page.specs.Find.{is_good, is_marked, bears_sequence, first_sequence, fitting_score, score_under, candidate_score, winner_of, find_of};
 ghost use Rattle.page.specs.Leaving.{at_least, Gained, in_turn, is_lost, need_of, pages_under};
 
-use crate::geometry::{Geometry, Opened};
-use crate::layout::{Layout, Named};
+use crate::geometry::Geometry;
+use crate::layout::Layout;
 use crate::number::PageNumber;
 use crate::refusal::Refusal;
 use crate::tags::{Claim, claim_at, tags_at};
@@ -27,27 +27,18 @@ pub(crate) struct Gain {
 fn is_marked(claim: Claim) -> bool
     ensures { result ≡ is_marked claim }
 {
-    let Claim::Blank = claim else {
-        return true;
-    };
-    false
+    !matches!(claim, Claim::Blank)
 }
 
 // Whether a page is good.
 fn is_good(claim: Claim) -> bool
     ensures { result ≡ is_good claim }
 {
-    match claim {
-        Claim::Header {
-            sequence: _,
-            object: _,
-        } => true,
-        Claim::Data(_) => true,
-        _ => false,
-    }
+    matches!(claim, Claim::Header { .. } | Claim::Data(_))
 }
 
 // Whether page n is good and bears this sequence. The sequence is compared first: under a candidate that is not the dump's it mostly differs.
+#[tactic(auto, unfolding(crate::specs::Tags::claim_at, crate::specs::Find::bears_sequence, crate::specs::Tags::claim_on))]
 fn bears(dump: &[u8], g: Geometry, n: PageNumber, sequence: u32) -> bool
     ensures { result ≡ bears_sequence sequence (claim_at g dump.now n.0) }
 {
@@ -55,17 +46,15 @@ fn bears(dump: &[u8], g: Geometry, n: PageNumber, sequence: u32) -> bool
         return false;
     }
     let t = tags_at(dump, g, n);
-    if t.sequence != sequence {
-        return false;
-    }
-    is_good(t.claim(g.layout.data))
+    t.sequence == sequence && is_good(t.claim(g.layout.data))
 }
 
-// The sequence of the first good page of a block, where the search ends; 0 where no page is good.
+// The sequence of the first good page of a block, where the search ends; 0 where no page is good, as the definition says: none is there to bear it.
 fn first_sequence(dump: &[u8], g: Geometry, block: u32) -> u32
     requires { block + g.block < 2 ^ 32 }
     ensures { result ≡ first_sequence (claim_at g dump.now) block g.block }
 {
+    // a loop that yields the sequence by break, as document 01 names the form
     let end = block + g.block;
     let mut i = block;
     let sequence = loop {
@@ -86,7 +75,8 @@ fn first_sequence(dump: &[u8], g: Geometry, block: u32) -> u32
     sequence
 }
 
-// How many pages a dump of this length has in whole blocks; none where it does not divide.
+// How many pages a dump of this length has in whole blocks; 0, as many as can score, where it does not divide.
+#[tactic(auto, unfolding(crate::specs::Leaving::pages_under))]
 fn pages_under(g: Geometry, len: usize) -> u32
     requires layout_value { roomy g.layout ≡ true }
     requires block_value { block_fits g.block ≡ true }
@@ -120,17 +110,16 @@ fn gain_in(dump: &[u8], g: Geometry, block: u32) -> Gain
 }
 
 // Whether a candidate with so many pages left cannot reach the score that it needs any more, or cannot fit any more.
+#[tactic(auto, unfolding(crate::specs::Leaving::is_lost))]
 fn is_lost(score: u32, marked: u32, left: u32, need: u32) -> bool
     requires { 2 * score + left < 2 ^ 32 }
     ensures { result ≡ is_lost score marked left need }
 {
-    if score + left < need {
-        return true;
-    }
-    2 * score + left < marked
+    score + left < need || 2 * score + left < marked
 }
 
 // The score that candidate n needs to lead before candidate `found`, which has the best so far.
+#[tactic(auto, unfolding(crate::specs::Leaving::need_of))]
 fn need_of(n: u32, found: u32, best: u32) -> u32
     requires { best < 2 ^ 31 }
     ensures { result ≡ need_of n found best }
@@ -139,6 +128,7 @@ fn need_of(n: u32, found: u32, best: u32) -> u32
 }
 
 // The candidate of a turn: the one that was guessed and the first of the table have changed places.
+#[tactic(auto, unfolding(crate::specs::Leaving::in_turn))]
 fn in_turn(guess: u32, turn: u32) -> u32
     ensures { result ≡ in_turn guess turn }
 {
@@ -190,7 +180,7 @@ fn guess(dump: &[u8], k: u32) -> u32
 }
 
 // The candidate with the highest score, the first in the table of those that have it.
-fn best_of(dump: &[u8], k: u32) -> Named
+fn best_of(dump: &[u8], k: u32) -> Result<Layout, Refusal>
     requires k_value { block_fits k ≡ true }
     requires dump_value { length_fits (length dump.now) ≡ true }
     ensures { result ≡ winner_of (candidate_score dump.now k) }
@@ -226,25 +216,27 @@ fn best_of(dump: &[u8], k: u32) -> Named
         found = n;
     }
     if best == 0 {
-        return Named::Refused(Refusal::NoLayout);
+        return Err(Refusal::NoLayout);
     }
-    Named::Layout(Layout::row(found))
+    Ok(Layout::row(found))
 }
 
 // The layout of a dump in blocks of k pages, or why there is none.
-pub fn find(dump: &[u8], k: u32) -> Named
+#[tactic(auto, unfolding(crate::specs::Find::find_of))]
+pub fn find(dump: &[u8], k: u32) -> Result<Layout, Refusal>
     ensures { result ≡ find_of dump.now k }
 {
     if !Geometry::block_fits(k) {
-        return Named::Refused(Refusal::BadLayout);
+        return Err(Refusal::BadLayout);
     }
     if !Geometry::length_fits(dump.len()) {
-        return Named::Refused(Refusal::BadLength);
+        return Err(Refusal::BadLength);
     }
     best_of(dump, k)
 }
 
-// The score of so many pages of a dump that is read so, if it is at least what is needed; 0 else. It is left as soon as it cannot be.
+// The score of so many pages of a dump that is read so, if it is at least what is needed; 0 else, a score that leads nowhere. It is left as soon as it
+// cannot be.
 fn score_in(dump: &[u8], g: Geometry, pages: u32, need: u32) -> u32
     requires block_nonzero { 0 < g.block }
     requires block_bound { g.block < 2 ^ 31 }
@@ -270,13 +262,13 @@ fn score_in(dump: &[u8], g: Geometry, pages: u32, need: u32) -> u32
 }
 
 // The score of finding the layout, for a dump that is read so: how many good pages bear their block's sequence, if it fits and they are at least
-// as many as needed; 0 else, and where the dump is refused.
+// as many as needed; 0 else, and where the dump is refused, as the definition counts.
+#[tactic(auto, unfolding(crate::specs::Find::score_under, crate::specs::Find::score_in))]
 pub fn score(dump: &[u8], g: Geometry, need: u32) -> u32
     ensures { result ≡ at_least need (score_under dump.now g) }
 {
-    let o = g.opened(dump.len());
-    match o {
-        Opened::Refused(_) => 0,
-        Opened::Pages(pages) => score_in(dump, g, pages, need),
+    match g.opened(dump.len()) {
+        Ok(pages) => score_in(dump, g, pages, need),
+        Err(_) => 0,
     }
 }

@@ -14,45 +14,28 @@ pub struct Geometry {
     pub block: u32,
 }
 
-// How many pages a dump has, or why it is none.
-#[derive(Clone, Copy)]
-pub enum Opened {
-    Pages(u32),
-    Refused(Refusal),
-}
-
-// That a page is in a dump, or why not.
-#[derive(Clone, Copy)]
-pub enum Placed {
-    Here,
-    Refused(Refusal),
-}
-
 impl Geometry {
     // The most pages that a block has.
     pub const MOST_PAGES: u32 = 256;
 
-    // Whether a block may have k pages.
+    // Whether a block may have k pages; a line each, this and the next, with limits of their own.
+    #[tactic(auto, unfolding(crate::specs::Lengths::block_fits))]
     pub fn block_fits(k: u32) -> bool
         ensures { result ≡ block_fits k }
     {
-        if k == 0 {
-            return false;
-        }
-        k <= Geometry::MOST_PAGES
+        k != 0 && k <= Geometry::MOST_PAGES
     }
 
     // Whether a dump may have this length.
+    #[tactic(auto, unfolding(crate::specs::Lengths::length_fits))]
     pub fn length_fits(len: usize) -> bool
         ensures { result ≡ length_fits len }
     {
-        if len == 0 {
-            return false;
-        }
-        len <= Layout::MOST_BYTES
+        len != 0 && len <= Layout::MOST_BYTES
     }
 
     // Whether a dump of this length divides into whole blocks.
+    #[tactic(auto, unfolding(crate::specs::Lengths::whole_blocks))]
     pub(crate) fn divides(self, len: usize) -> bool
         requires layout_value { roomy self.layout ≡ true }
         requires block_value { block_fits self.block ≡ true }
@@ -62,7 +45,8 @@ impl Geometry {
         len % block == 0
     }
 
-    // Whether page n lies in a dump of this length.
+    // Whether page n lies in a dump of this length; where the layout has no room, nothing is reckoned with.
+    #[tactic(auto, unfolding(crate::specs::Lengths::page_in))]
     pub fn holds(self, len: usize, n: PageNumber) -> bool
         ensures { result ≡ page_in self len n.0 }
     {
@@ -75,28 +59,35 @@ impl Geometry {
 
     // What `opened` answers, by numbers, for short calls: numbers travel in registers, and what is written to memory in parts and copied as a
     // whole is waited for.
-    pub fn opened_of(data: u32, spare: u32, tag: u32, block: u32, len: usize) -> Opened
+    #[tactic(auto, unfolding(crate::specs::Lengths::opened_of))]
+    pub fn opened_of(
+        data: u32,
+        spare: u32,
+        tag: u32,
+        block: u32,
+        len: usize,
+    ) -> Result<u32, Refusal>
         ensures { result ≡ opened_of (geometry_of (layout_of «data» spare tag) block) len }
     {
         let layout = Layout { data, spare, tag };
         let g = Geometry { layout, block };
         if Layout::COUNT <= layout.number() {
-            return Opened::Refused(Refusal::BadLayout);
+            return Err(Refusal::BadLayout);
         }
         if !Geometry::block_fits(block) {
-            return Opened::Refused(Refusal::BadLayout);
+            return Err(Refusal::BadLayout);
         }
         if !Geometry::length_fits(len) {
-            return Opened::Refused(Refusal::BadLength);
+            return Err(Refusal::BadLength);
         }
         if !g.divides(len) {
-            return Opened::Refused(Refusal::BadLength);
+            return Err(Refusal::BadLength);
         }
-        Opened::Pages((len / layout.page_len()) as u32)
+        Ok((len / layout.page_len()) as u32)
     }
 
     // How many pages a dump of this length has, or why it is refused.
-    pub fn opened(self, len: usize) -> Opened
+    pub fn opened(self, len: usize) -> Result<u32, Refusal>
         ensures { result ≡ opened_of self len }
     {
         let l = self.layout;
@@ -104,19 +95,15 @@ impl Geometry {
     }
 
     // Whether page n is in a dump of this length, or why not.
-    pub fn placed(self, len: usize, n: PageNumber) -> Placed
+    #[tactic(auto, unfolding(crate::specs::Lengths::placed_of, crate::specs::Lengths::placed_in))]
+    pub fn placed(self, len: usize, n: PageNumber) -> Result<(), Refusal>
         ensures { result ≡ placed_of self len n.0 }
     {
         let l = self.layout;
-        let o = Geometry::opened_of(l.data, l.spare, l.tag, self.block, len);
-        match o {
-            Opened::Refused(r) => Placed::Refused(r),
-            Opened::Pages(count) => {
-                if count <= n.0 {
-                    return Placed::Refused(Refusal::BadPage);
-                }
-                Placed::Here
-            }
+        let count = Geometry::opened_of(l.data, l.spare, l.tag, self.block, len)?;
+        if count <= n.0 {
+            return Err(Refusal::BadPage);
         }
+        Ok(())
     }
 }

@@ -4,7 +4,7 @@ ghost use Rattle.page.specs.Layouts.{header_bytes, page_len, roomy};
 ghost use Rattle.page.specs.Kinds.{bad_type, type_differs, header_of, kind_by, kind_of, kind_at, told_of};
 
 use crate::fields::Fields;
-use crate::geometry::{Geometry, Placed};
+use crate::geometry::Geometry;
 use crate::layout::Layout;
 use crate::number::{ObjectId, PageNumber};
 use crate::record::{Data, Header};
@@ -21,36 +21,30 @@ pub enum Kind {
     Data(Data),
 }
 
-// Whether a page type is none of the five.
+// Whether a page type is none of the five; a limit of its own, a line as short as a function of any limits.
+#[tactic(auto, unfolding(crate::specs::Kinds::bad_type))]
 fn bad_type(page_type: u32) -> bool
     ensures { result ≡ bad_type page_type }
 {
-    if page_type == 0 {
-        return true;
-    }
-    5 < page_type
+    page_type == 0 || 5 < page_type
 }
 
 // Whether the tags have a type, and it differs from the page's.
+#[tactic(auto, unfolding(crate::specs::Kinds::type_differs))]
 fn type_differs(t: Tags, page_type: u32) -> bool
     ensures { result ≡ type_differs t page_type }
 {
-    if t.chunk < Tags::TOP {
-        return false;
-    }
-    t.object / Tags::IDS != page_type
+    Tags::TOP <= t.chunk && t.object / Tags::IDS != page_type
 }
 
 // A header by its tags, with the tests on its types.
+#[tactic(auto, unfolding(crate::specs::Kinds::header_of))]
 fn header_kind(page: &[u8], t: Tags, sequence: u32, object: ObjectId) -> Kind
     requires { header_bytes ≤ length page.now }
     ensures { result ≡ header_of page.now t sequence object }
 {
     let page_type = word_at(page, Fields::TYPE);
-    if bad_type(page_type) {
-        return Kind::Damaged;
-    }
-    if type_differs(t, page_type) {
+    if bad_type(page_type) || type_differs(t, page_type) {
         return Kind::Damaged;
     }
     Kind::Header(Header {
@@ -64,6 +58,7 @@ fn header_kind(page: &[u8], t: Tags, sequence: u32, object: ObjectId) -> Kind
 }
 
 // The kind of a page whose tags say this.
+#[tactic(auto, unfolding(crate::specs::Kinds::kind_by))]
 fn kind_by(page: &[u8], t: Tags, claim: Claim) -> Kind
     requires { header_bytes ≤ length page.now }
     ensures { result ≡ kind_by page.now t claim }
@@ -78,6 +73,7 @@ fn kind_by(page: &[u8], t: Tags, claim: Claim) -> Kind
 }
 
 // The kind of a page.
+#[tactic(auto, unfolding(crate::specs::Kinds::kind_of, crate::specs::Tags::claim_on))]
 fn kind_on(page: &[u8], l: Layout) -> Kind
     requires l_value { roomy l ≡ true }
     requires page_len { length page.now ≡ page_len l }
@@ -88,6 +84,7 @@ fn kind_on(page: &[u8], l: Layout) -> Kind
 }
 
 // The kind of page n; a page that is not in the dump says nothing, as a blank one.
+#[tactic(auto, unfolding(crate::specs::Kinds::kind_at))]
 pub fn kind_at(dump: &[u8], g: Geometry, n: PageNumber) -> Kind
     ensures { result ≡ kind_at g dump.now n.0 }
 {
@@ -97,20 +94,11 @@ pub fn kind_at(dump: &[u8], g: Geometry, n: PageNumber) -> Kind
     kind_on(page_at(dump, g, n), g.layout)
 }
 
-// The kind of a page, or why there is none.
-#[derive(Clone, Copy)]
-pub enum Told {
-    Kind(Kind),
-    Refused(Refusal),
-}
-
-// The kind of page n of a dump.
-pub fn page_kind(dump: &[u8], g: Geometry, n: PageNumber) -> Told
+// The kind of page n, or why it is refused.
+#[tactic(auto, unfolding(crate::specs::Kinds::told_of, crate::specs::Kinds::told_in))]
+pub fn page_kind(dump: &[u8], g: Geometry, n: PageNumber) -> Result<Kind, Refusal>
     ensures { result ≡ told_of g dump.now n.0 }
 {
-    let p = g.placed(dump.len(), n);
-    match p {
-        Placed::Refused(r) => Told::Refused(r),
-        Placed::Here => Told::Kind(kind_at(dump, g, n)),
-    }
+    g.placed(dump.len(), n)?;
+    Ok(kind_at(dump, g, n))
 }

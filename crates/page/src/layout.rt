@@ -12,13 +12,6 @@ pub struct Layout {
     pub tag: u32,
 }
 
-// A layout that was asked for, or why there is none.
-#[derive(Clone, Copy)]
-pub enum Named {
-    Layout(Layout),
-    Refused(Refusal),
-}
-
 impl Layout {
     // How many layouts the table has.
     pub const COUNT: u32 = 13;
@@ -29,40 +22,52 @@ impl Layout {
     // The bytes of a header, whose last field is the shrink word.
     pub const HEADER_BYTES: u32 = (Fields::SHRINK as u32) + 4;
 
-    // The columns of the table: data sizes, spare sizes and tag offsets.
-    const DATA: [u16; 13] = [
-        2048, 2048, 2048, 4096, 4096, 4096, 512, 8192, 8192, 8192, 16384, 16384, 16384,
+    // The rows of the table: data size, spare size and tag offset.
+    const TABLE: [(u16, u16, u16); 13] = [
+        (2048, 64, 0),
+        (2048, 64, 2),
+        (2048, 64, 30),
+        (4096, 128, 0),
+        (4096, 128, 2),
+        (4096, 128, 30),
+        (512, 16, 0),
+        (8192, 224, 0),
+        (8192, 224, 2),
+        (8192, 224, 30),
+        (16384, 448, 0),
+        (16384, 448, 2),
+        (16384, 448, 30),
     ];
 
-    const SPARE: [u16; 13] = [64, 64, 64, 128, 128, 128, 16, 224, 224, 224, 448, 448, 448];
-
-    const TAG: [u16; 13] = [0, 2, 30, 0, 2, 30, 0, 0, 2, 30, 0, 2, 30];
-
     // The layout with the number n in the table.
+    #[tactic(auto, unfolding(crate::specs::Layouts::layout_at, crate::specs::Layouts::data_sizes, crate::specs::Layouts::spare_sizes, crate::specs::Layouts::tag_offsets))]
     pub(crate) fn row(n: u32) -> Layout
         requires { n < layouts }
         ensures { result ≡ layout_at n }
     {
-        let i = n as usize;
+        let (data, spare, tag) = Layout::TABLE[n as usize];
         Layout {
-            data: Layout::DATA[i] as u32,
-            spare: Layout::SPARE[i] as u32,
-            tag: Layout::TAG[i] as u32,
+            data: u32::from(data),
+            spare: u32::from(spare),
+            tag: u32::from(tag),
         }
     }
 
     // The layout with the number n in the table, if it has one.
-    pub fn numbered(n: u32) -> Named
+    #[tactic(auto, unfolding(crate::specs::Layouts::by_number))]
+    pub fn numbered(n: u32) -> Result<Layout, Refusal>
         ensures { result ≡ by_number n }
     {
         if Layout::COUNT <= n {
-            return Named::Refused(Refusal::BadLayout);
+            return Err(Refusal::BadLayout);
         }
-        Named::Layout(Layout::row(n))
+        Ok(Layout::row(n))
     }
 
-    // The layout with these sizes and this tag offset, if the table has it.
-    pub fn sized(data: u32, spare: u32, tag: u32) -> Named
+    // The layout with these sizes and this tag offset, if the table has it: of three numbers, so that no TryFrom gives it, nor the one above, which has
+    // a number for its name.
+    #[tactic(auto, unfolding(crate::specs::Layouts::by_sizes))]
+    pub fn sized(data: u32, spare: u32, tag: u32) -> Result<Layout, Refusal>
         ensures { result ≡ by_sizes «data» spare tag }
     {
         Layout::numbered(Layout::number_of(data, spare, tag))
@@ -76,30 +81,24 @@ impl Layout {
     }
 
     // Whether this is the layout of these sizes and this tag offset.
+    #[tactic(auto, unfolding(crate::specs::Layouts::has_sizes))]
     fn is(self, data: u32, spare: u32, tag: u32) -> bool
         ensures { result ≡ has_sizes «data» spare tag self }
     {
-        if self.data != data {
-            return false;
-        }
-        if self.spare != spare {
-            return false;
-        }
-        self.tag == tag
+        self.data == data && self.spare == spare && self.tag == tag
     }
 
-    // The first number in the table of a layout of these sizes and this tag offset, or 13.
+    // The first number in the table of a layout of these sizes and this tag offset, or 13, by which C is told that there is none.
+    #[tactic(auto, unfolding(crate::specs::Layouts::number_of_sizes))]
     fn number_of(data: u32, spare: u32, tag: u32) -> u32
         ensures { result ≡ number_of_sizes «data» spare tag }
     {
-        let mut n: u32 = 0;
-        while n < Layout::COUNT {
+        for n in 0..Layout::COUNT {
             if Layout::row(n).is(data, spare, tag) {
                 return n;
             }
-            n += 1;
         }
-        n
+        Layout::COUNT
     }
 
     // The length of a page.
@@ -118,15 +117,12 @@ impl Layout {
     }
 
     // Whether a header has room in the data and the tags in the spare, and a page is no longer than a dump may be.
+    #[tactic(auto, unfolding(crate::specs::Layouts::roomy))]
     pub fn has_room(self) -> bool
         ensures { result ≡ roomy self }
     {
-        if self.data < Layout::HEADER_BYTES {
-            return false;
-        }
-        if (self.spare as usize) < (self.tag as usize) + Layout::TAG_BYTES {
-            return false;
-        }
-        self.page_len() <= Layout::MOST_BYTES
+        Layout::HEADER_BYTES <= self.data
+            && (self.tag as usize) + Layout::TAG_BYTES <= (self.spare as usize)
+            && self.page_len() <= Layout::MOST_BYTES
     }
 }

@@ -36,21 +36,24 @@ pub enum Record {
 }
 
 // The record that a page of this kind is.
-pub fn record_of(k: Kind) -> Record
-    ensures { result ≡ record_of k }
-{
-    match k {
-        Kind::Blank => Record::Other,
-        Kind::Foreign => Record::Other,
-        Kind::Damaged => Record::Other,
-        Kind::Header(h) => Record::Header(h),
-        Kind::Data(d) => Record::Data(d),
+impl From<Kind> for Record {
+    ghost from_gives = { λ k r. r ≡ record_of k };
+
+    fn from(k: Kind) -> Record
+        ensures { result ≡ record_of k }
+    {
+        match k {
+            Kind::Blank | Kind::Foreign | Kind::Damaged => Record::Other,
+            Kind::Header(h) => Record::Header(h),
+            Kind::Data(d) => Record::Data(d),
+        }
     }
 }
 
 // The record that page n is; a page that is not in the dump is none.
+#[tactic(auto, unfolding(crate::specs::Records::record_at))]
 pub fn record_at(dump: &[u8], g: Geometry, n: PageNumber) -> Record
     ensures { result ≡ record_at g dump.now n.0 }
 {
-    record_of(kind_at(dump, g, n))
+    kind_at(dump, g, n).into()
 }

@@ -43,6 +43,7 @@ impl Tags {
     pub const IDS: u32 = 0x1000_0000;
 
     // The tags that 16 bytes hold.
+    #[tactic(auto, unfolding(crate::specs::Tags::tags_of))]
     fn parse(s: &[u8]) -> Tags
         requires { tag_length ≤ length s.now }
         ensures { result ≡ tags_of s.now }
@@ -56,6 +57,7 @@ impl Tags {
     }
 
     // The tags of a page: its spare, and the tag bytes in that, are parts from the middle.
+    #[tactic(auto, unfolding(crate::specs::Tags::tag_bytes))]
     pub(crate) fn of_page(page: &[u8], l: Layout) -> Tags
         requires l_value { roomy l ≡ true }
         requires page_len { length page.now ≡ page_len l }
@@ -69,6 +71,7 @@ impl Tags {
     }
 
     // The object id of a header's tags.
+    #[tactic(auto, unfolding(crate::specs::Tags::object_in))]
     fn header_object(self) -> u32
         ensures { result ≡ object_in self }
     {
@@ -78,6 +81,7 @@ impl Tags {
         self.object
     }
 
+    #[tactic(auto, unfolding(crate::specs::Tags::header_claim))]
     fn header_claim(self) -> Claim
         ensures { result ≡ header_claim self }
     {
@@ -91,20 +95,16 @@ impl Tags {
         }
     }
 
+    #[tactic(auto, unfolding(crate::specs::Tags::data_claim))]
     fn data_claim(self, data: u32) -> Claim
         ensures { result ≡ data_claim «data» self }
     {
         let object = ObjectId(self.object);
-        if object.is_bad() {
-            return Claim::Damaged;
-        }
-        if ChunkNumber::MOST < self.chunk {
-            return Claim::Damaged;
-        }
-        if self.count == 0 {
-            return Claim::Damaged;
-        }
-        if data < self.count {
+        if object.is_bad()
+            || ChunkNumber::MOST < self.chunk
+            || self.count == 0
+            || data < self.count
+        {
             return Claim::Damaged;
         }
         Claim::Data(Data {
@@ -116,22 +116,17 @@ impl Tags {
     }
 
     // What the tags say of a page with so many data bytes, first match wins.
+    #[tactic(auto, unfolding(crate::specs::Tags::claim_of))]
     pub(crate) fn claim(self, data: u32) -> Claim
         ensures { result ≡ claim_of «data» self }
     {
         if self.sequence == Tags::BLANK {
             return Claim::Blank;
         }
-        if self.sequence < Tags::LEAST {
+        if self.sequence < Tags::LEAST || Tags::MOST < self.sequence {
             return Claim::Foreign;
         }
-        if Tags::MOST < self.sequence {
-            return Claim::Foreign;
-        }
-        if Tags::TOP <= self.chunk {
-            return self.header_claim();
-        }
-        if self.chunk == 0 {
+        if Tags::TOP <= self.chunk || self.chunk == 0 {
             return self.header_claim();
         }
         self.data_claim(data)
@@ -139,6 +134,7 @@ impl Tags {
 }
 
 // The bytes of page n, which lies in the dump.
+#[tactic(auto, unfolding(crate::specs::Pages::page_at))]
 pub(crate) fn page_at(dump: &[u8], g: Geometry, n: PageNumber) -> &[u8]
     requires { page_in g (length dump.now) n.0 ≡ true }
     ensures { result.now ≡ page_at g dump.now n.0 }
@@ -158,6 +154,7 @@ pub(crate) fn tags_at(dump: &[u8], g: Geometry, n: PageNumber) -> Tags
 }
 
 // What the tags of page n say; a page that is not in the dump says nothing, as a blank one.
+#[tactic(auto, unfolding(crate::specs::Tags::claim_at, crate::specs::Tags::claim_on))]
 pub fn claim_at(dump: &[u8], g: Geometry, n: PageNumber) -> Claim
     ensures { result ≡ claim_at g dump.now n.0 }
 {
@@ -168,11 +165,9 @@ pub fn claim_at(dump: &[u8], g: Geometry, n: PageNumber) -> Claim
 }
 
 // Whether the tags of page n name object o, by their object word alone: a page of which they do not is no record of it.
+#[tactic(auto, unfolding(crate::specs::Tags::names_at))]
 pub fn names_object(dump: &[u8], g: Geometry, n: PageNumber, o: ObjectId) -> bool
     ensures { result ≡ names_at g dump.now n.0 o.0 }
 {
-    if !g.holds(dump.len(), n) {
-        return false;
-    }
-    tags_at(dump, g, n).object % Tags::IDS == o.0
+    g.holds(dump.len(), n) && tags_at(dump, g, n).object % Tags::IDS == o.0
 }

@@ -1,6 +1,7 @@
 -- The records of an accepted dump: there are fewer pages than page numbers; an object with a record has an id; and data have their bounds, also where only
 -- some records are taken, since a page then says what it says itself, or nothing.
 use Prim.Native.Nat.{ℕ, ◌≤◌, ◌<◌}
+use Rattle.std.specs.Prelude.{Ok}
 use mathlib.Core.Bool.{false, true}
 use mathlib.Core.List.{List}
 use mathlib.Core.Logic.{⊎_elim}
@@ -11,7 +12,6 @@ use Rattle.page.specs.Lengths.{opened_of}
 use Rattle.page.specs.Numbers.{bad_object}
 use Rattle.page.specs.Records.{record_at, is_data}
 use Rattle.page.specs.declared.geometry.Geometry.{Geometry}
-use Rattle.page.specs.declared.geometry.Opened.TheVariants as opened
 use Rattle.page.specs.declared.record.Data as «data»
 use Rattle.page.specs.declared.record.Record.{Record}
 use Rattle.page.specs.declared.record.Record.TheVariants.{Other, Header, Data}
@@ -27,7 +27,7 @@ use Rattle.records.proofs.Writing.{written_at}
 
 module _ (g : Geometry) (dump : List ℕ) where
   -- no more pages than a word has values
-  pub opened_few : (n : ℕ) → opened_of g (length dump) ≡ opened.Pages n → n ≤ 4294967296
+  pub opened_few : (n : ℕ) → opened_of g (length dump) ≡ Ok n → n ≤ 4294967296
   opened_few n e = omega (arith, opened_pages g (length dump) n e)
 
   -- a page that is taken as a record of the object is one

@@ -1,6 +1,8 @@
 -- The file of an object record by record. A size lookup that sees the first i records of the object and no other answers what following these one by one
 -- comes to: one that sees one less answers so, and the record that it does not see is newer than those before it.
 use Prim.Native.Nat.{ℕ, zero, suc, ◌+◌, ◌≤◌, ◌<◌}
+use Rattle.std.specs.Prelude.{Result, Err}
+use Rattle.page.specs.declared.refusal.Refusal.{Refusal}
 use mathlib.Core.Bool.{true, false}
 use mathlib.Core.List.{List}
 use mathlib.Core.Logic.{inl, inr}
@@ -24,14 +26,12 @@ use Rattle.chunk.proofs.Meaning.{where_none_is}
 use Rattle.records.specs.Histories.{answer_of, sized_after}
 use Rattle.records.specs.Steps.{after_with, followed}
 use Rattle.records.specs.Written.{page_of, said_at, is_record, written, page_at}
-use Rattle.records.specs.declared.history.After.{After}
-use Rattle.records.specs.declared.history.After.TheVariants.{Refused}
 use Rattle.records.proofs.Growing.{state_by, state_of, sized_state, Agree, one_more}
 use Rattle.records.proofs.Writing.{either, Placed, written_at, written_place, written_rises, written_order}
 
 -- before the first record, and with one more
 module _ (says : ℕ → Record) (P : ℕ) (ages : List ℕ) where
-  pub follow_begin : followed says P ages 0 ≡ Refused NoHeader
+  pub follow_begin : followed says P ages 0 ≡ Err NoHeader
   unfolding followed
   follow_begin = refl
 
@@ -41,7 +41,7 @@ module _ (says : ℕ → Record) (P : ℕ) (ages : List ℕ) where
 
   -- as a loop takes it
   pub follow_turn :
-      (a b : After) (i p : ℕ) (r : Record) → a ≡ followed says P ages i → p ≡ page_of (get_or ages i 0) → r ≡ says p → b ≡ after_with P a p r →
+      (a b : Result ℕ Refusal) (i p : ℕ) (r : Record) → a ≡ followed says P ages i → p ≡ page_of (get_or ages i 0) → r ≡ says p → b ≡ after_with P a p r →
       b ≡ followed says P ages (i + 1)
   follow_turn a b i p r f h l m = m ∙ rw (f, l, h, add-one) (sym (follow_next i))
 
@@ -140,7 +140,7 @@ module _ (says : ℕ → Record) (P o n : ℕ) (few : n ≤ 4294967296) where
   state_followed (suc i) S h v =
       let w = sees_before i h in
       with-last i h S (seen_by (Older (age i)) says) v w
-      ∙ ap (λ (a : After). after_with P a (page_at says o n i) (says (page_at says o n i))) (state_followed i (seen_by (Older (age i)) says) (omega arith) w)
+      ∙ ap (λ (a : Result ℕ Refusal). after_with P a (page_at says o n i) (says (page_at says o n i))) (state_followed i (seen_by (Older (age i)) says) (omega arith) w)
       ∙ sym (follow_next says P (written says o n) i)
 
   -- what a size lookup answers of such a reading, which sees a record

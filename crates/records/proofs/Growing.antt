@@ -1,9 +1,10 @@
 -- What a file is, and what one record more makes of it, where that is newer than the others: a header is then the newest, behind which no data is, and
 -- data is one end more.
 use Prim.Native.Nat.{ℕ, zero, suc, ◌≤◌, ◌<◌, max}
+use Rattle.std.specs.Prelude.{Result, Ok, Err, Option, Some, None}
+use Rattle.page.specs.declared.refusal.Refusal.{Refusal}
 use mathlib.Core.Bool.{Bool, true, false, ◌&&◌}
 use mathlib.Core.Logic.{◌⊎◌, inl, inr, ⊎_elim}
-use mathlib.Core.Option.{Option, none, some}
 use mathlib.Core.Path.{◌≡◌, refl, sym, ap, ◌∙◌}
 use native.Mathlib.Nat.{le_refl, le_of_suc-le-suc, eq-or-lt_of_le}
 use native.Mathlib.Omega.{arith}
@@ -26,8 +27,6 @@ use Rattle.chunk.proofs.Gathering.{end_none, end_suc}
 use Rattle.chunk.proofs.Meaning.{where_is, where_none_is, where_found, where_missing}
 use Rattle.records.specs.Histories.{answer_of}
 use Rattle.records.specs.Steps.{begun_by, grown_to, after_with}
-use Rattle.records.specs.declared.history.After.{After}
-use Rattle.records.specs.declared.history.After.TheVariants.{Size, Refused}
 
 -- no test holds together with one that fails
 and_no : (b : Bool) → b && false ≡ false
@@ -37,8 +36,8 @@ and_no false = refl
 -- ---- the answer, by the newest header
 
 -- what an object is whose newest header says k, as a file of a size
-abbrev pub filed : Record → (size : ℕ) → After
-filed k z = pick (is_gone k) (Refused Deleted) (pick (is_file k) (Size z) (Refused NotAFile))
+abbrev pub filed : Record → (size : ℕ) → Result ℕ Refusal
+filed k z = pick (is_gone k) (Err Deleted) (pick (is_file k) (Ok z) (Err NotAFile))
 
 -- what is begun by a header, and grows
 begun_filed : (k : Record) (h v : ℕ) → begun_by k (file_at k h v) ≡ filed k (file_size k)
@@ -50,11 +49,11 @@ grown_filed end k z = by_test (is_gone k) _ (λ t. rw t) (λ t. by_test (is_file
 
 module _ (P o n : ℕ) where
   -- by the newest header, if there is one
-  abbrev pub state_by : (says : ℕ → Record) → Option ℕ → After
-  state_by says none = Refused NoHeader
-  state_by says (some h) = filed (says h) (size_of says P o h n)
+  abbrev pub state_by : (says : ℕ → Record) → Option ℕ → Result ℕ Refusal
+  state_by says None = Err NoHeader
+  state_by says (Some h) = filed (says h) (size_of says P o h n)
 
-  abbrev pub state_of : (says : ℕ → Record) → After
+  abbrev pub state_of : (says : ℕ → Record) → Result ℕ Refusal
   state_of says = state_by says (newest_header says o n)
 
   -- a size lookup of a header answers so
@@ -65,8 +64,8 @@ module _ (P o n : ℕ) where
   -- and so of the newest header, if there is one
   state_by_lem : (says : ℕ → Record) (r : Option ℕ) → answer_of (sized_by says o n P (file_by says o n r)) ≡ state_by says r
   unfolding file_by sized_by
-  state_by_lem says none = refl
-  state_by_lem says (some h) = filed_answer says (says h) h _
+  state_by_lem says None = refl
+  state_by_lem says (Some h) = filed_answer says (says h) h _
 
   -- a size lookup answers it, where the object has a record
   pub sized_state : (says : ℕ → Record) → bad_object o ≡ false → (records says o n ≡ 0 → ⊥) → answer_of (sized_of says o n P) ≡ state_of says
@@ -85,10 +84,10 @@ module _ (P o n : ℕ) where
     newest_same test few agree = go (newest T test n) refl
       where
         go : (r : Option ℕ) → newest T test n ≡ r → newest S test n ≡ r
-        go none e =
+        go None e =
             where_none_is S (λ q. test (S q)) n
             (λ q h. ⊎_elim (λ (k : S q ≡ T q). rw k (where_missing T (λ i. test (T i)) n e q h)) (λ k. k.0) (agree q h))
-        go (some p) e =
+        go (Some p) e =
             let f = where_found T (λ q. test (T q)) n p e in
             ⊎_elim
             (λ (k : S p ≡ T p).
@@ -175,8 +174,8 @@ module _ (P o n : ℕ) where
       -- data is one end more
       grown : (d : datum.Data) → S p ≡ Data d → (r : Option ℕ) → newest_header T o n ≡ r → state_by S r ≡ grown_to (end_of P (S p)) (state_by T r)
       unfolding size_of
-      grown d e none f = refl
-      grown d e (some h) f =
+      grown d e None f = refl
+      grown d e (Some h) f =
           let w = where_found T (λ q. header_of o (T q)) n h f in
           let t : is_of o (T h) ≡ true = and_left (is_of o (T h)) _ w.passes in
           let ne : h ≡ p → ⊥ = λ (k : h ≡ p). let z : true ≡ false = sym t ∙ rw k gone in clash (cc) in
@@ -200,7 +199,7 @@ module _ (P o n : ℕ) where
       begun : is_header (S p) ≡ true → state_of S ≡ filed (S p) (file_size (S p))
       unfolding size_of
       begun t =
-          let w : newest_header S o n ≡ some p =
+          let w : newest_header S o n ≡ Some p =
           where_is S (λ q. header_of o (S q)) n p record { below = inside; passes = rw (here, t); newest = λ q h u. last q h (and_left (is_of o (S q)) _ u) } few in
           let none-newer : data_end S P o (age_of S p) n ≡ 0 =
           end_nothing S (age_of S p) n

@@ -2,9 +2,9 @@
 -- the list as it does by the rules; and a cut is known by the places that it hides. So from a record on the lowest cut is that of the newer headers,
 -- and where its word is at or below a place, the last record whose word still is has cut there, and none behind it does.
 use Prim.Native.Nat.{ℕ, zero, suc, ◌+◌, ◌-◌, ◌≤◌, ◌<◌}
+use Rattle.std.specs.Prelude.{None, Some}
 use mathlib.Core.Bool.{Bool, true, false, not, ◌&&◌}
 use mathlib.Core.List.{List, [], ◌∷◌}
-use mathlib.Core.Option.{none, some}
 use mathlib.Core.Path.{◌≡◌, refl, sym, ap, ◌∙◌}
 use native.Mathlib.Nat.{le_refl, not-suc-le-zero, le_of_suc-le-suc}
 use native.Mathlib.Omega.{arith}
@@ -20,7 +20,6 @@ use Rattle.sort.specs.Search.{Parted}
 use Rattle.chunk.specs.Cuts.{cut_of, lowest_cut, hides}
 use Rattle.chunk.specs.Newest.{newest_header}
 use Rattle.chunk.specs.Records.{age_of, is_of, header_of}
-use Rattle.chunk.specs.declared.cut.Cut.TheVariants.{Nowhere}
 use Rattle.chunk.proofs.Cuts.{lower_hides, lower_still, lower_leaves}
 use Rattle.chunk.proofs.Meaning.{newest_found, newest_missing, lowest_cut_hides, hides_lowest_cut}
 use Rattle.why.specs.Reasons.{cuts_at, cutter}
@@ -133,7 +132,7 @@ module _ (says : ℕ → Record) (o n : ℕ) (few : n ≤ 4294967296) where
   its_header p t = and_left (is_of o (says p)) (is_header (says p)) t
 
   -- a header that no newer one follows is the newest, and no other is
-  module _ (h : ℕ) (e : newest_header says o n ≡ some h) where
+  module _ (h : ℕ) (e : newest_header says o n ≡ Some h) where
     -- no newer one follows: it is the newest
     last_header : (j : ℕ) → j < length ages → header_at j ≡ true → headless says (drop (suc j) ages) ≡ true → eqb (page_at says o n j) h ≡ true
     last_header j k t u =
@@ -143,7 +142,7 @@ module _ (says : ℕ → Record) (o n : ℕ) (few : n ≤ 4294967296) where
         (λ m b i. no_header o (says (page_at says o n m)) (behind m b i)))
         ∙ e))
       where
-        same : some (page_at says o n j) ≡ some h → page_at says o n j ≡ h
+        same : Some (page_at says o n j) ≡ Some h → page_at says o n j ≡ h
         same q = cc
 
         behind : (m : ℕ) → j < m → m < length ages → header_at m ≡ false
@@ -270,7 +269,7 @@ module _ (says : ℕ → Record) (o n : ℕ) (few : n ≤ 4294967296) where
       test-own p b t = its_header p (and_left (header_of o (says p)) _ (and_left (cuts_at says P o n h place p) _ t))
 
       -- where the word of a record is above it, no newer header cuts there
-      pub none_cuts : place < cut_word (low_of says (drop i ages)) → cutter says P o n h (page_at says o n i) place ≡ none
+      pub none_cuts : place < cut_word (low_of says (drop i ages)) → cutter says P o n h (page_at says o n i) place ≡ None
       unfolding cutter
       none_cuts l =
           none_newest says o n few test test-own
@@ -300,7 +299,7 @@ module _ (says : ℕ → Record) (o n : ℕ) (few : n ≤ 4294967296) where
 
         pub last_cuts :
             place < nowhere → cut_word (low_of says (drop i ages)) ≤ place → header_at i ≡ false →
-            (0 < m) × (m ≤ length ages - i) × (cutter says P o n h (page_at says o n i) place ≡ some (page_at says o n (i + (m - 1))))
+            (0 < m) × (m ≤ length ages - i) × (cutter says P o n h (page_at says o n i) place ≡ Some (page_at says o n (i + (m - 1))))
         unfolding cutter
         last_cuts small low t =
             let inside : m ≤ length ages - i = omega (arith, w.inside, length-drop i (lows_of says ages), lows_length says ages) in
@@ -333,7 +332,7 @@ module _ (says : ℕ → Record) (o n : ℕ) (few : n ≤ 4294967296) where
             )
 
   -- an object without a header is cut nowhere
-  pub low_headless : newest_header says o n ≡ none → (i : ℕ) → low_of says (drop i ages) ≡ Nowhere
+  pub low_headless : newest_header says o n ≡ None → (i : ℕ) → low_of says (drop i ages) ≡ None
   low_headless e i =
       cut_same _ _ (λ place. same_test _ _ (λ t. low_hider says (drop i ages) place _ t (λ m w. absurd (never place m w))) (λ t. clash (cc)))
     where

@@ -1,42 +1,46 @@
 -- How the newest copy of a chunk stands: by the newest later header that cuts it, or, where none does, by the lookup of its chunk. The lookup and the size
 -- lookup go by the same file, and the lowest cut behind the copy is that of the newer headers.
-use Prim.Native.Nat.{ℕ, ◌+◌, ◌-◌, ◌≤◌, ◌<◌, min}
+use Prim.Native.Nat.{ℕ, ◌+◌, ◌-◌, ◌≤◌, ◌<◌, ◌^◌, min}
+use Rattle.std.specs.Prelude.{Result, Ok, Err, Option, Some, None}
 use mathlib.Core.Bool.{false}
 use mathlib.Core.List.{List}
-use mathlib.Core.Option.{Option, none, some}
 use mathlib.Core.Path.{◌≡◌, refl, sym, ap, ◌∙◌}
 use native.Mathlib.Omega.{arith}
 use borrow.Author.Tests.{leb-true, leb-false, le-leb, lt-leb}
 use lib.Dec.{eqb, leb}
 use lib.ListN.{length, get_or, drop}
+use Rattle.page.specs.Lengths.{opened_of}
 use Rattle.page.specs.Numbers.{bad_object, bad_chunk}
-use Rattle.page.specs.Records.{is_header}
+use Rattle.page.specs.Records.{is_header, record_at}
+use Rattle.page.specs.declared.geometry.Geometry.{Geometry}
 use Rattle.page.specs.declared.record.Data as «data»
 use Rattle.page.specs.declared.record.Record.{Record}
 use Rattle.page.specs.declared.record.Record.TheVariants.{Data}
 use Rattle.page.specs.declared.refusal.Refusal.{Refusal}
 use Rattle.page.specs.declared.refusal.Refusal.TheVariants.{BadObject}
+use Rattle.page.proofs.Layouts.{listed_data}
+use Rattle.page.proofs.Lengths.{opened_facts}
 use Rattle.page.proofs.Searching.{by_test}
+use Rattle.page.proofs.Within.{chunk_good}
 use Rattle.sort.specs.Search.{Sorted, Parted}
 use Rattle.chunk.specs.Cuts.{lowest_cut, hides, leaves}
 use Rattle.chunk.specs.Lookups.{shown_of, valid_of, file_of, sized_by, sized_of, looked_by, looked_of}
 use Rattle.chunk.specs.Newest.{newest_header, newest_copy, records}
 use Rattle.chunk.specs.Records.{age_of, base_of}
 use Rattle.chunk.specs.Sizes.{size_of}
+use Rattle.chunk.specs.Takes.{seen_by}
+use Rattle.chunk.specs.declared.takes.Takes.{Takes}
 use Rattle.chunk.specs.Visits.{headed, visits}
-use Rattle.chunk.specs.declared.answer.File.TheVariants as file
-use Rattle.chunk.specs.declared.cut.Cut as cuts
-use Rattle.chunk.specs.declared.cut.Cut.TheVariants.{At}
+use Rattle.chunk.specs.File as file
 use Rattle.chunk.proofs.Cases.{file_cases, file_headless, file_headed, sized_refused, sized_file, size_bad, size_by_file, looked_refused, looked_past, looked_inside, copy_shown, chunk_bad_object, chunk_by_file}
 use Rattle.records.specs.Held.{held_bytes, held_in}
 use Rattle.records.specs.Histories.{answer_of}
 use Rattle.records.specs.Lows.{nowhere, cut_word, low_of, lows_of}
 use Rattle.records.specs.Standings.{held_by, cut_by, copy_stands}
 use Rattle.records.specs.Written.{written, page_at}
-use Rattle.records.specs.declared.history.After.{After}
-use Rattle.records.specs.declared.history.After.TheVariants as after
 use Rattle.records.specs.declared.standing.Standing.{Standing}
 use Rattle.records.specs.declared.standing.Standing.TheVariants.{Cut, Holds, NoFile}
+use Rattle.records.proofs.Accepted.{opened_few, seen_within}
 use Rattle.records.proofs.Hiding.{low_past, low_later, low_headless, none_cuts, last_cuts}
 use Rattle.records.proofs.Last.{rest_some, rest_first}
 use Rattle.records.proofs.Lowering.{word_shows, word_leaves, lows_length, lows_drop, lows_at, lows_sorted}
@@ -44,26 +48,23 @@ use Rattle.records.proofs.Writing.{written_length, written_at}
 
 -- by what the file is: none, one that ends before the chunk, and one that does not
 module _ (P low : ℕ) (d : «data».Data) where
-  pub held_refused : (r : Refusal) → held_in P (after.Refused r) low d ≡ NoFile
+  pub held_refused : (r : Refusal) → held_in P (Err r) low d ≡ NoFile
   unfolding held_in
   held_refused r = refl
 
-  pub held_past : (z : ℕ) → z ≤ base_of P d.chunk.0 → held_in P (after.Size z) low d ≡ NoFile
+  pub held_past : (z : ℕ) → z ≤ base_of P d.chunk.0 → held_in P (Ok z) low d ≡ NoFile
   unfolding held_in
   held_past z h = rw (le-leb _ _ h)
 
-  pub held_inside : (z : ℕ) → base_of P d.chunk.0 < z → held_in P (after.Size z) low d ≡ Holds d.chunk (held_bytes P z low d.chunk.0 d.count)
+  pub held_inside : (z : ℕ) → base_of P d.chunk.0 < z → held_in P (Ok z) low d ≡ Holds d.chunk (held_bytes P z low d.chunk.0 d.count)
   unfolding held_in
   held_inside z h = rw (lt-leb _ _ h)
 
   -- the same as the code has it
-  module _ (a : After) (z base : ℕ) (e : a ≡ after.Size z) (b : base ≡ base_of P d.chunk.0) where
-    pub held_nothing : z ≤ base → NoFile ≡ held_in P a low d
-    held_nothing h = rw e (sym (held_past z (rw (← b) h)))
-
-    pub held_something :
-        (shown valid : ℕ) → base < z → shown ≡ min P (z - base) → valid ≡ min d.count (leaves (At low) base shown) → Holds d.chunk valid ≡ held_in P a low d
-    held_something shown valid h s v = rw (e, held_inside z (rw (← b) h), v, s, b)
+  pub held_something :
+      (a : Result ℕ Refusal) (z base shown valid : ℕ) → a ≡ Ok z → base ≡ base_of P d.chunk.0 → base < z → shown ≡ min P (z - base) →
+      valid ≡ min d.count (leaves (Some low) base shown) → Holds d.chunk valid ≡ held_in P a low d
+  held_something a z base shown valid e b h s v = rw (e, held_inside z (rw (← b) h), v, s, b)
 
 -- the words from a record on: the first is its own, and they ascend
 module _ (says : ℕ → Record) (ages : List ℕ) (i : ℕ) (k : i < length ages) (lows : List ℕ) (e : lows ≡ drop i (lows_of says ages)) where
@@ -82,9 +83,26 @@ pub record NewestAt (says : ℕ → Record) (P o n i : ℕ) (d : «data».Data) 
   pub few : n ≤ 4294967296
   pub inside : i < length (written says o n)
   pub said : says (page_at says o n i) ≡ Data d
-  pub newest : newest_copy says o d.chunk.0 n ≡ some (page_at says o n i)
+  pub newest : newest_copy says o d.chunk.0 n ≡ Some (page_at says o n i)
   pub number : bad_chunk d.chunk.0 ≡ false
   pub short : base_of P d.chunk.0 + P < nowhere
+
+-- of an accepted dump, where the begin of the chunk is told as the word that it is
+module _ (g : Geometry) (dump : List ℕ) (t : Takes) (o n i : ℕ) (d : «data».Data) {base : ℕ} where
+  pub newest_at :
+      let says = seen_by t (record_at g dump) in
+      opened_of g (length dump) ≡ Ok n → i < length (written says o n) → says (page_at says o n i) ≡ Data d →
+      newest_copy says o d.chunk.0 n ≡ Some (page_at says o n i) → base ≡ base_of g.layout.«data» d.chunk.0 → base + 2 ^ 32 < 2 ^ 64 →
+      NewestAt says g.layout.«data» o n i d
+  newest_at accepted inside said newest value bound =
+      record {
+        few = opened_few g dump n accepted;
+        inside = inside;
+        said = said;
+        newest = newest;
+        number = chunk_good d.chunk.0 (seen_within g dump t _ d said).chunk;
+        short = omega (arith, value, bound, listed_data g.layout (opened_facts g (length dump) n accepted).listed);
+      }
 
 -- how it stands
 abbrev pub stands_at : (says : ℕ → Record) (P o n i : ℕ) (d : «data».Data) → Standing
@@ -117,7 +135,7 @@ module _ {says : ℕ → Record} {P o n i : ℕ} {d : «data».Data} (c : Newest
   no_header = rw c.said
 
   -- the lowest later cut of a file with a newest header
-  low_cut : (h : ℕ) → newest_header says o n ≡ some h → low_of says (drop i ages) ≡ lowest_cut says o h (age_of says page) n
+  low_cut : (h : ℕ) → newest_header says o n ≡ Some h → low_of says (drop i ages) ≡ lowest_cut says o h (age_of says page) n
   low_cut h e =
       low_past says ages i c.inside no_header
       ∙ rw (written_at says o n c.few i c.inside).age (low_later says o n c.few h e i c.inside)
@@ -127,8 +145,8 @@ module _ {says : ℕ → Record} {P o n i : ℕ} {d : «data».Data} (c : Newest
   by_refusal r v = rw (sized_refused says o n P r v, looked_refused says o n P chunk r v) (held_refused P low d r)
 
   -- a file with newest header h
-  module _ (h : ℕ) (e : newest_header says o n ≡ some h) (l : base < low) where
-    abbrev cut : cuts.Cut
+  module _ (h : ℕ) (e : newest_header says o n ≡ Some h) (l : base < low) where
+    abbrev cut : Option ℕ
     cut = lowest_cut says o h (age_of says page) n
 
     abbrev z : ℕ
@@ -168,9 +186,9 @@ module _ {says : ℕ → Record} {P o n i : ℕ} {d : «data».Data} (c : Newest
       by-newest :
           (r : Option ℕ) → newest_header says o n ≡ r →
           held_in P (answer_of (sized_by says o n P (file_of says o n))) low d ≡ held_by chunk (looked_by says o n P chunk (file_of says o n))
-      by-newest none e =
+      by-newest None e =
           rw (file_headless says o n e) (by_test (eqb (records says o n) 0) _ (λ t. rw t (by_refusal _ _)) (λ t. rw t (by_refusal _ _)))
-      by-newest (some h) e =
+      by-newest (Some h) e =
           let any : records says o n ≡ 0 → ⊥ = λ q. omega (arith, q, c.inside, written_length says o n) in
           rw (file_headed says o n h any e)
           (file_cases (says h) h (visits says o n (headed h))
@@ -179,21 +197,21 @@ module _ {says : ℕ → Record} {P o n i : ℕ} {d : «data».Data} (c : Newest
           (by-header h e l (visits says o n (headed h))))
 
   -- whatever the size is told by, and the word
-  pub stands_held : {a : After} {word : ℕ} → a ≡ answer_of (sized_of says o n P) → word ≡ low → base < word → held_in P a word d ≡ stands_at says P o n i d
+  pub stands_held : {a : Result ℕ Refusal} {word : ℕ} → a ≡ answer_of (sized_of says o n P) → word ≡ low → base < word → held_in P a word d ≡ stands_at says P o n i d
   stands_held q w l =
       let b : base < low = rw w at l in
       rw (q, w) (held_looked b ∙ by-newest b (newest_header says o n) refl)
     where
       by-newest : base < low → (r : Option ℕ) → newest_header says o n ≡ r → held_by chunk (looked_of says o n P chunk) ≡ copy_stands says P o n chunk (cut_by says P o n page chunk r)
-      by-newest b none e = refl
-      by-newest b (some h) e = rw (none_cuts says o n c.few h e P i c.inside base b)
+      by-newest b None e = refl
+      by-newest b (Some h) e = rw (none_cuts says o n c.few h e P i c.inside base b)
 
   -- and where its word is not above its begin, the last such word is that of the header that cuts it
   pub stands_cut : (m : ℕ) → Parted (base + 1) (drop i (lows_of says ages)) m → low ≤ base → Hidden says P o n i d m
   stands_cut m w l = by-newest (newest_header says o n) refl
     where
       by-newest : (r : Option ℕ) → newest_header says o n ≡ r → Hidden says P o n i d m
-      by-newest none e = let z : low ≡ nowhere = rw (low_headless says o n c.few e i) in absurd (omega (arith, c.short))
-      by-newest (some h) e =
+      by-newest None e = let z : low ≡ nowhere = rw (low_headless says o n c.few e i) in absurd (omega (arith, c.short))
+      by-newest (Some h) e =
           let k = last_cuts says o n c.few h e P i c.inside base m w (omega (arith, c.short)) l no_header in
           record { some_words = k.0; inside = k.1; is_cut = rw (e, k.2) }

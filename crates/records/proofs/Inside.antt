@@ -1,9 +1,9 @@
 -- In a live file a newest copy that no later header cuts is what the lookup of its chunk answers. It begins inside the size: if it is newer than the
 -- newest header, it ends within the size; and else that header cuts at its own file size, which is then behind the begin.
 use Prim.Native.Nat.{ℕ, zero, suc, ◌≤◌, ◌<◌}
+use Rattle.std.specs.Prelude.{Option, Some, None, Ok, Err}
 use mathlib.Core.Bool.{true, false, ◌&&◌}
 use mathlib.Core.Logic.{⊎_elim}
-use mathlib.Core.Option.{Option, none, some}
 use mathlib.Core.Path.{◌≡◌, refl, ap, ◌∙◌}
 use native.Mathlib.Nat.{not-suc-le-zero, le_of_suc-le-suc, eq-or-lt_of_le, le_trans, le-max_left, le-max_right}
 use native.Mathlib.Omega.{arith}
@@ -21,10 +21,9 @@ use Rattle.chunk.specs.Lookups.{file_of, shown_of, valid_of, copy_at, copy_by, c
 use Rattle.chunk.specs.Newest.{newest_copy}
 use Rattle.chunk.specs.Records.{age_of, is_of, header_of, data_of, chunk_of, count_of, file_size, is_gone, is_file, base_of}
 use Rattle.chunk.specs.Sizes.{end_of, data_end, size_of}
-use Rattle.chunk.specs.declared.answer.File.{File}
-use Rattle.chunk.specs.declared.answer.File.TheVariants as file
-use Rattle.chunk.specs.declared.answer.Looked.TheVariants as looked
-use Rattle.chunk.specs.declared.cut.Cut.TheVariants.{At}
+use Rattle.chunk.specs.File.{File}
+use Rattle.chunk.specs.File as file
+use Rattle.chunk.specs.Looked as looked
 use Rattle.chunk.proofs.Cases.{size_larger}
 use Rattle.chunk.proofs.Gathering.{end_suc}
 use Rattle.chunk.proofs.Holes.{copy_in_sight}
@@ -38,7 +37,7 @@ no_header (Header r) h d = clash (cc)
 no_header (Data r) h d = clash (cc)
 
 -- the newest header of a live file cuts at its file size
-cut_file : (k : Record) → is_gone k ≡ false → is_file k ≡ true → cut_of true k ≡ At (file_size k)
+cut_file : (k : Record) → is_gone k ≡ false → is_file k ≡ true → cut_of true k ≡ Some (file_size k)
 unfolding cut_of
 cut_file k g f = by_test (is_shrink k) _ (λ t. rw (g, f, t)) (λ t. rw (g, f, t))
 
@@ -93,7 +92,7 @@ module _ (says : ℕ → Record) (o n : ℕ) where
         pub visits : ℕ
         pub looked : looked_of says o n P (chunk_of (says p)) ≡ looked.Copy (record { 0 = p }) valid shown visits
 
-      pub uncut_answered : bad_object o ≡ false → bad_chunk (chunk_of (says p)) ≡ false → newest_copy says o (chunk_of (says p)) n ≡ some p → Answered
+      pub uncut_answered : bad_object o ≡ false → bad_chunk (chunk_of (says p)) ≡ false → newest_copy says o (chunk_of (says p)) n ≡ Some p → Answered
       uncut_answered object number e =
           record { valid = _; shown = _; visits = _; looked = copy_in_sight says o n P (chunk_of (says p)) v h object number live inside p e uncut }
 
@@ -102,7 +101,7 @@ module _ (says : ℕ → Record) (o n : ℕ) where
       pub header : PageNumber
       pub visits : ℕ
       pub live : file_of says o n ≡ file.Header header visits
-      pub copy : newest_copy says o c n ≡ some q
+      pub copy : newest_copy says o c n ≡ Some q
       pub seen : hides (lowest_cut says o header.0 (age_of says q) n) (base_of P c) ≡ false
       pub counted : valid ≤ count_of (says q)
 
@@ -116,18 +115,18 @@ module _ (says : ℕ → Record) (o n : ℕ) where
         by_copy :
             (h : PageNumber) (w shown : ℕ) → file_of says o n ≡ file.Header h w → (r : Option ℕ) → newest_copy says o c n ≡ r →
             copy_by says o n P c h.0 shown r ≡ looked.Copy q a s v → IsFound c q.0 a
-        by_copy h w shown live none i k = clash (cc)
-        by_copy h w shown live (some p) i k =
+        by_copy h w shown live None i k = clash (cc)
+        by_copy h w shown live (Some p) i k =
             pick_cases (hides (lowest_cut says o h.0 (age_of says p) n) (base_of P c)) _ _ _ _ k
             (λ _ j. clash (cc))
             (λ t j.
             let z : p ≡ q.0 = cc in
             let valid : valid_of P c (says p) shown (lowest_cut says o h.0 (age_of says p) n) ≡ a = cc in
-            record { header = h; visits = w; live = live; copy = i ∙ ap some z; seen = rw (← z) t; counted = rw (← z) (omega arith) })
+            record { header = h; visits = w; live = live; copy = i ∙ ap Some z; seen = rw (← z) t; counted = rw (← z) (omega arith) })
 
         by_file : (f : File) → file_of says o n ≡ f → looked_by says o n P c f ≡ looked.Copy q a s v → IsFound c q.0 a
-        by_file (file.Refused r w) live k = clash (cc)
-        by_file (file.Header h w) live k =
-            pick_cases (leb (size_of says P o h.0 n) (base_of P c)) _ _ _ _ k
+        by_file (Err e) live k = clash (cc)
+        by_file (Ok x) live k =
+            pick_cases (leb (size_of says P o x.answer.0 n) (base_of P c)) _ _ _ _ k
             (λ _ j. clash (cc))
-            (λ _ j. by_copy h w (shown_of P c (size_of says P o h.0 n)) live (newest_copy says o c n) refl j)
+            (λ _ j. by_copy x.answer x.visits (shown_of P c (size_of says P o x.answer.0 n)) live (newest_copy says o c n) refl j)

@@ -1,9 +1,9 @@
 -- How a record stands by the last place of its chunk among the rows. That place is of the newest copy of the chunk, or of the newest header: of those
 -- records that pass a test the one with the last place is the newest. A record is that one, or stands before it.
+use Rattle.std.specs.Prelude.{Some}
 use Prim.Native.Nat.{ℕ, ◌+◌, ◌-◌, ◌≤◌, ◌<◌}
 use mathlib.Core.Bool.{true}
 use mathlib.Core.List.{List}
-use mathlib.Core.Option.{some}
 use mathlib.Core.Path.{◌≡◌, refl, sym, ap, ◌∙◌}
 use native.Mathlib.Omega.{arith}
 use borrow.Author.Tests.{eq-eqb, ne_eqb, ltb-true, ltb-false}
@@ -23,7 +23,7 @@ use Rattle.chunk.specs.Records.{age_of, is_of, header_of, chunk_of, is_copy}
 use Rattle.chunk.proofs.Records.{copy_chunk, header_chunk}
 use Rattle.records.specs.Copies.{places_of, HasChunk, LastPlace}
 use Rattle.records.specs.Standings.{cut_by, copy_stands, stands_by, stands_of}
-use Rattle.records.specs.Written.{is_record, written, page_at}
+use Rattle.records.specs.Written.{page_of, is_record, written, page_at}
 use Rattle.records.specs.declared.standing.Standing.TheVariants.{NewestHeader, OlderHeader, Superseded, NoFile}
 use Rattle.records.proofs.Placing.{LastOf, has_chunk, last_of}
 use Rattle.records.proofs.Writing.{records_count, written_length, written_at, written_rises, last_newest}
@@ -36,23 +36,23 @@ module _ (says : ℕ → Record) (P o n p : ℕ) where
   stands_other e = rw e
 
   -- the newest header, and another
-  pub stands_newest : (k : header.Header) → says p ≡ Header k → newest_header says o n ≡ some p → stands_of says P o n p ≡ NewestHeader
+  pub stands_newest : (k : header.Header) → says p ≡ Header k → newest_header says o n ≡ Some p → stands_of says P o n p ≡ NewestHeader
   unfolding stands_by
   stands_newest k e h = rw (e, h, eq-eqb p p refl)
 
-  pub stands_older : (k : header.Header) (q : ℕ) → says p ≡ Header k → newest_header says o n ≡ some q → (q ≡ p → ⊥) → stands_of says P o n p ≡ OlderHeader
+  pub stands_older : (k : header.Header) (q : ℕ) → says p ≡ Header k → newest_header says o n ≡ Some q → (q ≡ p → ⊥) → stands_of says P o n p ≡ OlderHeader
   unfolding stands_by
   stands_older k q e h f = rw (e, h, ne_eqb q p f)
 
   module _ (d : «data».Data) (e : says p ≡ Data d) where
     -- the newest copy of its chunk, and another
     pub stands_copy :
-        newest_copy says o d.chunk.0 n ≡ some p →
+        newest_copy says o d.chunk.0 n ≡ Some p →
         stands_of says P o n p ≡ copy_stands says P o n d.chunk.0 (cut_by says P o n p d.chunk.0 (newest_header says o n))
     unfolding stands_by
     stands_copy h = rw (e, h, eq-eqb p p refl)
 
-    pub stands_superseded : (q : ℕ) → newest_copy says o d.chunk.0 n ≡ some q → (q ≡ p → ⊥) → stands_of says P o n p ≡ Superseded (record { 0 = q })
+    pub stands_superseded : (q : ℕ) → newest_copy says o d.chunk.0 n ≡ Some q → (q ≡ p → ⊥) → stands_of says P o n p ≡ Superseded (record { 0 = q })
     unfolding stands_by
     stands_superseded q h f = rw (e, h, ne_eqb q p f)
 
@@ -65,6 +65,10 @@ module _ (ages rest : List ℕ) (i : ℕ) (e : rest ≡ drop i ages) where
 
   pub rest_first : get_or rest 0 0 ≡ get_or ages i 0
   rest_first = rw (e, get_or-drop i ages 0 0) (ap (λ (k : ℕ). get_or ages k 0) (let z : i + 0 ≡ i = omega arith in z))
+
+  -- which a record is read by
+  pub rest_said : (says : ℕ → Record) {p : ℕ} {r : Record} → p ≡ page_of (get_or rest 0 0) → r ≡ says p → r ≡ says (page_of (get_or ages i 0))
+  rest_said says f h = h ∙ ap says (f ∙ ap page_of rest_first)
 
   -- and those behind it
   pub rest_inside : (q : ℕ) → i < q → q < length ages → q - i < length rest
@@ -109,7 +113,7 @@ module _ (says : ℕ → Record) (o n : ℕ) (few : n < page_values) (chunked : 
   short = written_few says o n few
 
   -- the last place of a chunk has its newest copy
-  last_copy : (c q : ℕ) → (c ≡ 0 → ⊥) → LastOf says ages short c q → newest_copy says o c n ≡ some (at q)
+  last_copy : (c q : ℕ) → (c ≡ 0 → ⊥) → LastOf says ages short c q → newest_copy says o c n ≡ Some (at q)
   last_copy c q s w =
       last_newest says o n pages (λ p. copy_of o c (says p)) (λ p _ t. and_left (is_of o (says p)) _ t) q w.inside
       (rw (written_at says o n pages q w.inside).its (chunk_copy c (says (at q)) s w.its))
@@ -119,7 +123,7 @@ module _ (says : ℕ → Record) (o n : ℕ) (few : n < page_values) (chunked : 
       (λ t. t))
 
   -- and the last place of chunk 0 the newest header
-  last_header : (q : ℕ) → LastOf says ages short 0 q → newest_header says o n ≡ some (at q)
+  last_header : (q : ℕ) → LastOf says ages short 0 q → newest_header says o n ≡ Some (at q)
   last_header q w =
       let r = written_at says o n pages q w.inside in
       last_newest says o n pages (λ p. header_of o (says p)) (λ p _ t. and_left (is_of o (says p)) _ t) q w.inside
@@ -147,7 +151,7 @@ module _ (says : ℕ → Record) (o n : ℕ) (few : n < page_values) (chunked : 
     pub other : r ≡ Other → NoFile ≡ stands_of says P o n (at i)
     pub newest : (h : header.Header) → r ≡ Header h → q ≡ i → NewestHeader ≡ stands_of says P o n (at i)
     pub older : (h : header.Header) → r ≡ Header h → (q ≡ i → ⊥) → OlderHeader ≡ stands_of says P o n (at i)
-    pub copy : (d : «data».Data) → r ≡ Data d → q ≡ i → newest_copy says o d.chunk.0 n ≡ some (at i)
+    pub copy : (d : «data».Data) → r ≡ Data d → q ≡ i → newest_copy says o d.chunk.0 n ≡ Some (at i)
     pub stands :
         (d : «data».Data) → r ≡ Data d → q ≡ i →
         copy_stands says P o n d.chunk.0 (cut_by says P o n (at i) d.chunk.0 (newest_header says o n)) ≡ stands_of says P o n (at i)
@@ -170,14 +174,14 @@ module _ (says : ℕ → Record) (o n : ℕ) (few : n < page_values) (chunked : 
     apart f = let b = after f in pages_apart i q b.0 b.1
 
     -- the record's own place has its own page
-    same : q ≡ i → some (at q) ≡ some (at i)
-    same s = ap (λ (j : ℕ). some (at j)) s
+    same : q ≡ i → Some (at q) ≡ Some (at i)
+    same s = ap (λ (j : ℕ). Some (at j)) s
 
     -- of a header's chunk the last is the newest header, and of data's the newest copy
-    header_at : (h : header.Header) → r ≡ Header h → newest_header says o n ≡ some (at q)
+    header_at : (h : header.Header) → r ≡ Header h → newest_header says o n ≡ Some (at q)
     header_at h k = last_header q (rw (← e, k) at last)
 
-    copy_at : (d : «data».Data) → r ≡ Data d → newest_copy says o d.chunk.0 n ≡ some (at q)
+    copy_at : (d : «data».Data) → r ≡ Data d → newest_copy says o d.chunk.0 n ≡ Some (at q)
     copy_at d k = last_copy d.chunk.0 q (rw (← e, k) at (chunked (at i)) refl) (rw (← e, k) at last)
 
     -- together

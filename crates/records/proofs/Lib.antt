@@ -1,3 +1,5 @@
+-- what closes a definition that goes by tests
+pub mod Tests
 -- records by their ages, and the rows of chunks
 pub mod Writing
 pub mod Placing
@@ -11,14 +13,12 @@ pub mod Inside
 -- what it means, over the definitions alone
 pub mod Meaning
 -- a file record by record
-mod Arms
-mod Steps
 mod Growing
 mod Following
 -- what is answered, and that it is so
 pub mod Accepted
+pub mod Answering
 mod Histories
-mod Answering
 pub mod Recounting
 pub mod Told
 -- computed

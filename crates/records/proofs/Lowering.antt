@@ -1,6 +1,7 @@
 -- The lowest cut of records and those newer, from the newest to the oldest, and what its words say. A cut is known by the places that it hides; its
 -- word is its place, so that the lower of two cuts has no higher word, and the words along the records ascend.
 use Prim.Native.Nat.{ℕ, zero, suc, ◌+◌, ◌-◌, ◌≤◌, ◌<◌}
+use Rattle.std.specs.Prelude.{Option, Some, None}
 use mathlib.Core.Bool.{Bool, true, false}
 use mathlib.Core.List.{List, [], ◌∷◌}
 use mathlib.Core.Path.{◌≡◌, refl, sym, ap, ◌∙◌}
@@ -14,38 +15,36 @@ use Rattle.page.proofs.Searching.{clash}
 use Rattle.sort.specs.Search.{Sorted}
 use Rattle.sort.proofs.Behind.{drop_set_at}
 use Rattle.chunk.specs.Cuts.{lower, hides, leaves}
-use Rattle.chunk.specs.declared.cut.Cut.{Cut}
-use Rattle.chunk.specs.declared.cut.Cut.TheVariants.{At, Nowhere}
 use Rattle.records.specs.Lows.{nowhere, cut_word, headless_with, own_cut, low_with, headless, low_of, lows_of}
 use Rattle.records.specs.Written.{said_at}
 
 -- two cuts that hide the same are the same
-pub cut_same : (a b : Cut) → ((place : ℕ) → hides a place ≡ hides b place) → a ≡ b
-cut_same Nowhere Nowhere h = refl
-cut_same Nowhere (At b) h = let z : false ≡ true = h b ∙ le-leb b b (le_refl b) in clash (cc)
-cut_same (At a) Nowhere h = let z : false ≡ true = sym (h a) ∙ le-leb a a (le_refl a) in clash (cc)
-cut_same (At a) (At b) h =
-    ap At (le_antisymm (leb-true a b (h b ∙ le-leb b b (le_refl b))) (leb-true b a (sym (h a) ∙ le-leb a a (le_refl a))))
+pub cut_same : (a b : Option ℕ) → ((place : ℕ) → hides a place ≡ hides b place) → a ≡ b
+cut_same None None h = refl
+cut_same None (Some b) h = let z : false ≡ true = h b ∙ le-leb b b (le_refl b) in clash (cc)
+cut_same (Some a) None h = let z : false ≡ true = sym (h a) ∙ le-leb a a (le_refl a) in clash (cc)
+cut_same (Some a) (Some b) h =
+    ap Some (le_antisymm (leb-true a b (h b ∙ le-leb b b (le_refl b))) (leb-true b a (sym (h a) ∙ le-leb a a (le_refl a))))
 
 -- a cut whose word is at or below a place, which is not the last word, hides it, and another does not
-pub word_hides : (a : Cut) (place : ℕ) → place < nowhere → cut_word a ≤ place → hides a place ≡ true
-word_hides Nowhere place h k = absurd (omega arith)
-word_hides (At a) place h k = le-leb a place (omega arith)
+pub word_hides : (a : Option ℕ) (place : ℕ) → place < nowhere → cut_word a ≤ place → hides a place ≡ true
+word_hides None place h k = absurd (omega arith)
+word_hides (Some a) place h k = le-leb a place (omega arith)
 
-pub word_shows : (a : Cut) (place : ℕ) → place < cut_word a → hides a place ≡ false
-word_shows Nowhere place h = refl
-word_shows (At a) place h = lt-leb a place (omega arith)
+pub word_shows : (a : Option ℕ) (place : ℕ) → place < cut_word a → hides a place ≡ false
+word_shows None place h = refl
+word_shows (Some a) place h = lt-leb a place (omega arith)
 
 -- its word leaves as many bytes as it does, where they end before the last word
-pub word_leaves : (a : Cut) (place bytes : ℕ) → place + bytes ≤ nowhere → leaves (At (cut_word a)) place bytes ≡ leaves a place bytes
-word_leaves Nowhere place bytes h = omega arith
-word_leaves (At a) place bytes h = omega arith
+pub word_leaves : (a : Option ℕ) (place bytes : ℕ) → place + bytes ≤ nowhere → leaves (Some (cut_word a)) place bytes ≡ leaves a place bytes
+word_leaves None place bytes h = omega arith
+word_leaves (Some a) place bytes h = omega arith
 
 -- the lower of two cuts has no higher word than the second
-pub word_lower : (a b : Cut) → cut_word (lower a b) ≤ cut_word b
-word_lower Nowhere b = le_refl _
-word_lower (At a) Nowhere = omega arith
-word_lower (At a) (At b) = omega arith
+pub word_lower : (a b : Option ℕ) → cut_word (lower a b) ≤ cut_word b
+word_lower None b = le_refl _
+word_lower (Some a) None = omega arith
+word_lower (Some a) (Some b) = omega arith
 
 module _ (says : ℕ → Record) where
   -- no record, and one more
@@ -57,7 +56,7 @@ module _ (says : ℕ → Record) where
   unfolding headless
   headless_one a newer = refl
 
-  pub low_none : low_of says [] ≡ Nowhere
+  pub low_none : low_of says [] ≡ None
   unfolding low_of
   low_none = refl
 
@@ -112,7 +111,7 @@ module _ (says : ℕ → Record) where
   lows_sorted ages = record { rise = λ i j h k. lows_rise ages i j h (rw (lows_length ages) at k) }
 
   -- the words from place i on are filled: the cut and whether no header was met are those from there on
-  pub record Lowered (ages words : List ℕ) (cut : Cut) (newest : Bool) (i : ℕ) : Type 0 where
+  pub record Lowered (ages words : List ℕ) (cut : Option ℕ) (newest : Bool) (i : ℕ) : Type 0 where
     pub inside : i ≤ length ages
     pub long : length words ≡ length ages
     pub low : cut ≡ low_of says (drop i ages)
@@ -120,7 +119,7 @@ module _ (says : ℕ → Record) where
     pub filled : drop i words ≡ lows_of says (drop i ages)
 
   -- none of them
-  pub lowered_none : (ages words : List ℕ) → length words ≡ length ages → Lowered ages words Nowhere true (length ages)
+  pub lowered_none : (ages words : List ℕ) → length words ≡ length ages → Lowered ages words None true (length ages)
   lowered_none ages words e = record {
     inside = le_refl _;
     long = e;
@@ -130,9 +129,9 @@ module _ (says : ℕ → Record) where
   }
 
 -- one more, on a page that says k; and all
-module _ {says : ℕ → Record} {ages words : List ℕ} {cut : Cut} {newest : Bool} {i : ℕ} (w : Lowered says ages words cut newest i) where
+module _ {says : ℕ → Record} {ages words : List ℕ} {cut : Option ℕ} {newest : Bool} {i : ℕ} (w : Lowered says ages words cut newest i) where
   pub lowered_one :
-      {low : Cut} {still : Bool} {word : ℕ} (k : Record) → 0 < i →
+      {low : Option ℕ} {still : Bool} {word : ℕ} (k : Record) → 0 < i →
       k ≡ said_at says (get_or ages (i - 1) 0) → low ≡ low_with newest k cut → still ≡ headless_with k newest → word ≡ cut_word low →
       Lowered says ages (set words (i - 1) word) low still (i - 1)
   lowered_one {low} {still} {word} k h e l u x =

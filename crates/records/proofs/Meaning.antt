@@ -4,9 +4,9 @@
 -- cut by the newest of the later headers that cut at or below the begin of its chunk; otherwise it is what the lookup of the chunk answers, or the
 -- object is no live file.
 use Prim.Native.Nat.{ℕ, ◌≤◌, ◌<◌}
+use Rattle.std.specs.Prelude.{Option, Some, None, Ok, Err}
 use mathlib.Core.Bool.{true, false}
 use mathlib.Core.Logic.{⊎_elim}
-use mathlib.Core.Option.{Option, none, some}
 use mathlib.Core.Path.{◌≡◌, refl, sym, ap, ◌∙◌}
 use native.Mathlib.Nat.{eq-or-lt_of_le}
 use native.Mathlib.Omega.{arith}
@@ -27,11 +27,10 @@ use Rattle.chunk.specs.Live.{is_at}
 use Rattle.chunk.specs.Lookups.{file_of, sized_by, sized_of, looked_by, looked_of}
 use Rattle.chunk.specs.Newest.{copy_of, newest_header, newest_copy}
 use Rattle.chunk.specs.Records.{age_of, is_of, header_of, chunk_of, is_copy, count_of, base_of}
-use Rattle.chunk.specs.declared.answer.File.{File}
-use Rattle.chunk.specs.declared.answer.File.TheVariants as file
-use Rattle.chunk.specs.declared.answer.Looked.{Looked}
-use Rattle.chunk.specs.declared.answer.Looked.TheVariants as looked
-use Rattle.chunk.specs.declared.answer.Sized.TheVariants as sized
+use Rattle.chunk.specs.File.{File}
+use Rattle.chunk.specs.Looked.{Looked}
+use Rattle.chunk.specs.Looked as looked
+use Rattle.chunk.specs.Sized as sized
 use Rattle.chunk.proofs.Cases.{sized_refused, size_bad, size_by_file, sized_file, looked_refused, chunk_bad_object, chunk_bad_number, chunk_by_file}
 use Rattle.chunk.proofs.Meaning.{IsNewest, Hides, newest_found, newest_missing, where_is, hides_lowest_cut}
 use Rattle.why.specs.Reasons.{cutter}
@@ -82,7 +81,7 @@ module _ (says : ℕ → Record) (P o n : ℕ) where
     pub record IsCut (r : ℕ) : Type 0 where
       pub copy : TheCopy
       pub header : ℕ
-      pub newest_header_lem : newest_header says o n ≡ some header
+      pub newest_header_lem : newest_header says o n ≡ Some header
       pub cuts : CutsIt header r
       pub newest : (s : ℕ) → CutsIt header s → age_of says s ≤ age_of says r
 
@@ -97,7 +96,7 @@ module _ (says : ℕ → Record) (P o n : ℕ) where
     -- it holds nothing of a file: it is the newest copy, no header cuts it, and the object is no live file
     pub record IsNoFile : Type 0 where
       pub copy : TheCopy
-      pub uncut : (h r : ℕ) → newest_header says o n ≡ some h → CutsIt h r → ⊥
+      pub uncut : (h r : ℕ) → newest_header says o n ≡ Some h → CutsIt h r → ⊥
       pub refusal : Refusal
       pub visits : ℕ
       pub refused : sized_of says o n P ≡ sized.Refused refusal visits
@@ -141,30 +140,30 @@ module _ (says : ℕ → Record) (P o n : ℕ) where
     stands_by_lem :
         (X : Standing → Type 0) →
         (says p ≡ Other → X NoFile) →
-        ((k : header.Header) → says p ≡ Header k → newest_header says o n ≡ some p → X NewestHeader) →
+        ((k : header.Header) → says p ≡ Header k → newest_header says o n ≡ Some p → X NewestHeader) →
         ((k : header.Header) → says p ≡ Header k → is_at p (newest_header says o n) ≡ false → X OlderHeader) →
-        ((d : «data».Data) → says p ≡ Data d → its-copy d.chunk.0 ≡ none → X NoFile) →
-        ((d : «data».Data) (q : ℕ) → says p ≡ Data d → its-copy d.chunk.0 ≡ some q → (q ≡ p → ⊥) → X (Superseded (record { 0 = q }))) →
-        ((d : «data».Data) (r : ℕ) → says p ≡ Data d → its-copy d.chunk.0 ≡ some p → its-cut d.chunk.0 ≡ some r → X (Cut (record { 0 = r }))) →
-        ((d : «data».Data) → says p ≡ Data d → its-copy d.chunk.0 ≡ some p → its-cut d.chunk.0 ≡ none →
+        ((d : «data».Data) → says p ≡ Data d → its-copy d.chunk.0 ≡ None → X NoFile) →
+        ((d : «data».Data) (q : ℕ) → says p ≡ Data d → its-copy d.chunk.0 ≡ Some q → (q ≡ p → ⊥) → X (Superseded (record { 0 = q }))) →
+        ((d : «data».Data) (r : ℕ) → says p ≡ Data d → its-copy d.chunk.0 ≡ Some p → its-cut d.chunk.0 ≡ Some r → X (Cut (record { 0 = r }))) →
+        ((d : «data».Data) → says p ≡ Data d → its-copy d.chunk.0 ≡ Some p → its-cut d.chunk.0 ≡ None →
         X (held_by d.chunk.0 (looked_of says o n P d.chunk.0))) →
         X (stands_of says P o n p)
     unfolding stands_by
     stands_by_lem X other newest older missing superseded cut held = by-record (says p) refl
       where
         by-header : (k : header.Header) → says p ≡ Header k → (r : Option ℕ) → newest_header says o n ≡ r → is_at p r ≡ true → X NewestHeader
-        by-header k e none i t = clash (cc)
-        by-header k e (some q) i t = newest k e (i ∙ ap some (eqb-true q p t))
+        by-header k e None i t = clash (cc)
+        by-header k e (Some q) i t = newest k e (i ∙ ap Some (eqb-true q p t))
 
-        by-cut : (d : «data».Data) → says p ≡ Data d → its-copy d.chunk.0 ≡ some p → (r : Option ℕ) → its-cut d.chunk.0 ≡ r → X (copy_stands says P o n d.chunk.0 r)
-        by-cut d e i none j = held d e i j
-        by-cut d e i (some r) j = cut d r e i j
+        by-cut : (d : «data».Data) → says p ≡ Data d → its-copy d.chunk.0 ≡ Some p → (r : Option ℕ) → its-cut d.chunk.0 ≡ r → X (copy_stands says P o n d.chunk.0 r)
+        by-cut d e i None j = held d e i j
+        by-cut d e i (Some r) j = cut d r e i j
 
         by_copy : (d : «data».Data) → says p ≡ Data d → (r : Option ℕ) → its-copy d.chunk.0 ≡ r → X (data_stands says P o n p d.chunk.0 r)
-        by_copy d e none i = missing d e i
-        by_copy d e (some q) i =
+        by_copy d e None i = missing d e i
+        by_copy d e (Some q) i =
             by_test (eqb q p) _
-            (λ t. rw t (by-cut d e (i ∙ ap some (eqb-true q p t)) (its-cut d.chunk.0) refl))
+            (λ t. rw t (by-cut d e (i ∙ ap Some (eqb-true q p t)) (its-cut d.chunk.0) refl))
             (λ t. rw t (superseded d q e i (eqb-false q p t)))
 
         by-record : (k : Record) → says p ≡ k → X (stands_by says P o n p k)
@@ -176,16 +175,16 @@ module _ (says : ℕ → Record) (P o n : ℕ) where
         by-record (Data d) e = by_copy d e (its-copy d.chunk.0) refl
 
   -- what stands as the newest header is the newest
-  newest_stands : (p : ℕ) → stands_of says P o n p ≡ NewestHeader → newest_header says o n ≡ some p
+  newest_stands : (p : ℕ) → stands_of says P o n p ≡ NewestHeader → newest_header says o n ≡ Some p
   newest_stands p =
-      stands_by_lem p (λ s. s ≡ NewestHeader → newest_header says o n ≡ some p)
+      stands_by_lem p (λ s. s ≡ NewestHeader → newest_header says o n ≡ Some p)
       (λ _ z. clash (cc)) (λ _ _ i _. i) (λ _ _ _ z. clash (cc)) (λ _ _ _ z. clash (cc)) (λ _ _ _ _ _ z. clash (cc)) (λ _ _ _ _ _ z. clash (cc))
       (λ d _ _ _. held d.chunk.0 (looked_of says o n P d.chunk.0))
     where
-      held : (c : ℕ) (l : Looked) → held_by c l ≡ NewestHeader → newest_header says o n ≡ some p
+      held : (c : ℕ) (l : Looked) → held_by c l ≡ NewestHeader → newest_header says o n ≡ Some p
       held c (looked.Copy q a s v) z = clash (cc)
       held c (looked.Hole s v) z = clash (cc)
-      held c (looked.Refused r v m) z = clash (cc)
+      held c (Err e) z = clash (cc)
 
   -- ---- each standing is true
 
@@ -203,32 +202,32 @@ module _ (says : ℕ → Record) (P o n : ℕ) where
 
     -- a header that is not the newest is older than it
     older-means : (r : Option ℕ) → newest_header says o n ≡ r → is_header (says p) ≡ true → is_at p r ≡ false → IsOlderHeader p
-    older-means none e i t = let z = newest_missing says (header_of o) n e p below in clash (cc (rw (own, i) at z))
-    older-means (some q) e i t =
+    older-means None e i t = let z = newest_missing says (header_of o) n e p below in clash (cc (rw (own, i) at z))
+    older-means (Some q) e i t =
         let w = newest_found says (header_of o) n q e in
         record { is = i; page = q; newest = w; newer = newer-than q w.below (eqb-false q p t) (w.newest p below (rw (own, i))) }
 
     module _ (c : ℕ) (its : chunk_of (says p) ≡ c) (is : is_data (says p) ≡ true) where
       -- the newest copy of its chunk is that
-      copy-means : newest_copy says o c n ≡ some p → TheCopy p
+      copy-means : newest_copy says o c n ≡ Some p → TheCopy p
       copy-means i = record { is = is; newest = rw its (newest_found says (copy_of o c) n p i) }
 
       -- where a later header cuts it, the newest of these does
-      cut-means : (r : ℕ) → newest_copy says o c n ≡ some p → its-cut p c ≡ some r → IsCut p r
+      cut-means : (r : ℕ) → newest_copy says o c n ≡ Some p → its-cut p c ≡ Some r → IsCut p r
       cut-means r i j = by-header (newest_header says o n) refl j
         where
-          by-header : (m : Option ℕ) → newest_header says o n ≡ m → cut_by says P o n p c m ≡ some r → IsCut p r
-          by-header none e k = clash (cc)
-          by-header (some h) e k =
+          by-header : (m : Option ℕ) → newest_header says o n ≡ m → cut_by says P o n p c m ≡ Some r → IsCut p r
+          by-header None e k = clash (cc)
+          by-header (Some h) e k =
               let w = cutter_found says P o n h (base_of P c) p r k in
               record { copy = copy-means i; header = h; newest_header_lem = e; cuts = rw its w.0; newest = rw its w.1 }
 
       -- and where none does, none cuts it
-      uncut-means : its-cut p c ≡ none → (h r : ℕ) → newest_header says o n ≡ some h → CutsIt p h r → ⊥
+      uncut-means : its-cut p c ≡ None → (h r : ℕ) → newest_header says o n ≡ Some h → CutsIt p h r → ⊥
       uncut-means j h r e k = cutter_missing says P o n h (base_of P c) p (rw e at j) r (rw its at k)
 
       -- then the lookup of its chunk answers it, or the object is no live file
-      held-means : newest_copy says o c n ≡ some p → its-cut p c ≡ none → Means p (held_by c (looked_of says o n P c))
+      held-means : newest_copy says o c n ≡ Some p → its-cut p c ≡ None → Means p (held_by c (looked_of says o n P c))
       held-means i j =
           by_test (bad_object o) _
           (λ t. rw (chunk_bad_object says o n P c t) (no-file _ _ (size_bad says o n P t)))
@@ -238,12 +237,12 @@ module _ (says : ℕ → Record) (P o n : ℕ) where
           no-file f v e = record { copy = copy-means i; uncut = uncut-means j; refusal = f; visits = v; refused = e }
 
           by_file : bad_object o ≡ false → (f : File) → file_of says o n ≡ f → Means p (held_by c (looked_of says o n P c))
-          by_file t (file.Refused f v) e =
-              rw (chunk_by_file says o n P c t (rw its at (sound is).0), e, looked_refused says o n P c f v)
-              (no-file f v (size_by_file says o n P t ∙ rw e (sized_refused says o n P f v)))
-          by_file t (file.Header h v) e =
-              let a = uncut_answered says o n P p v h e few below (rw (own, is)) (sound is).1
-              (λ r. uncut-means j h.0 r (file_newest says o n v h e)) t (sound is).0 (rw its i) in
+          by_file t (Err d) e =
+              rw (chunk_by_file says o n P c t (rw its at (sound is).0), e, looked_refused says o n P c d.answer d.visits)
+              (no-file d.answer d.visits (size_by_file says o n P t ∙ rw e (sized_refused says o n P d.answer d.visits)))
+          by_file t (Ok x) e =
+              let a = uncut_answered says o n P p x.visits x.answer e few below (rw (own, is)) (sound is).1
+              (λ r. uncut-means j x.answer.0 r (file_newest says o n x.visits x.answer e)) t (sound is).0 (rw its i) in
               rw (← its, a.looked) record { is = is; its = refl; shown = a.shown; visits = a.visits; looked = a.looked }
 
     -- so how it stands is true
@@ -264,12 +263,12 @@ module _ (says : ℕ → Record) (P o n : ℕ) where
   -- ---- and no other would be
 
   -- no header cuts what the lowest later cut does not hide
-  in_sight : (h q x : ℕ) → hides (lowest_cut says o h (age_of says q) n) x ≡ false → cutter says P o n h q x ≡ none
+  in_sight : (h q x : ℕ) → hides (lowest_cut says o h (age_of says q) n) x ≡ false → cutter says P o n h q x ≡ None
   in_sight h q x t = found (cutter says P o n h q x) refl
     where
-      found : (m : Option ℕ) → cutter says P o n h q x ≡ m → m ≡ none
-      found none e = refl
-      found (some r) e = let z = hides_lowest_cut says o h (age_of says q) x n r (cutter_found says P o n h x q r e).0 in clash (cc)
+      found : (m : Option ℕ) → cutter says P o n h q x ≡ m → m ≡ None
+      found None e = refl
+      found (Some r) e = let z = hides_lowest_cut says o h (age_of says q) x n r (cutter_found says P o n h x q r e).0 in clash (cc)
 
   -- whatever the lookup of a chunk answers holds its valid bytes
   pub lookup_holds :
@@ -293,17 +292,17 @@ module _ (says : ℕ → Record) (P o n : ℕ) where
       (λ u. rw (chunk_by_file says o n P c t u) (by_file t (file_of says o n) refl)))
     where
       by_file : bad_object o ≡ false → (f : File) → file_of says o n ≡ f → held_by c (looked_by says o n P c f) ≡ NoFile
-      by_file t (file.Refused q w) e = rw (looked_refused says o n P c q w)
-      by_file t (file.Header h w) e = let z = sym s ∙ size_by_file says o n P t ∙ ap (sized_by says o n P) e ∙ sized_file says o n P h w in clash (cc)
+      by_file t (Err d) e = rw (looked_refused says o n P c d.answer d.visits)
+      by_file t (Ok x) e = let z = sym s ∙ size_by_file says o n P t ∙ ap (sized_by says o n P) e ∙ sized_file says o n P x.answer x.visits in clash (cc)
 
   module _ (few : n ≤ 4294967296) (p : ℕ) where
     -- no header cuts it
-    none_cuts : (m : Option ℕ) → newest_header says o n ≡ m → ((h r : ℕ) → newest_header says o n ≡ some h → CutsIt p h r → ⊥) → cut_by says P o n p (chunk_of (says p)) m ≡ none
-    none_cuts none e f = refl
-    none_cuts (some h) e f = uncut_is says P o n h (begin p) few p (λ r c. f h r e c)
+    none_cuts : (m : Option ℕ) → newest_header says o n ≡ m → ((h r : ℕ) → newest_header says o n ≡ Some h → CutsIt p h r → ⊥) → cut_by says P o n p (chunk_of (says p)) m ≡ None
+    none_cuts None e f = refl
+    none_cuts (Some h) e f = uncut_is says P o n h (begin p) few p (λ r c. f h r e c)
 
     -- it is the newest copy that the search finds
-    copy_is : (d : «data».Data) → d.chunk.0 ≡ chunk_of (says p) → TheCopy p → newest_copy says o d.chunk.0 n ≡ some p
+    copy_is : (d : «data».Data) → d.chunk.0 ≡ chunk_of (says p) → TheCopy p → newest_copy says o d.chunk.0 n ≡ Some p
     copy_is d its w = rw its (where_is says (λ r. copy_of o (chunk_of (says p)) (says r)) n p w.newest few)
 
     -- so what is true of it is how it stands
@@ -346,13 +345,13 @@ module _ (says : ℕ → Record) (P o n : ℕ) where
   one_newest few q h t = found (newest_header says o n) refl
     where
       found : (r : Option ℕ) → newest_header says o n ≡ r → OneNewest
-      found none e = let z = newest_missing says (header_of o) n e q h in clash (cc)
-      found (some p) e =
+      found None e = let z = newest_missing says (header_of o) n e q h in clash (cc)
+      found (Some p) e =
           let w = newest_found says (header_of o) n p e in
           record {
             page = p;
             below = w.below;
             own = and_left (is_of o (says p)) _ w.passes;
             stands = means_stands few p NewestHeader (record { newest = w });
-            only = λ r s. let i : some r ≡ some p = sym (newest_stands r s) ∙ e in cc;
+            only = λ r s. let i : Some r ≡ Some p = sym (newest_stands r s) ∙ e in cc;
           }

@@ -7,7 +7,7 @@ use native.Mathlib.Nat.{le_of_suc-le-suc}
 use native.Mathlib.Omega.{arith}
 use borrow.Author.Tests.{leb-true, leb-false}
 use lib.Dec.{leb}
-use lib.ListN.{length, get_or, take, drop}
+use lib.ListN.{length, get_or, set, take, drop}
 use Rattle.page.specs.declared.record.Record.{Record}
 use Rattle.page.proofs.Searching.{by_test}
 use Rattle.sort.specs.Arranged.{arranged}
@@ -18,7 +18,7 @@ use Rattle.sort.proofs.Places.{in_at, at_in, arranged_sorted}
 use Rattle.sort.proofs.Splitting.{all_first}
 use Rattle.sort.proofs.Times.{in_arranged, arranged_in}
 use Rattle.chunk.specs.Records.{chunk_of}
-use Rattle.chunk.proofs.Laying.{laid, laid_all}
+use Rattle.chunk.proofs.Laying.{laid, laid_more, laid_all}
 use Rattle.records.specs.Copies.{placed_from, places_of, HasChunk, LastPlace}
 use Rattle.records.specs.Written.{said_at}
 
@@ -136,6 +136,13 @@ module _ (says : ℕ → Record) where
   -- as many in order
   pub places_length : (L : List ℕ) → length (places_of says L) ≡ length L
   places_length L = arranged_length (placed_from says 0 L) ∙ placed_length 0 L
+
+  -- one more laid over as many words
+  pub placed_more :
+      (L words : List ℕ) (i : ℕ) → i < length L → length words ≡ length L →
+      set (laid (placed_from says 0 L) words i) i (packed (chunk_of (said_at says (get_or L i 0))) i) ≡ laid (placed_from says 0 L) words (i + 1)
+  placed_more L words i h k =
+      rw (← placed_at i L h) (laid_more (placed_from says 0 L) words i (omega arith) (omega (arith, placed_length 0 L)))
 
   -- all of them, laid over as many words and sorted
   pub placed_sorted :

@@ -1,6 +1,7 @@
 -- What a history means. What is told after the last record is what a size lookup answers; and after another, what it answers at the moment before the
 -- next record: of the object it then sees the records up to that one.
 use Prim.Native.Nat.{ℕ, suc, ◌≤◌, ◌<◌}
+use Rattle.std.specs.Prelude.{Ok}
 use mathlib.Core.Bool.{true, false}
 use mathlib.Core.List.{List}
 use mathlib.Core.Path.{◌≡◌, sym, ◌∙◌}
@@ -11,7 +12,6 @@ use lib.ListN.{length, get_or}
 use Rattle.page.specs.Lengths.{opened_of}
 use Rattle.page.specs.Records.{record_at}
 use Rattle.page.specs.declared.geometry.Geometry.{Geometry}
-use Rattle.page.specs.declared.geometry.Opened.TheVariants as opened
 use Rattle.page.specs.declared.record.Record.{Record}
 use Rattle.page.proofs.Searching.{clash, by_test}
 use Rattle.chunk.specs.Answers.{size_on}
@@ -74,7 +74,7 @@ module _ (pages : ℕ → Record) (o : ℕ) where
         }
 
 -- object o of an accepted dump of n pages, at a moment
-module _ (g : Geometry) (dump : List ℕ) (n : ℕ) (e : opened_of g (length dump) ≡ opened.Pages n) (m : Moment) (o : ℕ) where
+module _ (g : Geometry) (dump : List ℕ) (n : ℕ) (e : opened_of g (length dump) ≡ Ok n) (m : Moment) (o : ℕ) where
   abbrev own : ℕ → Record
   own = says_at g dump m o
 
@@ -103,7 +103,7 @@ module _ (g : Geometry) (dump : List ℕ) (n : ℕ) (e : opened_of g (length dum
 
 -- of a dump as it stands
 pub history_now :
-    (g : Geometry) (dump : List ℕ) (n : ℕ) → opened_of g (length dump) ≡ opened.Pages n → (o i : ℕ) → suc i ≡ length (written (record_at g dump) o n) →
+    (g : Geometry) (dump : List ℕ) (n : ℕ) → opened_of g (length dump) ≡ Ok n → (o i : ℕ) → suc i ≡ length (written (record_at g dump) o n) →
     sized_after (record_at g dump) g.layout.«data» o n (get_or (written (record_at g dump) o n) i 0) ≡ answer_of (size_on g dump o)
 unfolding size_on
 history_now g dump n e o i h = history_last g dump n e Now o i h ∙ rw e

@@ -1,5 +1,6 @@
 -- The answers for W's file, computed from the definitions: the words of its standings and what they tell, number by number, and each refusal in its turn.
 use Prim.Native.Nat.{ℕ}
+use Rattle.std.specs.Prelude.{Ok, Err}
 use mathlib.Core.List.{List, [], ◌∷◌}
 use mathlib.Core.Path.{◌≡◌, refl, ap, ◌∙◌}
 use lib.ListN.{get_or}
@@ -24,9 +25,8 @@ use Rattle.records.specs.Histories.{refusal_in, size_in}
 use Rattle.records.specs.Rows.{standing_rows, standing_details, standing_of, kind_of, by_of, from_of, until_of}
 use Rattle.records.specs.Standings.{stands_by}
 use Rattle.records.specs.Written.{written}
-use Rattle.records.specs.declared.history.After.TheVariants.{Size, Refused}
-use Rattle.records.specs.declared.written.Recorded.{Recorded}
-use Rattle.records.specs.declared.written.Recorded.TheVariants as recorded
+use Rattle.records.specs.Recorded.{Recorded}
+use Rattle.records.specs.Recorded as recorded
 
 -- the words of the standings of object 257: a page in the upper half of a row and a number in the lower one; beside it a page, or a chunk and a length
 abbrev words : (ℕ → Record) → List ℕ × List ℕ
@@ -59,7 +59,7 @@ unfolding standing_of
 words_tell = (refl, refl, refl, refl, refl, refl)
 
 -- a history's numbers: of a size, and of a refusal
-pub after_tells : (refusal_in (Size 612) ∷ size_in (Size 612) ∷ [] ≡ 0 ∷ 612 ∷ []) × (refusal_in (Refused NoHeader) ∷ size_in (Refused NoHeader) ∷ [] ≡ 7 ∷ 0 ∷ [])
+pub after_tells : (refusal_in (Ok 612) ∷ size_in (Ok 612) ∷ [] ≡ 0 ∷ 612 ∷ []) × (refusal_in (Err NoHeader) ∷ size_in (Err NoHeader) ∷ [] ≡ 7 ∷ 0 ∷ [])
 after_tells = (refl, refl)
 
 -- a page that W lacks, before an id that no object has, before an object without records, before too little room: of 7 words one too few, and enough

@@ -1,28 +1,30 @@
 -- Whatever `stands` answers is so: each row has the page of a record, the oldest first, and with its second word tells how that record stands, which
 -- is true of it.
 use Prim.Native.Nat.{ℕ, ◌≤◌, ◌<◌}
+use Rattle.std.specs.Prelude.{Result, Ok, Err}
+use Rattle.page.specs.declared.refusal.Refusal.{Refusal}
 use mathlib.Core.Bool.{true, false}
 use mathlib.Core.List.{List}
 use mathlib.Core.Path.{◌≡◌, refl, ap, ◌∙◌}
 use native.Mathlib.Omega.{arith}
+use borrow.Author.Tests.{ltb-false}
+use lib.Dec.{eqb, ltb}
 use lib.ListN.{length, get_or, drop, get_or-append}
 use Rattle.page.specs.Lengths.{opened_of}
-use Rattle.page.specs.Numbers.{bad_chunk}
+use Rattle.page.specs.Numbers.{bad_object, bad_chunk}
 use Rattle.page.specs.Records.{record_at, is_data}
 use Rattle.page.specs.declared.geometry.Geometry.{Geometry}
-use Rattle.page.specs.declared.geometry.Opened.{Opened}
-use Rattle.page.specs.declared.geometry.Opened.TheVariants as opened
 use Rattle.page.specs.declared.record.Record.{Record}
 use Rattle.page.specs.declared.record.Record.TheVariants.{Other, Header, Data}
 use Rattle.page.proofs.Layouts.{roomy_facts}
 use Rattle.page.proofs.Lengths.{opened_facts}
-use Rattle.page.proofs.Searching.{clash}
+use Rattle.page.proofs.Searching.{clash, pick_cases}
 use Rattle.page.proofs.Within.{chunk_good}
 use Rattle.sort.specs.Packed.{word_values, packed, key_of}
 use Rattle.sort.proofs.Packing.{packed_key, packed_value}
 use Rattle.chunk.specs.Answers.{on_pages}
 use Rattle.chunk.specs.Lists.{in_front}
-use Rattle.chunk.specs.Moments.{takes_at}
+use Rattle.chunk.specs.Moments.{is_missing, takes_at}
 use Rattle.chunk.specs.Newest.{records}
 use Rattle.chunk.specs.Records.{chunk_of, count_of}
 use Rattle.chunk.specs.Takes.{seen_by}
@@ -35,8 +37,7 @@ use Rattle.records.specs.Standings.{stands_of}
 use Rattle.records.specs.Written.{written, page_at}
 use Rattle.records.specs.declared.standing.Standing.{Standing}
 use Rattle.records.specs.declared.standing.Standing.TheVariants.{NewestHeader, OlderHeader, Superseded, Cut, Holds, NoFile}
-use Rattle.records.specs.declared.written.Recorded.TheVariants.{Records, Refused}
-use Rattle.records.proofs.Answering.{recorded_fits}
+use Rattle.records.specs.Recorded.{Records, Refused}
 use Rattle.records.proofs.Inside.{looked_found}
 use Rattle.records.proofs.Meaning.{Means, stands_means}
 use Rattle.records.proofs.Rowing.{rows_length, details_length, row_at, detail_at}
@@ -75,7 +76,7 @@ words_read_back p NoFile w = rw (packed_value p 6 (omega arith))
 
 -- ---- the records of an accepted dump
 
-module _ (g : Geometry) (dump : List ℕ) (t : Takes) (o n : ℕ) (accepted : opened_of g (length dump) ≡ opened.Pages n) where
+module _ (g : Geometry) (dump : List ℕ) (t : Takes) (o n : ℕ) (accepted : opened_of g (length dump) ≡ Ok n) where
   abbrev says : ℕ → Record
   says = seen_by t (record_at g dump)
 
@@ -137,6 +138,24 @@ module _ (g : Geometry) (dump : List ℕ) (t : Takes) (o n : ℕ) (accepted : op
 
 -- ---- an answer
 
+-- records that are told are all there are, and have room
+pub recorded_fits :
+    (says : ℕ → Record) (n : ℕ) (m : Moment) (o room k : ℕ) → recorded_in says n m o room ≡ Records k → (k ≡ records says o n) × (k ≤ room)
+unfolding recorded_in
+recorded_fits says n m o room k e =
+    pick_cases (is_missing n m) _ _ (Records k) _ e
+    (λ _ f. clash (cc))
+    (λ _ f.
+    pick_cases (bad_object o) _ _ (Records k) _ f
+    (λ _ g. clash (cc))
+    (λ _ g.
+    pick_cases (eqb (records says o n) 0) _ _ (Records k) _ g
+    (λ _ h. clash (cc))
+    (λ _ h.
+    pick_cases (ltb room (records says o n)) _ _ (Records k) _ h
+    (λ _ i. clash (cc))
+    (λ t i. let same : k ≡ records says o n = cc in (same, rw same (ltb-false _ _ t))))))
+
 -- words with a front, of which this is at a place of the front
 front_at : (front words : List ℕ) (i : ℕ) → i < length front → get_or (in_front front words) i 0 ≡ get_or front i 0
 front_at front words i h = get_or-append front (drop (length front) words) 0 i h
@@ -153,7 +172,7 @@ module _ (g : Geometry) (dump : List ℕ) (m : Moment) (o : ℕ) where
   -- at place i; and with its second word it tells how that stands, which is so
   pub record Told (count i row detail : ℕ) : Type 0 where
     pub pages : ℕ
-    pub accepted : opened_of g (length dump) ≡ opened.Pages pages
+    pub accepted : opened_of g (length dump) ≡ Ok pages
     pub all : count ≡ records seen o pages
     pub page : key_of row ≡ page_at seen o pages i
     pub stands : standing_of row detail ≡ stands_of seen bytes o pages (page_at seen o pages i)
@@ -161,7 +180,7 @@ module _ (g : Geometry) (dump : List ℕ) (m : Moment) (o : ℕ) where
 
   module _ (room k : ℕ) (rows details : List ℕ) where
     of-pages :
-        (n : ℕ) → opened_of g (length dump) ≡ opened.Pages n → recorded_in seen n m o room ≡ Records k → (i : ℕ) → i < k →
+        (n : ℕ) → opened_of g (length dump) ≡ Ok n → recorded_in seen n m o room ≡ Records k → (i : ℕ) → i < k →
         Told k i (get_or (standing_left g dump m o room rows) i 0) (get_or (details_left g dump m o room details) i 0)
     unfolding standing_left details_left
     of-pages n e a i h =
@@ -186,10 +205,10 @@ module _ (g : Geometry) (dump : List ℕ) (m : Moment) (o : ℕ) where
 
     -- whatever the dump is opened to
     of-dump :
-        (p : Opened) → opened_of g (length dump) ≡ p → on_pages (λ r. Refused r 0) (λ n. recorded_in seen n m o room) p ≡ Records k → (i : ℕ) → i < k →
+        (p : Result ℕ Refusal) → opened_of g (length dump) ≡ p → on_pages (λ r. Refused r 0) (λ n. recorded_in seen n m o room) p ≡ Records k → (i : ℕ) → i < k →
         Told k i (get_or (standing_left g dump m o room rows) i 0) (get_or (details_left g dump m o room details) i 0)
-    of-dump (opened.Refused r) e a i h = clash (cc)
-    of-dump (opened.Pages n) e a i h = of-pages n e a i h
+    of-dump (Err r) e a i h = clash (cc)
+    of-dump (Ok n) e a i h = of-pages n e a i h
 
     -- what is told is so
     pub stands_told :

@@ -1,8 +1,8 @@
 -- The records of an object by their ages. An age has its page in its lower word, so that no two pages have one age: the list of ages ascends, and its
 -- places are the records. So the last place whose page passes a test is the newest of the pages that pass.
+use Rattle.std.specs.Prelude.{Some, None}
 use Prim.Native.Nat.{ℕ, zero, suc, ◌+◌, ◌≤◌, ◌<◌, zero-le}
 use mathlib.Core.Bool.{Bool, true, false}
-use mathlib.Core.Option.{none, some}
 use mathlib.Core.Path.{◌≡◌, refl, sym, ap, ◌∙◌}
 use native.Mathlib.Nat.{le_refl}
 use native.Mathlib.Numerals.{add-one}
@@ -99,7 +99,7 @@ module _ (says : ℕ → Record) (o : ℕ) where
             i < length (written says o n) →
             test (page_at says o n i) ≡ true →
             ((j : ℕ) → i < j → j < length (written says o n) → test (page_at says o n j) ≡ false) →
-            newest_where says test n ≡ some (page_at says o n i)
+            newest_where says test n ≡ Some (page_at says o n i)
         last_newest i h t none_behind =
             let w = written_at i h in
             where_is says test n (page_at says o n i) record { below = w.page; passes = t; newest = λ q k u. older q k u w } few
@@ -114,7 +114,7 @@ module _ (says : ℕ → Record) (o : ℕ) where
                 (λ b. let z : true ≡ false = sym u ∙ ap test (sym s.page) ∙ none_behind s.place b s.inside in clash (cc)))
 
         -- and where none passes there is none
-        pub none_newest : ((j : ℕ) → j < length (written says o n) → test (page_at says o n j) ≡ false) → newest_where says test n ≡ none
+        pub none_newest : ((j : ℕ) → j < length (written says o n) → test (page_at says o n j) ≡ false) → newest_where says test n ≡ None
         none_newest h =
             where_none_is says test n
             (λ q k. by_test (test q) _

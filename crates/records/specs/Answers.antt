@@ -1,5 +1,5 @@
 -- What is answered of an object's records, and what the lent words hold then.
-use Rattle.std.specs.Prelude.{ℕ, List, [], eqb, ltb, length}
+use Rattle.std.specs.Prelude.{ℕ, List, [], eqb, ltb, length, Err}
 use Rattle.page.specs.Choice.{pick}
 use Rattle.page.specs.Lengths.{opened_of}
 use Rattle.page.specs.Numbers.{bad_object}
@@ -14,8 +14,8 @@ use Rattle.chunk.specs.Newest.{records}
 use Rattle.chunk.specs.declared.moment.Moment.{Moment}
 use Rattle.why.specs.Answers.{says_at}
 use Rattle.records.specs.Rows.{standing_rows, standing_details, history_rows, history_sizes}
-use Rattle.records.specs.declared.written.Recorded.{Recorded}
-use Rattle.records.specs.declared.written.Recorded.TheVariants.{Records, Refused}
+use Rattle.records.specs.Recorded.{Recorded}
+use Rattle.records.specs.Recorded.{Records, Refused}
 
 -- the records of object o of a dump of n pages at a moment, in so many words: how many they are; or a refusal, with that number beside ShortBuffer
 unfoldable pub recorded_in : (says : ℕ → Record) (pages : ℕ) → Moment → (object room : ℕ) → Recorded
@@ -29,12 +29,12 @@ recorded_in says n m o room =
 -- words with what an accepted call leaves in front of them; after a refusal as they were
 abbrev pub kept_by : Recorded → (front words : List ℕ) → List ℕ
 kept_by (Records k) front words = in_front front words
-kept_by (Refused r k) front words = words
+kept_by (Err e) front words = words
 
 -- working words: cleared as far as they were needed; after a refusal as they were
 abbrev pub worked_by : Recorded → (words : List ℕ) → List ℕ
 worked_by (Records k) words = in_room [] k words
-worked_by (Refused r k) words = words
+worked_by (Err e) words = words
 
 -- object o of a dump at a moment
 module _ (g : Geometry) (dump : List ℕ) (m : Moment) (o : ℕ) where

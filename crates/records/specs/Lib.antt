@@ -1,3 +1,4 @@
+pub mod Recorded
 pub mod Written
 pub mod Standings
 pub mod Histories

@@ -4,7 +4,7 @@ ghost use Rattle.page.specs.Records.{record_at};
 ghost use Rattle.chunk.specs.Takes.{seen_by};
 ghost use Rattle.records.specs.Lows.{cut_word, headless_with, low_with, lows_of};
 
-use chunk::cut::{Cut, cut_of};
+use chunk::cut::{Cut, cut_of, lower};
 use chunk::record::is_header;
 use chunk::takes::{Takes, seen_at};
 use page::geometry::Geometry;
@@ -12,37 +12,30 @@ use page::number::PageNumber;
 use page::record::Record;
 use sort::rows::value_of;
 
-// The word of no cut.
-const NOWHERE: u64 = 0xFFFF_FFFF_FFFF_FFFF;
-
-// A cut as a word: its place, or the last word for none.
+// A cut as a word, since words are what is lent: its place, or the last word for none.
+#[tactic(auto, using(crate::proofs::Tests::cases))]
 fn word_of(cut: Cut) -> u64
     ensures { result ≡ cut_word cut }
 {
-    match cut {
-        Cut::At(place) => place,
-        Cut::Nowhere => NOWHERE,
-    }
+    cut.unwrap_or(u64::MAX)
 }
 
 // Whether neither a record is a header, nor one of the newer, of which this is known.
 fn headless_with(r: Record, newer: bool) -> bool
     ensures { result ≡ headless_with r newer }
 {
-    if is_header(r) {
-        return false;
-    }
-    newer
+    !is_header(r) && newer
 }
 
-// The lowest cut with that of one record more, where it is known whether no newer one is a header.
+// The lowest cut with that of one record more, the newest header or not, as the pass knows: what index's `lower_cut` is, on which this crate does not stand.
+#[tactic(auto, using(crate::proofs::Tests::cases))]
 fn low_with(newest: bool, r: Record, low: Cut) -> Cut
     ensures { result ≡ low_with newest r low }
 {
-    let Record::Header(h) = r else {
-        return low;
-    };
-    cut_of(newest, h).lower(low)
+    match r {
+        Record::Header(h) => lower(cut_of(newest, h), low),
+        Record::Other | Record::Data(_) => low,
+    }
 }
 
 // Fills words with the lowest cut of each record of these ages and those newer, from the newest to the oldest.
@@ -50,11 +43,9 @@ pub(crate) fn fill_lows(dump: &[u8], g: Geometry, t: Takes, ages: &[u64], words:
     requires { length words.old ≡ length ages.now }
     ensures { words.new ≡ lows_of (seen_by t (record_at g dump.now)) ages.now }
 {
-    let mut cut = Cut::Nowhere;
+    let mut cut = None;
     let mut newest = true;
-    let mut i: usize = ages.len();
-    while 0 < i {
-        i -= 1;
+    for i in (0..ages.len()).rev() {
         let p = PageNumber(value_of(ages[i]));
         let r = seen_at(dump, g, t, p);
         cut = low_with(newest, r, cut);

@@ -19,89 +19,90 @@ pub enum Standing {
     NoFile,
 }
 
+// The numbers of the kinds, as C reads them in a row.
+const NEWEST_HEADER: u32 = 1;
+
+const OLDER_HEADER: u32 = 2;
+
+const SUPERSEDED: u32 = 3;
+
+const CUT: u32 = 4;
+
+const HOLDS: u32 = 5;
+
+const NO_FILE: u32 = 6;
+
 impl Standing {
     // The number of its kind.
     pub fn kind(self) -> u32
         ensures { result ≡ kind_of self }
     {
         match self {
-            Standing::NewestHeader => 1,
-            Standing::OlderHeader => 2,
-            Standing::Superseded(_) => 3,
-            Standing::Cut(_) => 4,
-            Standing::Holds(_, _) => 5,
-            Standing::NoFile => 6,
+            Standing::NewestHeader => NEWEST_HEADER,
+            Standing::OlderHeader => OLDER_HEADER,
+            Standing::Superseded(_) => SUPERSEDED,
+            Standing::Cut(_) => CUT,
+            Standing::Holds(_, _) => HOLDS,
+            Standing::NoFile => NO_FILE,
         }
     }
 
-    // Its second word.
+    // Its second word; 0 where there is nothing to tell, as C reads it.
+    #[tactic(auto, using(crate::proofs::Tests::cases))]
     pub(crate) fn detail(self) -> u64
         ensures { result ≡ detail_of self }
     {
         match self {
-            Standing::NewestHeader => 0,
-            Standing::OlderHeader => 0,
-            Standing::Superseded(q) => pack(q.0, 0),
-            Standing::Cut(h) => pack(h.0, 0),
+            Standing::Superseded(q) | Standing::Cut(q) => pack(q.0, 0),
             Standing::Holds(c, valid) => pack(c.0, valid),
-            Standing::NoFile => 0,
+            _ => 0,
         }
     }
 
-    // The standing that a row and its second word tell.
+    // The standing that a row and its second word tell: of two words, so that no From gives it.
+    #[tactic(auto, using(crate::proofs::Tests::cases), unfolding(crate::specs::Rows::standing_of))]
     pub fn of(row: u64, detail: u64) -> Standing
         ensures { result ≡ standing_of row detail }
     {
-        let kind = value_of(row);
-        if kind == 1 {
-            return Standing::NewestHeader;
+        match value_of(row) {
+            NEWEST_HEADER => Standing::NewestHeader,
+            OLDER_HEADER => Standing::OlderHeader,
+            SUPERSEDED => Standing::Superseded(PageNumber(key_of(detail))),
+            CUT => Standing::Cut(PageNumber(key_of(detail))),
+            HOLDS => Standing::Holds(ChunkNumber(key_of(detail)), value_of(detail)),
+            _ => Standing::NoFile,
         }
-        if kind == 2 {
-            return Standing::OlderHeader;
-        }
-        if kind == 3 {
-            return Standing::Superseded(PageNumber(key_of(detail)));
-        }
-        if kind == 4 {
-            return Standing::Cut(PageNumber(key_of(detail)));
-        }
-        if kind == 5 {
-            return Standing::Holds(ChunkNumber(key_of(detail)), value_of(detail));
-        }
-        Standing::NoFile
     }
 
-    // The page that supersedes or cuts it; 0 where there is none.
+    // The page that supersedes or cuts it; 0 where there is none, as in C.
     pub fn by(self) -> u32
         ensures { result ≡ rows.by_of self }
     {
         match self {
-            Standing::NewestHeader => 0,
-            Standing::OlderHeader => 0,
-            Standing::Superseded(q) => q.0,
-            Standing::Cut(h) => h.0,
-            Standing::Holds(_, _) => 0,
-            Standing::NoFile => 0,
+            Standing::Superseded(q) | Standing::Cut(q) => q.0,
+            _ => 0,
         }
     }
 
-    // Where the bytes begin that it holds, with so many data bytes to a page; 0 where it holds none.
+    // Where the bytes begin that it holds, with so many data bytes to a page; 0 where it holds none, as in C.
+    #[tactic(auto, using(crate::proofs::Tests::cases))]
     pub fn from(self, data: u32) -> u64
         ensures { result ≡ rows.from_of «data» self }
     {
-        let Standing::Holds(c, _) = self else {
-            return 0;
-        };
-        base_of(data, c)
+        match self {
+            Standing::Holds(c, _) => base_of(data, c),
+            _ => 0,
+        }
     }
 
-    // Where they end.
+    // Where they end; 0 where it holds none, as in C.
+    #[tactic(auto, using(crate::proofs::Tests::cases))]
     pub fn until(self, data: u32) -> u64
         ensures { result ≡ rows.until_of «data» self }
     {
-        let Standing::Holds(c, valid) = self else {
-            return 0;
-        };
-        base_of(data, c) + (valid as u64)
+        match self {
+            Standing::Holds(c, valid) => base_of(data, c) + (valid as u64),
+            _ => 0,
+        }
     }
 }

@@ -1,5 +1,5 @@
 // The records of an object in the order in which they were written, by their ages.
-ghost use Rattle.std.specs.Prelude.{◌≡◌, min, length};
+ghost use Rattle.std.specs.Prelude.{◌≡◌, ◌≤◌, length, IfOk};
 ghost use Rattle.page.specs.Records.{record_at};
 ghost use Rattle.chunk.specs.Newest.{records};
 ghost use Rattle.chunk.specs.Takes.{seen_by};
@@ -12,25 +12,15 @@ use chunk::scan::records_since;
 use chunk::takes::{Takes, seen_at};
 use page::geometry::Geometry;
 use page::number::{ObjectId, PageNumber};
-use page::refusal::Refusal;
+use page::refusal::{Refusal, Short};
 use page::tags::names_object;
 use sort::keys::sort;
 
 // How many records an object has; or a refusal, with that number beside ShortBuffer.
-#[derive(Clone, Copy)]
-pub enum Recorded {
-    Records(u32),
-    Refused(Refusal, u32),
-}
-
-// The smaller of two numbers of words.
-pub(crate) fn least(a: usize, b: usize) -> usize
-    ensures { result ≡ min a b }
-{
-    if a < b { a } else { b }
-}
+pub type Recorded = Result<u32, Short<u32>>;
 
 // How many records object o of a dump of so many pages has at a moment, which reads these records, if there is room for them.
+#[tactic(auto, using(crate::proofs::Tests::cases), unfolding(crate::specs::Answers::recorded_in))]
 pub(crate) fn count_in(
     dump: &[u8],
     g: Geometry,
@@ -40,25 +30,32 @@ pub(crate) fn count_in(
     o: ObjectId,
     room: usize,
 ) -> Recorded
-    ensures { result ≡ recorded_in (seen_by t (record_at g dump.now)) pages m o.0 room }
+    ensures value { result ≡ recorded_in (seen_by t (record_at g dump.now)) pages m o.0 room }
+    ensures all { IfOk result (λ count. count ≡ records (seen_by t (record_at g dump.now)) o.0 pages) }
+    ensures fits { IfOk result (λ count. count ≤ room) }
 {
     if m.is_missing(pages) {
-        return Recorded::Refused(Refusal::BadPage, 0);
+        return Err(Refusal::BadPage.into());
     }
     if o.is_bad() {
-        return Recorded::Refused(Refusal::BadObject, 0);
+        return Err(Refusal::BadObject.into());
     }
-    let count = records_since(dump, g, t, pages, o, 0);
-    if count == 0 {
-        return Recorded::Refused(Refusal::NoObject, 0);
+    let need = records_since(dump, g, t, pages, o, 0);
+    if need == 0 {
+        return Err(Refusal::NoObject.into());
     }
-    if room < (count as usize) {
-        return Recorded::Refused(Refusal::ShortBuffer, count);
+    if room < (need as usize) {
+        return Err(Short {
+            refusal: Refusal::ShortBuffer,
+            need,
+        });
     }
-    Recorded::Records(count)
+    Ok(need)
 }
 
-// Fills words with the ages of the records of object o, the oldest first.
+// Fills words with the ages of the records of object o, the oldest first. A pass as those of chunk's scans; with a closure in place of its body it would
+// be no plainer, since a contract would have to say what its invariant says.
+#[tactic(auto, using(chunk::proofs::Sorting::listed_all, crate::proofs::Writing::records_count), unfolding(crate::specs::Written::written))]
 pub(crate) fn fill_ages(
     dump: &[u8],
     g: Geometry,
@@ -71,10 +68,8 @@ pub(crate) fn fill_ages(
     ensures { words.new ≡ written (seen_by t (record_at g dump.now)) o.0 pages }
 {
     let mut at: usize = 0;
-    let mut i: u32 = 0;
-    while i < pages {
+    for i in 0..pages {
         let p = PageNumber(i);
-        i += 1;
         if !names_object(dump, g, p, o) {
             continue;
         }

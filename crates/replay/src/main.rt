@@ -3,23 +3,21 @@
 // Where a read fails nothing is printed but a sentence on standard error.
 #![tactic(auto)]
 
-ghost use Rattle.std.specs.Prelude.{◌≤◌, ◌<◌, ◌^◌, length};
+ghost use Rattle.std.specs.Prelude.{◌≤◌, ◌<◌, ◌^◌, length, IfSome};
 
-use chunk::answer::{Listed, Looked, Sized};
-use file::table::{Tabled, table};
-use index::additions::{Added, add, start};
+use chunk::answer::{Chunk, Looked, Sized};
+use file::table::table;
+use index::additions::{add, start};
 use index::cells::{PER_PAGE, SHARED, link_at};
 use index::list::list;
 use index::lookups::{chunk, size};
-use input::{Input, read_all};
+use input::read_all;
 use page::find::find;
-use page::geometry::{Geometry, Opened};
-use page::layout::Named;
+use page::geometry::Geometry;
 use page::number::{ChunkNumber, ObjectId, PageNumber};
-use page::refusal::Refusal;
+use page::refusal::{Refusal, Short};
 use summary::report::{LONGEST, write_report};
 use text::put::{put_field, put_line};
-use text::written::Written;
 
 // The most bytes of vectors that are read, and one more, by which a longer input is told.
 const MOST: usize = 65536;
@@ -35,14 +33,15 @@ const ALWAYS: u32 = 300;
 // The most bytes of a name, a number and the end of a line: no name here has more than 8, and no number more than 20.
 const PART: usize = 32;
 
-// Prints a text that was put into bytes and has this end; stored output would show one that they had no room for. A write that fails is passed over.
+// Prints a text that was put into bytes and has this end; stored output would show one that they had no room for, so that the end is no length of
+// theirs. A write that fails is passed over.
 fn print(rt: &impl Print, bytes: &[u8], end: usize) {
     if end <= bytes.len() {
         let _ = rt.write_all(&bytes[..end]);
     }
 }
 
-// A name and a number, with more to come on their line.
+// A name and a number, with more to come on their line; text has the two forms, this and the next.
 fn put(rt: &impl Print, name: &[u8], n: u64) {
     let mut text = [0u8; PART];
     let end = put_field(&mut text, 0, name, n);
@@ -64,33 +63,31 @@ fn refuse(rt: &impl Print, r: Refusal) {
 // The report of a dump.
 fn report_lines(rt: &impl Print, dump: &[u8], k: u32) {
     let mut text = [0u8; LONGEST];
-    let written = write_report(dump, k, &mut text);
-    match written {
-        Written::Bytes(n) => print(rt, &text, n),
-        Written::Short(_) => {}
+    if let Ok(n) = write_report(dump, k, &mut text) {
+        print(rt, &text, n);
     }
 }
 
-// A refusal with the records visited.
+// A refusal with the records visited; the other lines of a refusal have other numbers.
 fn refused_line(rt: &impl Print, r: Refusal, visits: u32) {
     put(rt, b"refusal=", r.number() as u64);
     line(rt, b" visits=", visits as u64);
 }
 
 // A refusal with the words that a short buffer needs.
-fn short_line(rt: &impl Print, r: Refusal, need: u32) {
-    put(rt, b"refusal=", r.number() as u64);
-    line(rt, b" need=", need as u64);
+fn short_line(rt: &impl Print, e: Short<u32>) {
+    put(rt, b"refusal=", e.refusal.number() as u64);
+    line(rt, b" need=", e.need as u64);
 }
 
 // A size with the records visited.
 fn size_line(rt: &impl Print, s: Sized) {
     match s {
-        Sized::Refused(r, visits) => refused_line(rt, r, visits),
-        Sized::Size(n, visits) => {
-            put(rt, b"size=", n);
-            line(rt, b" visits=", visits as u64);
+        Ok(size) => {
+            put(rt, b"size=", size.answer);
+            line(rt, b" visits=", size.visits as u64);
         }
+        Err(e) => refused_line(rt, e.answer, e.visits),
     }
 }
 
@@ -104,23 +101,29 @@ fn lengths_line(rt: &impl Print, valid: u32, shown: u32, visits: u32) {
 // A chunk's place with its lengths and the records visited.
 fn chunk_line(rt: &impl Print, a: Looked) {
     match a {
-        Looked::Refused(r, visits, _) => refused_line(rt, r, visits),
-        Looked::Hole(shown, visits) => {
+        Ok(Chunk::Hole { shown, visits }) => {
             print(rt, b"hole", 4);
             lengths_line(rt, 0, shown, visits);
         }
-        Looked::Copy(p, valid, shown, visits) => {
-            put(rt, b"page=", p.0 as u64);
+        Ok(
+            Chunk::Copy {
+                page,
+                valid,
+                shown,
+                visits,
+            },
+        ) => {
+            put(rt, b"page=", page.0 as u64);
             lengths_line(rt, valid, shown, visits);
         }
+        Err(e) => refused_line(rt, e.answer.refusal, e.visits),
     }
 }
 
 // A start or an addition says nothing, unless it is refused.
-fn added_line(rt: &impl Print, a: Added) {
-    match a {
-        Added::Refused(r) => refuse(rt, r),
-        Added::Done => {}
+fn added_line(rt: &impl Print, a: Result<(), Refusal>) {
+    if let Err(r) = a {
+        refuse(rt, r);
     }
 }
 
@@ -131,12 +134,9 @@ fn chunk_lines(rt: &impl Print, dump: &[u8], g: Geometry, cells: &[u32], o: Obje
     }
 }
 
-// The word with this place; 0 past the end.
+// The word with this place; 0 past the end, which stored output would show.
 fn word_at(words: &[u32], i: usize) -> u32 {
-    if words.len() <= i {
-        return 0;
-    }
-    words[i]
+    words.get(i).copied().unwrap_or(0)
 }
 
 // The line of a row of a table.
@@ -156,10 +156,9 @@ fn row_lines(rt: &impl Print, words: &[u32], count: u32) {
 // The lines of a file's table, or of its refusal where the table has more than 32 rows.
 fn table_lines(rt: &impl Print, dump: &[u8], g: Geometry, cells: &[u32], o: ObjectId) {
     let mut words = [0u32; 64];
-    let tabled = table(dump, g, cells, o, &mut words);
-    match tabled {
-        Tabled::Refused(r, need) => short_line(rt, r, need),
-        Tabled::Rows(_, count) => row_lines(rt, &words, count),
+    match table(dump, g, cells, o, &mut words) {
+        Ok(t) => row_lines(rt, &words, t.rows),
+        Err(e) => short_line(rt, e),
     }
 }
 
@@ -171,20 +170,19 @@ fn object_lines(rt: &impl Print, dump: &[u8], g: Geometry, cells: &[u32], o: Obj
     table_lines(rt, dump, g, cells, o);
 }
 
-// The lines of so many listed objects.
+// The lines of so many listed objects, as the call that wrote the ids has told their number.
 fn listed_lines(rt: &impl Print, dump: &[u8], g: Geometry, cells: &[u32], ids: &[u32], count: u32) {
-    for i in 0..count {
-        object_lines(rt, dump, g, cells, ObjectId(word_at(ids, i as usize)));
+    for &o in ids.iter().take(count as usize) {
+        object_lines(rt, dump, g, cells, ObjectId(o));
     }
 }
 
 // The lines of the live objects: no more than the 124 smallest pages that the input has room for.
 fn live_lines(rt: &impl Print, dump: &[u8], g: Geometry, cells: &[u32]) {
     let mut ids = [0u32; 128];
-    let listed = list(dump, g, cells, &mut ids);
-    match listed {
-        Listed::Refused(r, need) => short_line(rt, r, need),
-        Listed::Ids(count) => listed_lines(rt, dump, g, cells, &ids, count),
+    match list(dump, g, cells, &mut ids) {
+        Ok(count) => listed_lines(rt, dump, g, cells, &ids, count),
+        Err(e) => short_line(rt, e),
     }
 }
 
@@ -213,8 +211,7 @@ fn cell_lines(rt: &impl Print, cells: &[u32], pages: u32) {
 
 // The lines of a dump whose layout was found: an index on the words lent, whatever they held, and the objects by it.
 fn dump_lines(rt: &impl Print, dump: &[u8], g: Geometry, cells: &mut [u32]) {
-    let opened = g.opened(dump.len());
-    let Opened::Pages(pages) = opened else {
+    let Ok(pages) = g.opened(dump.len()) else {
         return;
     };
     added_line(rt, start(dump, g, cells, 0));
@@ -228,34 +225,32 @@ fn dump_lines(rt: &impl Print, dump: &[u8], g: Geometry, cells: &mut [u32]) {
 fn found_lines(rt: &impl Print, dump: &[u8], block: u8, cells: &mut [u32]) {
     let k = block as u32;
     report_lines(rt, dump, k);
-    let found = find(dump, k);
-    match found {
-        Named::Refused(_) => {}
-        Named::Layout(layout) => dump_lines(rt, dump, Geometry { layout, block: k }, cells),
+    if let Ok(layout) = find(dump, k) {
+        dump_lines(rt, dump, Geometry { layout, block: k }, cells);
     }
 }
 
-// The length that three bytes name.
+// The length that three bytes name, little-endian.
 fn length_of(a: u8, b: u8, c: u8) -> usize
     ensures { result < 2 ^ 24 }
 {
-    (a as usize) + (b as usize) * 256 + (c as usize) * 65536
+    u32::from_le_bytes([a, b, c, 0]) as usize
 }
 
-// The lines of the first vector, and how many bytes it has: 0 where none is whole.
-fn vector_lines(rt: &impl Print, input: &[u8], number: u64, cells: &mut [u32]) -> usize
-    ensures { result ≤ length input.now }
+// The lines of the first vector, and how many bytes it has, if it is whole.
+fn vector_lines(rt: &impl Print, input: &[u8], number: u64, cells: &mut [u32]) -> Option<usize>
+    ensures { IfSome result (λ n. (0 < n) × (n ≤ length input.now)) }
 {
     if input.len() < AHEAD {
-        return 0;
+        return None;
     }
     let end = AHEAD + length_of(input[1], input[2], input[3]);
     if input.len() < end {
-        return 0;
+        return None;
     }
     line(rt, b"vector=", number);
     found_lines(rt, &input[AHEAD..end], input[0], cells);
-    end
+    Some(end)
 }
 
 // The lines of all vectors.
@@ -263,10 +258,9 @@ fn all_lines(rt: &impl Print, input: &[u8], cells: &mut [u32]) {
     let mut at: usize = 0;
     let mut number: u64 = 0;
     while at < input.len() {
-        let passed = vector_lines(rt, &input[at..], number, cells);
-        if passed == 0 {
+        let Some(passed) = vector_lines(rt, &input[at..], number, cells) else {
             return;
-        }
+        };
         at += passed;
         number += 1;
     }
@@ -283,12 +277,11 @@ fn input_lines(rt: &impl Print, input: &[u8]) {
 }
 
 fn main(rt: HostRuntime) {
-    let mut buffer = [0u8; 65537];
-    let input = read_all(&mut rt.stdin(), &mut buffer);
-    match input {
-        Input::Failed => {
+    let mut buffer = [0u8; MOST + 1];
+    match read_all(&mut rt.stdin(), &mut buffer) {
+        Ok(n) => input_lines(&rt, &buffer[..n]),
+        Err(_) => {
             let _ = rt.eprintln("replay: the input could not be read");
         }
-        Input::Bytes(n) => input_lines(&rt, &buffer[..n]),
     }
 }

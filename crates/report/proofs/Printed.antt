@@ -1,11 +1,12 @@
 -- What the program prints is never longer than the bytes that it has for it.
 use Rattle.std.proofs.Common.{◌≡◌, ℕ, ◌<◌, ◌≤◌, List, [], ◌++◌, append-nil, length, length-append, length-take-le, take, arith, le_trans, ltb, lt-ltb, le-ltb, eq-or-lt_of_le, inl, inr, take_at, Option, None, Some, IfSome, refl, sym, ap, subst, ◌∙◌}
+use Rattle.std.specs.Prelude.{Option, Some, None}
 use Rattle.std.specs.Io.KnownBytes.{Consumes, IsAtEnd}
 use Rattle.page.proofs.Searching.{by_test}
 use Rattle.page.specs.declared.refusal.Refusal.TheVariants.{BadLength}
 use Rattle.text.specs.Whole.{written_by, bytes_by}
-use Rattle.text.specs.declared.written.Written.{Written}
-use Rattle.text.specs.declared.written.Written.TheVariants.{Bytes}
+use Rattle.text.specs.Written.{Written}
+use Rattle.text.specs.Written.{Bytes}
 use Rattle.text.proofs.Writing.{fits}
 use Rattle.summary.specs.Report.{longest}
 use Rattle.summary.proofs.Length.{refusal_length, report_length}

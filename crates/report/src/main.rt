@@ -5,17 +5,15 @@
 
 ghost use Rattle.std.specs.Prelude.{◌≡◌, ◌≤◌, length, OnOk, IfSome, IsErrOf};
 ghost use Rattle.std.specs.Io.KnownBytes.{Appends};
-ghost use Rattle.input.specs.Within.{IsPrefixLen};
 ghost use Rattle.text.specs.Whole.{written_by, bytes_by};
-ghost use Rattle.summary.specs.Report.{longest};
 ghost use Rattle.report.specs.Printed.{printed_of};
 
-use input::{Input, read_all};
+use input::read_all;
 use page::refusal::Refusal;
 use std::io;
 use std::io::{Read, Write};
 use summary::report::{LONGEST, write_refusal, write_report};
-use text::written::Written;
+use text::written::Short;
 
 // The pages of a block.
 const BLOCK: u32 = 4;
@@ -23,7 +21,7 @@ const BLOCK: u32 = 4;
 const MOST: usize = 65536;
 
 // Writes what is to be printed for an input, if it fits.
-fn write_printed(input: &[u8], text: &mut [u8]) -> Written
+fn write_printed(input: &[u8], text: &mut [u8]) -> Result<usize, Short>
     ensures value { result ≡ written_by (length text.old) (printed_of input.now) }
     ensures text_after { text.new ≡ bytes_by (printed_of input.now) text.old }
 {
@@ -33,26 +31,12 @@ fn write_printed(input: &[u8], text: &mut [u8]) -> Written
     write_report(input, BLOCK, text)
 }
 
-// Writes it to bytes that every report fits in, and answers its length.
-fn printed_in(input: &[u8], text: &mut [u8]) -> usize
-    requires { longest ≤ length text.old }
-    ensures value { result ≡ length (printed_of input.now) }
-    ensures prefix_len { IsPrefixLen result text.new }
-    ensures text_after { text.new ≡ bytes_by (printed_of input.now) text.old }
-{
-    let written = write_printed(input, text);
-    match written {
-        Written::Bytes(n) => n,
-        Written::Short(_) => 0,
-    }
-}
-
-// Writes the report on an input, whole.
+// Writes the report on an input, whole: every report fits.
 fn print_report<W: Write>(writer: &mut W, input: &[u8]) -> io::Result<()>
     ensures { OnOk result (Appends (W.contents writer.old) (W.contents writer.new) (printed_of input.now)) }
 {
     let mut text = [0u8; LONGEST];
-    let n = printed_in(input, &mut text);
+    let n = write_printed(input, &mut text).unwrap();
     writer.write_all(&text[..n])
 }
 
@@ -71,15 +55,9 @@ fn run<R: Read, W: Write>(reader: &mut R, writer: &mut W) -> Result<(), Failure>
         (λ bytes. Appends (W.contents writer.old) (W.contents writer.new) (printed_of bytes))) }
     ensures unread { IsErrOf result Failure.Unread → writer.new ≡ writer.old }
 {
-    let mut buffer = [0u8; 65537];
-    let input = read_all(reader, &mut buffer);
-    let Input::Bytes(n) = input else {
-        return Err(Failure::Unread);
-    };
-    match print_report(writer, &buffer[..n]) {
-        Ok(()) => Ok(()),
-        Err(_) => Err(Failure::Unwritten),
-    }
+    let mut buffer = [0u8; MOST + 1];
+    let n = read_all(reader, &mut buffer).map_err(|_| Failure::Unread)?;
+    print_report(writer, &buffer[..n]).map_err(|_| Failure::Unwritten)
 }
 
 // Says a sentence on standard error. Where it cannot be written, nobody is left to tell.
@@ -88,8 +66,7 @@ fn say(rt: &impl Eprint, sentence: &str) {
 }
 
 fn main(rt: HostRuntime) {
-    let ran = run(&mut rt.stdin(), &mut rt.stdout());
-    match ran {
+    match run(&mut rt.stdin(), &mut rt.stdout()) {
         Ok(()) => {}
         Err(Failure::Unread) => say(&rt, "report: the input could not be read"),
         Err(Failure::Unwritten) => say(&rt, "report: the report could not be written"),

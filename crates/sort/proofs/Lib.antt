@@ -8,6 +8,7 @@ pub mod Times
 pub mod Lists
 -- sorting, searching, rows of two words, and clearing
 pub mod Splitting
-pub mod Searching
 pub mod Packing
 pub mod Clearing
+-- slices copied
+pub mod Copying

@@ -7,15 +7,5 @@ pub fn first_from(words: &[u64], x: u64) -> usize
     ensures upper_bound { result ≤ length words.now }
     ensures parted { Sorted words.now → Parted x words.now result }
 {
-    let mut low: usize = 0;
-    let mut high: usize = words.len();
-    while low < high {
-        let mid = low + (high - low) / 2;
-        if words[mid] < x {
-            low = mid + 1;
-            continue;
-        }
-        high = mid;
-    }
-    low
+    words.partition_point(|&word| word < x)
 }

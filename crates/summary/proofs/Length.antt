@@ -1,5 +1,6 @@
 -- How long a report is. Nothing that it counts is more than a dump has bytes, which is a number of ten digits.
 use Prim.Native.Nat.{ℕ, ◌+◌, ◌≤◌}
+use Rattle.std.specs.Prelude.{Result, Ok, Err}
 use mathlib.Core.Bool.{cond}
 use mathlib.Core.List.{List}
 use mathlib.Core.Path.{◌≡◌, refl}
@@ -15,10 +16,7 @@ use Rattle.page.specs.Records.{record_at}
 use Rattle.page.specs.Refusals.{refusal_number}
 use Rattle.page.specs.declared.count.Counts.{Counts}
 use Rattle.page.specs.declared.geometry.Geometry.{Geometry}
-use Rattle.page.specs.declared.geometry.Opened.TheVariants.{Pages}
 use Rattle.page.specs.declared.layout.Layout.{Layout}
-use Rattle.page.specs.declared.layout.Named.{Named}
-use Rattle.page.specs.declared.layout.Named.TheVariants as named
 use Rattle.page.specs.declared.refusal.Refusal.{Refusal}
 use Rattle.page.specs.declared.refusal.Refusal.TheVariants.{BadLayout, BadLength, NoLayout, BadObject, BadChunk, NoObject, NoHeader, Deleted, NotAFile, PastEnd, ShortBuffer, ShortIndex, IndexDamaged, BadPage, AlreadyAdded, NotHeader}
 use Rattle.page.proofs.Counting.{counts_at_most}
@@ -30,7 +28,7 @@ use Rattle.chunk.specs.Live.{object_count, live_count}
 use Rattle.text.specs.Lines.{field_of, line_of}
 use Rattle.text.specs.Quoted.{bytes_of}
 use Rattle.text.specs.Whole.{written_by}
-use Rattle.text.specs.declared.written.Written.TheVariants.{Bytes, Short}
+use Rattle.text.specs.Written.{Bytes, Short}
 use Rattle.text.proofs.Lines.{field_length, line_length}
 use Rattle.text.proofs.Writing.{exactly}
 use Rattle.summary.specs.Figures.{figures_at, figured_by, figured_of}
@@ -88,7 +86,7 @@ pub refusal_length : (r : Refusal) → length (refusal_line r) ≤ longest
 unfolding refusal_line
 refusal_length r = omega (arith, line (bytes_of "refusal=") (refusal_number r) (refusal_small r))
 
-figures_length : (g : Geometry) (dump : List ℕ) (n : ℕ) → opened_of g (length dump) ≡ Pages n → length (ten_lines (figures_at g dump n)) ≤ longest
+figures_length : (g : Geometry) (dump : List ℕ) (n : ℕ) → opened_of g (length dump) ≡ Ok n → length (ten_lines (figures_at g dump n)) ≤ longest
 unfolding ten_lines figures_at object_count live_count
 figures_length g dump n e =
     let f = opened_facts g (length dump) n e in
@@ -105,10 +103,10 @@ figures_length g dump n e =
       line (bytes_of "live=") (live_count (record_at g dump) n) (le_trans (count_le _ n) most),
     ))
 
-found_length : (dump : List ℕ) (k : ℕ) (f : Named) → find_of dump k ≡ f → length (text_of (figured_by f dump k)) ≤ longest
+found_length : (dump : List ℕ) (k : ℕ) (f : (Result Layout Refusal)) → find_of dump k ≡ f → length (text_of (figured_by f dump k)) ≤ longest
 unfolding figured_by text_of
-found_length dump k (named.Refused r) e = refusal_length r
-found_length dump k (named.Layout l) e = figures_length (geometry_of l k) dump _ (found_opens dump k l e)
+found_length dump k (Err r) e = refusal_length r
+found_length dump k (Ok l) e = figures_length (geometry_of l k) dump _ (found_opens dump k l e)
 
 -- no report is longer than this, so that bytes fixed beforehand are enough
 pub report_length : (dump : List ℕ) (k : ℕ) → length (report_of dump k) ≤ longest

@@ -1,3 +1,3 @@
-pub mod Figured
+pub mod Tests
 pub mod Length
 pub mod Shelf

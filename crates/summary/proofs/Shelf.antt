@@ -1,12 +1,12 @@
 -- The report of W, letter by letter as document 01 has it: computed from the definitions. What W's pages are is known from the crate of pages.
 use mathlib.Core.Path.{◌≡◌, sym, ◌∙◌}
+use Rattle.std.specs.Prelude.{Ok}
 use lib.ListN.{length}
 use Rattle.page.specs.Counts.{counts_below}
 use Rattle.page.specs.Lengths.{opened_of}
 use Rattle.page.specs.Records.{record_at}
 use Rattle.page.specs.Search.{count}
 use Rattle.page.specs.Shelf.{shelf_geometry, shelf, shelf_kinds}
-use Rattle.page.specs.declared.geometry.Opened.TheVariants.{Pages}
 use Rattle.page.proofs.Counting.{counted_pages}
 use Rattle.page.proofs.Marked as pages
 use Rattle.chunk.specs.Gather.{gather}
@@ -20,7 +20,7 @@ use Rattle.summary.specs.Report.{layout_line, kind_lines, ten_lines, text_of, re
 
 counts : counts_below shelf_geometry shelf 8 ≡ record { blank = 1; foreign = 0; damaged = 0; headers = 3; «data» = 4 }
 counts =
-    let opened : opened_of shelf_geometry (length shelf) ≡ Pages 8 = rw (pages.marked).shelf_length (pages.marked).shelf_opened in
+    let opened : opened_of shelf_geometry (length shelf) ≡ Ok 8 = rw (pages.marked).shelf_length (pages.marked).shelf_opened in
     let e = sym (counted_pages shelf_geometry shelf 8 opened) ∙ (pages.marked).shelf_counts in
     cc
 

@@ -1,5 +1,5 @@
 -- The report as a text (document 01, "The shelf dump W"): ten lines, or the one line of a refusal.
-use Rattle.std.specs.Prelude.{ℕ, List, ◌++◌}
+use Rattle.std.specs.Prelude.{ℕ, List, ◌++◌, Result, Ok, Err}
 use Rattle.page.specs.Refusals.{refusal_number}
 use Rattle.page.specs.declared.count.Counts.{Counts}
 use Rattle.page.specs.declared.layout.Layout.{Layout}
@@ -7,8 +7,6 @@ use Rattle.page.specs.declared.refusal.Refusal.{Refusal}
 use Rattle.text.specs.Lines.{field_of, line_of}
 use Rattle.text.specs.Quoted.{bytes_of}
 use Rattle.summary.specs.Figures.{figured_of}
-use Rattle.summary.specs.declared.figures.Figured.{Figured}
-use Rattle.summary.specs.declared.figures.Figured.TheVariants as figured
 use Rattle.summary.specs.declared.figures.Figures.{Figures}
 
 -- the layout as P/S/T
@@ -39,9 +37,9 @@ unfoldable pub refusal_line : Refusal → List ℕ
 refusal_line r = line_of (bytes_of "refusal=") (refusal_number r)
 
 -- the text of figures, or of a refusal
-unfoldable pub text_of : Figured → List ℕ
-text_of (figured.Figures f) = ten_lines f
-text_of (figured.Refused r) = refusal_line r
+unfoldable pub text_of : Result Figures Refusal → List ℕ
+text_of (Ok f) = ten_lines f
+text_of (Err r) = refusal_line r
 
 -- the report of a dump in blocks of k pages
 unfoldable pub report_of : (dump : List ℕ) (k : ℕ) → List ℕ

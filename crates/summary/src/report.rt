@@ -1,15 +1,15 @@
-// The text of the report: ten lines, or the one line of a refusal.
+// The text of the report: ten lines, or the one line of a refusal, put by `text::put`, which also measures on no bytes; a formatter would need a sink.
 ghost use Rattle.std.specs.Prelude.{◌≡◌, length};
 ghost use Rattle.text.specs.Put.{Put};
 ghost use Rattle.text.specs.Whole.{written_by, bytes_by};
 ghost use Rattle.summary.specs.Report.{layout_line, kind_lines, ten_lines, refusal_line, text_of, report_of};
 
-use crate::figures::{Figured, Figures, figures_of};
+use crate::figures::{Figures, figures_of};
 use page::count::Counts;
 use page::layout::Layout;
 use page::refusal::Refusal;
 use text::put::{put_field, put_line};
-use text::written::Written;
+use text::written::Short;
 
 // No report is longer.
 pub const LONGEST: usize = 199;
@@ -47,6 +47,7 @@ fn put_figures(buf: &mut [u8], at: usize, f: Figures) -> usize
 }
 
 // Puts the one line of a refusal.
+#[tactic(auto, using(crate::proofs::Tests::cases), unfolding(crate::specs::Report::refusal_line))]
 fn put_refusal(buf: &mut [u8], at: usize, r: Refusal) -> usize
     ensures { Put (refusal_line r) buf.old at buf.new result }
 {
@@ -54,30 +55,32 @@ fn put_refusal(buf: &mut [u8], at: usize, r: Refusal) -> usize
 }
 
 // Puts the report.
-fn put_report(buf: &mut [u8], at: usize, f: Figured) -> usize
+#[tactic(auto, using(crate::proofs::Tests::cases), unfolding(crate::specs::Report::text_of))]
+fn put_report(buf: &mut [u8], at: usize, f: Result<Figures, Refusal>) -> usize
     ensures { Put (text_of f) buf.old at buf.new result }
 {
     match f {
-        Figured::Figures(figures) => put_figures(buf, at, figures),
-        Figured::Refused(refusal) => put_refusal(buf, at, refusal),
+        Ok(figures) => put_figures(buf, at, figures),
+        Err(refusal) => put_refusal(buf, at, refusal),
     }
 }
 
-// Writes the report, if it fits.
-fn write_figured(f: Figured, buf: &mut [u8]) -> Written
+// Writes the report, if it fits: measured first, by the same function on no bytes, since nothing is written where it does not.
+fn write_figured(f: Result<Figures, Refusal>, buf: &mut [u8]) -> Result<usize, Short>
     ensures value { result ≡ written_by (length buf.old) (text_of f) }
     ensures buf_after { buf.new ≡ bytes_by (text_of f) buf.old }
 {
     let need = put_report(&mut buf[..0], 0, f);
     if buf.len() < need {
-        return Written::Short(need);
+        return Err(Short { needed: need });
     }
     put_report(buf, 0, f);
-    Written::Bytes(need)
+    Ok(need)
 }
 
 // Writes the report of a dump in blocks of k pages, if it fits: the ten lines under the layout that is found, or the line of the refusal to find it.
-pub fn write_report(dump: &[u8], k: u32, buf: &mut [u8]) -> Written
+#[tactic(auto, using(crate::proofs::Tests::cases), unfolding(crate::specs::Report::report_of))]
+pub fn write_report(dump: &[u8], k: u32, buf: &mut [u8]) -> Result<usize, Short>
     ensures value { result ≡ written_by (length buf.old) (report_of dump.now k) }
     ensures buf_after { buf.new ≡ bytes_by (report_of dump.now k) buf.old }
 {
@@ -85,9 +88,9 @@ pub fn write_report(dump: &[u8], k: u32, buf: &mut [u8]) -> Written
 }
 
 // Writes the line of a refusal, if it fits.
-pub fn write_refusal(r: Refusal, buf: &mut [u8]) -> Written
+pub fn write_refusal(r: Refusal, buf: &mut [u8]) -> Result<usize, Short>
     ensures value { result ≡ written_by (length buf.old) (refusal_line r) }
     ensures buf_after { buf.new ≡ bytes_by (refusal_line r) buf.old }
 {
-    write_figured(Figured::Refused(r), buf)
+    write_figured(Err(r), buf)
 }

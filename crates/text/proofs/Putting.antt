@@ -1,13 +1,14 @@
 -- Texts put one after the other: `also` is the one law by which pieces make a text. A position that stopped counting lies past the end of all lent
 -- bytes, as the true one does, so it stands for it.
-use Prim.Native.Nat.{ℕ, suc, ◌+◌, ◌≤◌, ◌<◌}
+use Prim.Native.Nat.{ℕ, suc, ◌+◌, ◌-◌, ◌≤◌, ◌<◌, min}
 use mathlib.Core.Path.{◌≡◌, refl, ap, sym, ◌∙◌}
 use mathlib.Core.Logic.{⊎_elim}
-use mathlib.Core.List.{List, [], ◌∷◌, ◌++◌}
+use mathlib.Core.List.{List, [], ◌∷◌, ◌++◌, append_assoc}
 use native.Mathlib.Nat.{add-zero, zero-add, add-suc, suc-add}
 use native.Mathlib.Omega.{arith}
-use lib.ListN.{length, take, drop, set, length-append}
-use lib.Seq.{sets, length-sets, set_out, sets-eq}
+use lib.ListN.{length, take, drop, set, length-append, take-append-drop, drop_of_length-le}
+use lib.Seq.{sets, length-sets, set_out, sets-eq, length-take-le, drop-drop}
+use borrow.Rule.Slice.PartMut.{put_mid}
 use Rattle.text.specs.Put.{most, counted, over, Put}
 use Rattle.text.proofs.Order.{le_or_lt}
 
@@ -45,28 +46,40 @@ pub left_out_lem : (bytes : List ℕ) (at next x : ℕ) → length bytes < most 
 unfolding over
 left_out_lem bytes at next x h g e = record { short = h; holds = sym (set_out bytes at x g); behind = e }
 
--- a text past the end was put
-pub past_end : (text bytes : List ℕ) (at next : ℕ) → length bytes < most → length bytes ≤ at → next ≡ counted (at + length text) → Put text bytes at bytes next
+-- what there is no room for
+rest_out : (text bytes : List ℕ) (at n : ℕ) → at < length bytes → n ≡ min (length text) (length bytes - at) → length (take n text) ≡ n
+    → sets (sets bytes at (take n text)) (at + length (take n text)) (drop n text) ≡ sets bytes at (take n text)
+rest_out text bytes at n h e l =
+    ⊎_elim
+    (λ j. rw (drop_of_length-le text {i = n} j))
+    (λ (j : n < length text). out (drop n text) (sets bytes at (take n text)) (at + length (take n text)) (rw (length-sets bytes at (take n text)) (omega arith)))
+    (le_or_lt (length text) n)
+
+-- a text past the end is left out
+pub out_past : (text bytes : List ℕ) (at : ℕ) → length bytes ≤ at → bytes ≡ over bytes at text
 unfolding over
-past_end text bytes at next h g e = record { short = h; holds = sym (out text bytes at g); behind = e }
+out_past text bytes at g = sym (out text bytes at g)
+
+-- and so it was put
+pub past_end : (text bytes : List ℕ) (at next : ℕ) → length bytes < most → length bytes ≤ at → next ≡ counted (at + length text) → Put text bytes at bytes next
+past_end text bytes at next h g e = record { short = h; holds = out_past text bytes at g; behind = e }
 
 -- a text that has room was copied
 pub copied : (text bytes after : List ℕ) (at : ℕ) → length bytes < most → at + length text ≤ length bytes → after ≡ over bytes at text → Put text bytes at after (at + length text)
 copied text bytes after at h g e = record { short = h; holds = e; behind = sym (exact (at + length text) (omega arith)) }
 
--- bytes copied one behind another: none yet, and one more
-pub copy_none : (bytes : List ℕ) (at : ℕ) → over bytes at [] ≡ bytes
+-- a text of which as much was copied as there is room for: n bytes of it in the place of k
+pub copied_part : (text bytes new : List ℕ) (at n k : ℕ) → at < length bytes → n ≡ min (length text) (length bytes - at) → k ≡ n → new ≡ take n text
+    → put_mid at k bytes new ≡ over bytes at text
 unfolding over
-copy_none bytes at = refl
-
-pub copy_more : (text bytes after : List ℕ) (at i x : ℕ) → after ≡ over bytes at (take i text) → length (take i text) ≡ i → set after (at + i) x ≡ over bytes at (take i text ++ (x ∷ []))
-unfolding over
-copy_more text bytes after at i x e l =
-    rw e (ap (λ (k : ℕ). set (sets bytes at (take i text)) (at + k) x) (sym l) ∙ joined (take i text) (x ∷ []) bytes at)
-
-pub copy_length : (text bytes after : List ℕ) (at : ℕ) → after ≡ over bytes at text → length after ≡ length bytes
-unfolding over
-copy_length text bytes after at e = ap length e ∙ length-sets bytes at text
+copied_part text bytes new at n k h e d a =
+    let l : length (take n text) ≡ n = length-take-le n text (omega arith) in
+    let tail : drop k (drop at bytes) ≡ drop (at + length (take n text)) bytes = rw (d, l) (drop-drop n at bytes) in
+    let front : sets bytes at (take n text) ≡ put_mid at k bytes new = sets-eq (take n text) bytes at (omega arith) ∙ rw (a, tail) (append_assoc (take at bytes) (take n text) (drop (at + length (take n text)) bytes)) in
+    sym front
+    ∙ sym (rest_out text bytes at n h e l)
+    ∙ joined (take n text) (drop n text) bytes at
+    ∙ ap (sets bytes at) (take-append-drop n text)
 
 -- a text, and then another
 pub also : {s t b b₁ b₂ : List ℕ} {at m r : ℕ} → Put s b at b₁ m → Put t b₁ m b₂ r → Put (s ++ t) b at b₂ r

@@ -1,3 +1,4 @@
+pub mod Written
 pub mod Quoted
 pub mod Put
 pub mod Decimal

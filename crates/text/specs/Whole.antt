@@ -1,12 +1,11 @@
 -- A text is written whole or not at all.
-use Rattle.std.specs.Prelude.{ℕ, cond, List, ◌++◌, ltb, length, drop}
+use Rattle.std.specs.Prelude.{ℕ, cond, List, ◌++◌, ltb, length, drop, Result, Ok, Err}
 use Rattle.text.specs.Put.{counted}
-use Rattle.text.specs.declared.written.Written.{Written}
-use Rattle.text.specs.declared.written.Written.TheVariants.{Bytes, Short}
+use Rattle.text.specs.declared.written.Short.{Short}
 
 -- what is answered for a text and so many lent bytes: its length, or that they are too few and how many it needs
-unfoldable pub written_by : (room : ℕ) (text : List ℕ) → Written
-written_by room text = cond (ltb room (length text)) (Short (counted (length text))) (Bytes (length text))
+unfoldable pub written_by : (room : ℕ) (text : List ℕ) → Result ℕ Short
+written_by room text = cond (ltb room (length text)) (Err (record { needed = counted (length text) })) (Ok (length text))
 
 -- what lent bytes hold then: the text in front and the rest as it was; where they are too few, what they held
 unfoldable pub bytes_by : (text bytes : List ℕ) → List ℕ

@@ -1,9 +1,7 @@
-// What became of a text that was to be written whole.
+// Why a text that was to be written whole is not.
 
-#[derive(Clone, Copy)]
-pub enum Written {
-    // it is written; so many bytes
-    Bytes(usize),
-    // the bytes lent are too few and are left alone; so many are needed
-    Short(usize),
+// The bytes lent are too few and are left alone; so many are needed.
+#[derive(Clone, Copy, Debug, PartialEq, Eq)]
+pub struct Short {
+    pub needed: usize,
 }

@@ -1,6 +1,7 @@
--- What is answered of a dump's tree, case by case: a refused dump, a moment whose page it lacks, too few words, and enough of them. In each the tests
+-- What is answered of a dump's tree that is opened, case by case: a moment whose page it lacks, too few words, and enough of them. In each the tests
 -- of the definitions are known, and so is what is left of all three slices.
 use Prim.Native.Nat.{ℕ, ◌-◌, ◌≤◌, ◌<◌, min}
+use Rattle.std.specs.Prelude.{Ok}
 use mathlib.Core.Bool.{true, false}
 use mathlib.Core.List.{List, ◌++◌}
 use mathlib.Core.Path.{◌≡◌}
@@ -10,8 +11,6 @@ use lib.ListN.{length, drop, replicate}
 use Rattle.page.specs.Lengths.{opened_of}
 use Rattle.page.specs.Records.{record_at}
 use Rattle.page.specs.declared.geometry.Geometry.{Geometry}
-use Rattle.page.specs.declared.geometry.Opened.TheVariants as opened
-use Rattle.page.specs.declared.refusal.Refusal.{Refusal}
 use Rattle.page.specs.declared.refusal.Refusal.TheVariants.{BadPage, ShortBuffer}
 use Rattle.chunk.specs.Lists.{in_front}
 use Rattle.chunk.specs.Moments.{is_missing, takes_at}
@@ -21,8 +20,8 @@ use Rattle.tree.specs.Answers.{grown_to, says_at, tree_on, rows_left, work_left}
 use Rattle.tree.specs.Heads.{head_count}
 use Rattle.tree.specs.Objects.{says_by, names_of}
 use Rattle.tree.specs.Rows.{tree_rows}
-use Rattle.tree.specs.declared.whole.Grown.{Grown}
-use Rattle.tree.specs.declared.whole.Grown.TheVariants.{Refused}
+use Rattle.tree.specs.Grown.{Grown}
+use Rattle.tree.specs.Grown.{Refused}
 
 module _ (g : Geometry) (dump : List ℕ) (m : Moment) (rows heads work : List ℕ) where
   -- an answer, and what the three slices are left as
@@ -33,12 +32,7 @@ module _ (g : Geometry) (dump : List ℕ) (m : Moment) (rows heads work : List �
       × ((heads₁ ≡ work_left g dump m (length rows) (length heads) (length work) heads)
       × (work₁ ≡ work_left g dump m (length rows) (length heads) (length work) work)))
 
-  -- a refused dump
-  pub dump_refused : (r : Refusal) → opened_of g (length dump) ≡ opened.Refused r → Answered (Refused r 0) rows heads work
-  unfolding tree_on rows_left work_left
-  dump_refused r e = (rw e, (rw e, (rw e, rw e)))
-
-  module _ (n : ℕ) (o : opened_of g (length dump) ≡ opened.Pages n) where
+  module _ (n : ℕ) (o : opened_of g (length dump) ≡ Ok n) where
     -- a moment whose page it lacks
     pub page_refused : is_missing n m ≡ true → Answered (Refused BadPage 0) rows heads work
     unfolding tree_on rows_left work_left

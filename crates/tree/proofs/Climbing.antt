@@ -19,7 +19,9 @@ use Rattle.sort.specs.Packed.{word_values, packed, key_of, value_of}
 use Rattle.sort.proofs.Packing.{packed_key, packed_value}
 use Rattle.chunk.specs.Records.{is_gone}
 use Rattle.text.proofs.Order.{le_or_lt}
-use Rattle.tree.specs.Climbs.{kind_by, place_in, kind_in, to_root, to_none}
+use Rattle.tree.specs.declared.climb.Kind.{Kind}
+use Rattle.tree.specs.declared.climb.Kind.TheVariants.{GoesOn, Deleted, NonDirectory, Missing}
+use Rattle.tree.specs.Climbs.{kind_number, kind_by, place_in, kind_in, to_root, to_none}
 use Rattle.tree.specs.Climbs.{Headed, Leads, Walked, Climbed, Word, Ways, IsCode, FirstWays, SomeWays, Raised, Doubled}
 use Rattle.tree.specs.Heads.{Heads, object_at}
 use Rattle.tree.specs.Objects.{Stand, missing, deleted, non_directory, directory}
@@ -36,13 +38,15 @@ pub header_kind : (r : Record) → kind_by (stand_by r) < 3
 header_kind r =
     by_test (is_gone r) _ (λ t. rw t (omega arith)) (λ t. by_test (is_directory r) _ (λ u. rw (t, u) (omega arith)) (λ u. rw (t, u) (omega arith)))
 
--- that of one that is gone
-pub kind_gone : (r : Record) → is_gone r ≡ true → kind_by (stand_by r) ≡ 1
-kind_gone r e = rw e
+-- a code whose kind is known goes on, or it does not
+pub kind_goes : (k : Kind) (code : ℕ) → kind_number k ≡ kind_in code → k ≡ GoesOn → kind_in code ≡ 0
+kind_goes k code e g = sym e ∙ ap kind_number g
 
--- that of one that is not, and does not stand
-pub kind_else : (r : Record) → is_gone r ≡ false → is_standing (stand_by r) ≡ false → kind_by (stand_by r) ≡ 2
-kind_else r e f = by_test (is_directory r) _ (λ t. let z : true ≡ false = rw (e, t) at f in clash (cc)) (λ t. rw (e, t))
+pub kind_ends : (k : Kind) (code : ℕ) → kind_number k ≡ kind_in code → (k ≡ GoesOn → ⊥) → kind_in code ≡ 0 → ⊥
+kind_ends GoesOn code e d z = d refl
+kind_ends Deleted code e d z = omega arith
+kind_ends NonDirectory code e d z = omega arith
+kind_ends Missing code e d z = omega arith
 
 -- kind 0 is that of a directory
 standing_kind : (s : Stand) → kind_by s ≡ 0 → is_standing s ≡ true

@@ -1,10 +1,10 @@
 -- The rows of the newest headers, by their places. The ids ascend, so that later rows are of larger objects and no object has two; and what `Heads`
 -- says of members holds at each place.
+use Rattle.std.specs.Prelude.{Option, Some, None}
 use Prim.Native.Nat.{ℕ, ◌≤◌, ◌<◌}
 use mathlib.Core.Bool.{false}
 use mathlib.Core.List.{List, map}
 use mathlib.Core.Logic.{⊎_elim}
-use mathlib.Core.Option.{Option, none, some}
 use mathlib.Core.Path.{◌≡◌, refl, ap, ◌∙◌}
 use native.Mathlib.Nat.{le_refl, eq-or-lt_of_le}
 use native.Mathlib.Omega.{arith}
@@ -29,7 +29,7 @@ module _ (says : ℕ → Record) (n : ℕ) (heads : List ℕ) (w : Heads says n 
 
   module _ (i : ℕ) (h : i < length heads) where
     -- it has the row's page as its newest header
-    pub head_at : head_of says n (object_at heads i) ≡ some (value_of (get_or heads i 0))
+    pub head_at : head_of says n (object_at heads i) ≡ Some (value_of (get_or heads i 0))
     head_at = w.right (get_or heads i 0) (at_in i heads h)
 
     -- and as its page
@@ -77,15 +77,15 @@ module _ (says : ℕ → Record) (n : ℕ) (heads : List ℕ) (w : Heads says n 
 
   -- one with a header
   pub head_stands :
-      (o p : ℕ) → head_of says n o ≡ some p → p < word_values → (i : ℕ) × (i < length heads) × (object_at heads i ≡ o) × (value_of (get_or heads i 0) ≡ p)
+      (o p : ℕ) → head_of says n o ≡ Some p → p < word_values → (i : ℕ) × (i < length heads) × (object_at heads i ≡ o) × (value_of (get_or heads i 0) ≡ p)
   head_stands o p e h =
       let s = in_at (packed o p) heads (w.all o p e) in
       (s.place, s.inside, ap key_of s.here ∙ packed_key o p h, ap value_of s.here ∙ packed_value o p h)
 
   -- so that one that has no row has no header
-  pub no_row : n ≤ word_values → (o : ℕ) → ((i : ℕ) → i < length heads → object_at heads i ≡ o → ⊥) → head_of says n o ≡ none
+  pub no_row : n ≤ word_values → (o : ℕ) → ((i : ℕ) → i < length heads → object_at heads i ≡ o → ⊥) → head_of says n o ≡ None
   no_row small o f = go (head_of says n o) refl
     where
-      go : (r : Option ℕ) → head_of says n o ≡ r → r ≡ none
-      go none e = refl
-      go (some p) e = let s = head_stands o p e (omega (arith, head_below says n o p e)) in absurd (f s.0 s.1 s.2)
+      go : (r : Option ℕ) → head_of says n o ≡ r → r ≡ None
+      go None e = refl
+      go (Some p) e = let s = head_stands o p e (omega (arith, head_below says n o p e)) in absurd (f s.0 s.1 s.2)

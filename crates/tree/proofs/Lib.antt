@@ -1,7 +1,8 @@
+-- what closes answers that go by tests
+pub mod Tests
 -- lists of numbers, by their places
 pub mod Positions
 pub mod Fronts
-pub mod Searching
 -- what both lists mean, over the definitions alone
 pub mod Passing
 pub mod Pigeons

@@ -6,25 +6,14 @@ use mathlib.Core.Path.{◌≡◌, refl, sym, ap, ◌∙◌}
 use native.Mathlib.Nat.{add-zero, not-suc-le-zero}
 use native.Mathlib.Numerals.{add-one}
 use native.Mathlib.Omega.{arith}
-use borrow.Author.Tests.{le-leb, lt-leb, eq-eqb, ne_eqb}
+use borrow.Author.Tests.{eq-eqb, ne_eqb}
 use lib.ListN.{length, take, drop, set, get_or, length-set, drop_of_length-le}
 use lib.Seq.{drop-cons, get_or-drop, drop-set-lt, take-suc-set, append_snoc}
 use Rattle.page.specs.declared.record.Record.{Record}
-use Rattle.sort.specs.Packed.{key_of, value_of}
-use Rattle.chunk.specs.Records.{age_of}
+use Rattle.sort.specs.Packed.{key_of}
 use Rattle.tree.specs.Heads.{newer_row, newest_from, newest_each}
 
 module _ (says : ℕ → Record) where
-  -- the newer of two rows is the second, if that is as new
-  pub newer_next : (a b : ℕ) → age_of says (value_of a) ≤ age_of says (value_of b) → newer_row says a b ≡ b
-  unfolding newer_row
-  newer_next a b h = rw (le-leb _ _ h)
-
-  -- and else the first
-  pub newer_first : (a b : ℕ) → age_of says (value_of b) < age_of says (value_of a) → newer_row says a b ≡ a
-  unfolding newer_row
-  newer_first a b h = rw (lt-leb _ _ h)
-
   -- one row more, of the same object
   pub newest_same : (b x : ℕ) (L : List ℕ) → key_of b ≡ key_of x → newest_from says b (x ∷ L) ≡ newest_from says (newer_row says b x) L
   unfolding newest_from

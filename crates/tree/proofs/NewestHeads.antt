@@ -1,11 +1,11 @@
 -- The rows of the newest headers are what `Heads` says. The rows of all headers stand in order of their objects, so that those of one object stand
 -- side by side: of these the newest is kept, and no other object's. So the ids ascend, each kept page is its object's newest header, and none is left
 -- out.
+use Rattle.std.specs.Prelude.{Some}
 use Prim.Native.Nat.{ℕ, suc, ◌≤◌, ◌<◌, zero-le}
 use mathlib.Core.Bool.{true}
 use mathlib.Core.List.{List, [], ◌∷◌, map}
 use mathlib.Core.Logic.{◌⊎◌, inl, inr, ⊎_elim}
-use mathlib.Core.Option.{some}
 use mathlib.Core.Path.{◌≡◌, refl, sym, ap, ◌∙◌}
 use native.Mathlib.Nat.{le_refl, le_trans}
 use native.Mathlib.Omega.{arith}
@@ -234,7 +234,7 @@ module _ (says : ℕ → Record) where
     row-value p h = packed_value (object_of (says p)) p (omega arith)
 
     -- each kept page is its object's newest header
-    heads-right : (r : ℕ) → In r (head_rows says n) → head_of says n (key_of r) ≡ some (value_of r)
+    heads-right : (r : ℕ) → In r (head_rows says n) → head_of says n (key_of r) ≡ Some (value_of r)
     unfolding head_rows
     heads-right r i =
         let w = ids_of_lem (is_head says) (head_row says) r n (each_of r rows i) in
@@ -250,7 +250,7 @@ module _ (says : ℕ → Record) where
         (record { below = rw v w.inside; passes = own; newest = most }) (omega arith)
 
     -- and the newest header of each object is kept
-    heads-all : (o p : ℕ) → head_of says n o ≡ some p → In (packed o p) (head_rows says n)
+    heads-all : (o p : ℕ) → head_of says n o ≡ Some p → In (packed o p) (head_rows says n)
     unfolding head_rows
     heads-all o p e =
         let f = newest_found says (header_of o) n p e in
@@ -258,7 +258,7 @@ module _ (says : ℕ → Record) where
         let b : object_of (says p) ≡ o = of_object o (says p) (and_left (is_of o (says p)) _ f.passes) in
         let h = each-has (head_row says p) rows (row_in p f.below t) in
         let k : key_of h.0 ≡ o = h.2 ∙ row-key p f.below ∙ b in
-        let s : some (value_of h.0) ≡ some p = sym (heads-right h.0 h.1) ∙ rw k e in
+        let s : Some (value_of h.0) ≡ Some p = sym (heads-right h.0 h.1) ∙ rw k e in
         let v : value_of h.0 ≡ p = cc in
         let r : h.0 ≡ packed o p = sym (row_whole h.0) ∙ rw (k, v) in
         rw (← r) h.1

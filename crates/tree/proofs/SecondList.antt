@@ -5,12 +5,11 @@ use mathlib.Core.Bool.{Bool, true, false, not, ◌&&◌}
 use mathlib.Core.List.{List, [], ◌∷◌, map}
 use mathlib.Core.Path.{◌≡◌, refl, sym, ap, ◌∙◌}
 use native.Mathlib.Omega.{arith}
-use borrow.Author.Tests.{not-true, eq-eqb, ne_eqb}
+use borrow.Author.Tests.{not-true, ne_eqb}
 use lib.Dec.{eqb}
 use lib.ListN.{length, get_or, take}
 use lib.Seq.{take_all}
 use Rattle.page.specs.declared.record.Record.{Record}
-use Rattle.page.proofs.Searching.{by_test}
 use Rattle.sort.specs.Lists.{keep}
 use Rattle.sort.specs.Packed.{word_values, packed, key_of, value_of}
 use Rattle.sort.proofs.Ascending.{same_members}
@@ -85,16 +84,7 @@ module _ (says : ℕ → Record) (heads words : List ℕ) (i : ℕ) where
   abbrev row : ℕ
   row = get_or heads i 0
 
-  -- the root is not
-  pub tells_root : key_of row ≡ root → TellsOther says heads words i false
-  tells_root e names n bound rows w =
-      by_test (is_gone (says (value_of row))) _ (λ t. rw t) (λ t. rw (t, eq-eqb (key_of row) root e))
-
-  -- an object whose newest header is gone is not
-  pub tells_gone : is_gone (says (value_of row)) ≡ true → TellsOther says heads words i false
-  tells_gone e names n bound rows w = rw e
-
-  -- another is, if the first list does not have it
+  -- one that is not the root, and whose newest header is not gone, is, if the first list does not have it
   pub tells_else :
       (r : Bool) → i < length heads → (key_of row ≡ root → ⊥) → is_gone (says (value_of row)) ≡ false → TellsListed words i r →
       TellsOther says heads words i (not r)

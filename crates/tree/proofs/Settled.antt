@@ -1,10 +1,10 @@
 -- What words that have gone up tell of their objects. A word that did not end has gone more steps than there are pages, so that its way is a loop;
 -- one that ended shows where, and the reason is what is there. An object is in the first list if its way comes to the root in at most 32 steps.
 use Prim.Native.Nat.{ℕ, ◌+◌, ◌≤◌, ◌<◌}
-use mathlib.Core.Bool.{true, false}
+use mathlib.Core.Bool.{Bool, true, false}
 use mathlib.Core.List.{List}
 use mathlib.Core.Logic.{⊎_elim}
-use mathlib.Core.Path.{◌≡◌, refl, sym, ap, ◌∙◌}
+use mathlib.Core.Path.{◌≡◌, refl, sym, ap, subst, ◌∙◌}
 use native.Mathlib.Nat.{eq-or-lt_of_le}
 use native.Mathlib.Omega.{arith}
 use borrow.Author.Tests.{eqb-true, eqb-false, eq-eqb, ne_eqb}
@@ -114,6 +114,16 @@ module _ (words : List ℕ) (i code steps : ℕ) (q : Tracked words i code steps
       ∙ by_test (eqb (up says n steps o) root) _
       (λ t. t ∙ sym (near_listed says n heads o steps code v names live r q.few (eqb-true _ _ t)))
       (λ t. t ∙ sym (far_unlisted says n heads o steps code v names (eqb-false _ _ t) (λ g. clash (cc))))
+
+  -- it has gone all steps
+  pub tracked_done : most_depth ≤ steps → TellsListed words i (eqb code to_root)
+  tracked_done h =
+      by_test (eqb (kind_in code) 0) _
+      (λ t.
+      let e : kind_in code ≡ 0 = eqb-true _ _ t in
+      let u : eqb code to_root ≡ false = ne_eqb code to_root (λ z. omega arith) in
+      subst (λ (r : Bool). TellsListed words i r) (sym u) (tracked_deep e (omega (arith, q.few))))
+      (λ t. tracked_end (eqb-false _ _ t))
 
 -- ---- reasons
 

@@ -7,15 +7,15 @@ use Rattle.page.specs.declared.refusal.Refusal.TheVariants.{BadPage, ShortBuffer
 use Rattle.page.proofs.Marked as pages
 use Rattle.chunk.specs.declared.moment.Moment.TheVariants.{Now, Before}
 use Rattle.text.specs.Quoted.{bytes_of}
-use Rattle.text.specs.declared.written.Written.TheVariants as written
+use Rattle.text.specs.Written as written
 use Rattle.tree.specs.Answers.{tree_on}
 use Rattle.tree.specs.Rows.{number_of, reason_at}
 use Rattle.tree.specs.Texts.{texted_by}
 use Rattle.tree.specs.Tree.{words_of}
 use Rattle.tree.specs.declared.reason.Reason.{Reason}
 use Rattle.tree.specs.declared.reason.Reason.TheVariants.{TooDeep, Loop, Missing, Deleted, NonDirectory}
-use Rattle.tree.specs.declared.texts.Texted.TheVariants as texted
-use Rattle.tree.specs.declared.whole.Grown.TheVariants as grown
+use Rattle.tree.specs.Texted as texted
+use Rattle.tree.specs.Grown as grown
 
 -- the reasons by number
 abbrev reasons : List Reason

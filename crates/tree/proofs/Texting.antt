@@ -1,35 +1,29 @@
 -- Laws for the functions that put the text of rows: how far a name goes, what a path is by its row's key, and what one row more adds.
-use Prim.Native.Nat.{ℕ, zero, suc, ◌+◌, ◌-◌, ◌<◌}
-use mathlib.Core.Bool.{Bool, true, false}
+use Prim.Native.Nat.{ℕ, zero, suc, ◌+◌, ◌-◌, ◌≤◌}
+use mathlib.Core.Bool.{Bool, true, false, cond}
 use mathlib.Core.List.{List, [], ◌∷◌, ◌++◌}
-use mathlib.Core.Path.{◌≡◌, refl, ap}
+use mathlib.Core.Path.{◌≡◌, refl, sym, ap, ◌∙◌}
 use native.Mathlib.Numerals.{add-one}
 use native.Mathlib.Omega.{arith}
-use borrow.Author.Tests.{eq-eqb, ne_eqb}
-use lib.Dec.{eqb}
-use lib.ListN.{length, get_or, take, drop}
-use lib.Seq.{drop-cons}
+use borrow.Author.Tests.{eq-eqb, ne_eqb, ltb-false}
+use lib.Dec.{eqb, ltb}
+use lib.ListN.{length, get_or, take, length-take}
+use Rattle.std.specs.Prelude.{Option, Some, None}
+use Rattle.std.specs.List.{position_or_len}
+use Rattle.std.specs.Option.{unwrap_or}
 use Rattle.page.specs.Choice.{pick}
+use Rattle.page.proofs.Searching.{by_test}
 use Rattle.page.specs.declared.geometry.Geometry.{Geometry}
 use Rattle.sort.specs.Packed.{key_of, value_of}
 use Rattle.tree.specs.Objects.{names_of}
 use Rattle.tree.specs.Paths.{slash, up_to_zero}
 use Rattle.tree.specs.Rows.{name_on, path_in, row_lines, lines_to}
 
--- a zero byte ends a name
-pub name_ends : (L : List ℕ) (n : ℕ) → n < length L → get_or L n 0 ≡ 0 → up_to_zero (drop n L) ≡ []
+-- a name goes to the first zero byte, or to the end
+pub name_long : (L : List ℕ) → length (up_to_zero L) ≡ position_or_len (λ (x : ℕ). eqb x 0) L
 unfolding up_to_zero
-name_ends L n h e = rw (drop-cons L n 0 h, eq-eqb _ _ e)
-
--- another byte is one of it
-pub name_goes_on : (L : List ℕ) (n : ℕ) → n < length L → (get_or L n 0 ≡ 0 → ⊥) → up_to_zero (drop n L) ≡ get_or L n 0 ∷ up_to_zero (drop (suc n) L)
-unfolding up_to_zero
-name_goes_on L n h e = rw (drop-cons L n 0 h, ne_eqb _ _ e)
-
--- no bytes are no name
-pub name_none : up_to_zero [] ≡ []
-unfolding up_to_zero
-name_none = refl
+name_long [] = refl
+name_long (x ∷ L) = by_test (eqb x 0) _ (λ t. rw t) (λ t. rw t (omega (arith, name_long L)))
 
 -- a name stands in front of its bytes
 pub name_in_front : (L : List ℕ) → take (length (up_to_zero L)) L ≡ up_to_zero L
@@ -40,6 +34,19 @@ name_in_front (x ∷ L) = by (eqb x 0) (name_in_front L)
     by : (t : Bool) → take (length (up_to_zero L)) L ≡ up_to_zero L → take (length (pick t [] (x ∷ up_to_zero L))) (x ∷ L) ≡ pick t [] (x ∷ up_to_zero L)
     by true e = refl
     by false e = ap (λ (l : List ℕ). x ∷ l) e
+
+-- so it is no longer than they are
+pub name_within : (L : List ℕ) → length (up_to_zero L) ≤ length L
+name_within L = let h = simp length-take at (ap length (name_in_front L)) in omega arith
+
+-- where a search for a zero byte ends is its length
+pub name_found : (L : List ℕ) (r : Option ℕ) (n : ℕ) → let k = position_or_len (λ (x : ℕ). eqb x 0) L in
+    r ≡ cond (ltb k (length L)) (Some k) None → n ≡ unwrap_or r (length L) → n ≡ length (up_to_zero L)
+name_found L r n e u =
+    let l = name_long L in
+    by_test (ltb (position_or_len (λ (x : ℕ). eqb x 0) L) (length L)) _
+    (λ t. u ∙ rw (e, t) (sym l))
+    (λ t. u ∙ rw (e, t) (omega (arith, ltb-false _ _ t, name_within L, l)))
 
 module _ (g : Geometry) (dump : List ℕ) where
   -- so the bytes that are put are the name

@@ -5,10 +5,10 @@
 -- none before it has come to one met before, and it comes to one itself only if that is the start.
 --
 -- The reason is what the first step that stops comes to. There is one such step only, so that each reason is true and no other would be.
+use Rattle.std.specs.Prelude.{Some, None}
 use Prim.Native.Nat.{ℕ, zero, suc, ◌+◌, ◌-◌, ◌≤◌, ◌<◌}
 use mathlib.Core.Bool.{Bool, true, false, not, ◌&&◌, ◌||◌}
 use mathlib.Core.Logic.{◌⊎◌, inl, inr, ⊎_elim}
-use mathlib.Core.Option.{none, some}
 use mathlib.Core.Path.{◌≡◌, refl, sym, ap, ◌∙◌}
 use native.Mathlib.Omega.{arith}
 use lib.Dec.{eqb}
@@ -194,11 +194,11 @@ module _ (says : ℕ → Record) (n : ℕ) where
           }
 
     -- an object with a header
-    module _ (p : ℕ) (head : head_of says n o ≡ some p) where
+    module _ (p : ℕ) (head : head_of says n o ≡ Some p) where
       -- of whose way n steps go on
       module _ (on : (j : ℕ) → 1 ≤ j → j ≤ n → goes_on says n (at j) ≡ true) where
         -- up to there its objects have newest headers
-        headed : (i : ℕ) → i ≤ n → head_of says n (at i) ≡ some (page_of says n (at i))
+        headed : (i : ℕ) → i ≤ n → head_of says n (at i) ≡ Some (page_of says n (at i))
         headed i h =
             by_test (eqb i 0) _
             (λ t. let e : i ≡ 0 = eqb-true i 0 t in rw (e, up_none o) (head_page says n o p head))
@@ -208,7 +208,7 @@ module _ (says : ℕ → Record) (n : ℕ) where
         all-met : (k : ℕ) × (1 ≤ k) × (k ≤ n) × Met k
         all-met =
             let w = pigeons n (λ i. page_of says n (at i)) (λ i h. head_below says n (at i) _ (headed i h)) in
-            let one = headed w.one (omega (arith, w.before, w.inside)) ∙ ap some w.same in
+            let one = headed w.one (omega (arith, w.before, w.inside)) ∙ ap Some w.same in
             let same = same_head says n (at w.one) (at w.other) (page_of says n (at w.other)) one (headed w.other w.inside) in
             (w.other, omega (arith, w.before), w.inside, record { earlier = w.one; before = w.before; same = same })
 
@@ -291,14 +291,14 @@ module _ (says : ℕ → Record) (n : ℕ) where
     pub record BecauseMissing : Type 0 where
       pub step : ℕ
       pub comes : ComesToNew step
-      pub headless : head_of says n (up says n step o) ≡ none
+      pub headless : head_of says n (up says n step o) ≡ None
 
     -- deleted: it comes to an object whose newest header is under parent 3 or 4
     pub record BecauseDeleted : Type 0 where
       pub step : ℕ
       pub comes : ComesToNew step
       pub page : ℕ
-      pub head : head_of says n (up says n step o) ≡ some page
+      pub head : head_of says n (up says n step o) ≡ Some page
       pub gone : is_gone (says page) ≡ true
 
     -- non-directory: it comes to an object whose newest header is neither that nor of type 3
@@ -306,7 +306,7 @@ module _ (says : ℕ → Record) (n : ℕ) where
       pub step : ℕ
       pub comes : ComesToNew step
       pub page : ℕ
-      pub head : head_of says n (up says n step o) ≡ some page
+      pub head : head_of says n (up says n step o) ≡ Some page
       pub kept : is_gone (says page) ≡ false
       pub plain : is_directory (says page) ≡ false
 
@@ -319,7 +319,7 @@ module _ (says : ℕ → Record) (n : ℕ) where
   Reasoned reason.NonDirectory o = BecauseNonDirectory o
 
   -- an object with a header
-  module _ (o p : ℕ) (head : head_of says n o ≡ some p) where
+  module _ (o p : ℕ) (head : head_of says n o ≡ Some p) where
     -- the step at which its way stops
     abbrev stop : ℕ
     stop = stop_of says n o

@@ -15,8 +15,8 @@ use Rattle.chunk.specs.declared.moment.Moment.{Moment}
 use Rattle.tree.specs.Heads.{head_count}
 use Rattle.tree.specs.Objects.{says_by, names_of}
 use Rattle.tree.specs.Rows.{listed_rows, other_rows, tree_rows}
-use Rattle.tree.specs.declared.whole.Grown.{Grown}
-use Rattle.tree.specs.declared.whole.Grown.TheVariants as grown
+use Rattle.tree.specs.Grown.{Grown}
+use Rattle.tree.specs.Grown as grown
 
 -- how many rows each list of n pages has
 abbrev pub grown_to : (says : ℕ → Record) (names : ℕ → List ℕ) (pages : ℕ) → Grown

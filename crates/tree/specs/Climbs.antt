@@ -14,6 +14,8 @@ use Rattle.tree.specs.Paths.{listed}
 use Rattle.tree.specs.Rows.{number_of, other_rows}
 use Rattle.tree.specs.Tree.{is_in}
 use Rattle.tree.specs.Ways.{goes_on, up, reason_of}
+use Rattle.tree.specs.declared.climb.Kind.{Kind}
+use Rattle.tree.specs.declared.climb.Kind.TheVariants.{GoesOn, Deleted, NonDirectory, Missing}
 use Rattle.tree.specs.declared.reason.Reason.{Reason}
 use Rattle.tree.specs.declared.reason.Reason.TheVariants as reason
 
@@ -23,6 +25,13 @@ kind_by directory = 0
 kind_by deleted = 1
 kind_by non_directory = 2
 kind_by missing = 3
+
+-- its number in a code
+abbrev pub kind_number : Kind → ℕ
+kind_number GoesOn = 0
+kind_number Deleted = 1
+kind_number NonDirectory = 2
+kind_number Missing = 3
 
 -- a code has the place of an object's row and its kind
 abbrev pub place_in : (code : ℕ) → ℕ

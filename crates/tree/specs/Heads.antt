@@ -1,7 +1,6 @@
 -- The newest header of each object as a row: the object's id as its key, the page as its value. The rows of all headers are put in order, and of
 -- those of one object, which stand side by side then, the newest is kept.
-use Rattle.std.specs.Prelude.{ℕ, ◌<◌, Bool, List, [], ◌∷◌, map, ◌≡◌, eqb, leb, length, get_or}
-use Rattle.std.proofs.Math.Option.{some}
+use Rattle.std.specs.Prelude.{ℕ, ◌<◌, Bool, List, [], ◌∷◌, map, ◌≡◌, eqb, leb, length, get_or, Some}
 use Rattle.page.specs.Choice.{pick}
 use Rattle.page.specs.Records.{is_header}
 use Rattle.page.specs.Search.{count}
@@ -56,6 +55,6 @@ module _ (says : ℕ → Record) where
   -- what they are: a row for each object that has a header, ascending by id, with its newest header
   pub record Heads (n : ℕ) (rows : List ℕ) : Type 0 where
     pub ascend : Ascends 0 (map key_of rows)
-    pub right : (row : ℕ) → In row rows → head_of says n (key_of row) ≡ some (value_of row)
-    pub all : (o p : ℕ) → head_of says n o ≡ some p → In (packed o p) rows
+    pub right : (row : ℕ) → In row rows → head_of says n (key_of row) ≡ Some (value_of row)
+    pub all : (o p : ℕ) → head_of says n o ≡ Some p → In (packed o p) rows
     pub few : length rows < 0x100000000

@@ -1,3 +1,5 @@
+pub mod Grown
+pub mod Texted
 pub mod Objects
 pub mod Paths
 pub mod Ways

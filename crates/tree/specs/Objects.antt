@@ -1,6 +1,5 @@
 -- The objects of a tree (document 02, item 13): what the newest header of each says of it, over what each page says.
-use Rattle.std.specs.Prelude.{ℕ, Bool, true, false, List, eqb}
-use Rattle.std.proofs.Math.Option.{Option, none, some}
+use Rattle.std.specs.Prelude.{ℕ, Bool, true, false, List, eqb, Option, Some, None}
 use Rattle.page.specs.Asked.{text_in}
 use Rattle.page.specs.Choice.{pick}
 use Rattle.page.specs.Records.{record_at}
@@ -49,8 +48,8 @@ stand_by k = pick (is_gone k) deleted (pick (is_directory k) directory non_direc
 
 -- what a header page gives, if there is one
 abbrev pub given : {A : Type 0} → A → (ℕ → A) → Option ℕ → A
-given else by none = else
-given else by (some h) = by h
+given else by None = else
+given else by (Some h) = by h
 
 -- object o of a dump of n pages
 module _ (says : ℕ → Record) (n : ℕ) where

@@ -1,20 +1,20 @@
 -- What is answered of the text of rows and of one row's path, and what the lent bytes hold then.
-use Rattle.std.specs.Prelude.{ℕ, List, length}
+use Rattle.std.specs.Prelude.{ℕ, List, length, Err}
 use Rattle.page.specs.Lengths.{opened_of}
 use Rattle.page.specs.declared.geometry.Geometry.{Geometry}
 use Rattle.page.specs.declared.refusal.Refusal.TheVariants.{ShortBuffer}
 use Rattle.chunk.specs.Answers.{on_pages}
 use Rattle.text.specs.Whole.{written_by, bytes_by}
-use Rattle.text.specs.declared.written.Written.{Written}
-use Rattle.text.specs.declared.written.Written.TheVariants as written
+use Rattle.text.specs.Written.{Written}
+use Rattle.text.specs.Written as written
 use Rattle.tree.specs.Rows.{rows_text, path_at}
-use Rattle.tree.specs.declared.texts.Texted.{Texted}
-use Rattle.tree.specs.declared.texts.Texted.TheVariants as texted
+use Rattle.tree.specs.Texted.{Texted}
+use Rattle.tree.specs.Texted as texted
 
 -- the answer by what became of the text
 abbrev pub texted_by : Written → Texted
 texted_by (written.Bytes n) = texted.Written n
-texted_by (written.Short n) = texted.Refused ShortBuffer n
+texted_by (Err e) = texted.Refused ShortBuffer e.needed
 
 -- a dump
 module _ (g : Geometry) (dump : List ℕ) where

@@ -27,11 +27,8 @@ pub(crate) fn fill_children(
     ensures rows_after { take result rows.new ≡ child_rows (says_by g dump.now t) heads.now }
 {
     let mut at: usize = 0;
-    let mut i: usize = 0;
-    while i < heads.len() {
+    for i in 0..heads.len() {
         let head = heads[i];
-        let place = i as u32;
-        i += 1;
         if key_of(head) == ROOT {
             continue;
         }
@@ -42,7 +39,7 @@ pub(crate) fn fill_children(
         if gone_under(h.parent) {
             continue;
         }
-        at = put_row(rows, at, pack(h.parent.0, place));
+        at = put_row(rows, at, pack(h.parent.0, i as u32));
     }
     sort(rows, at);
     at

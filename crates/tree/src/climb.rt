@@ -1,14 +1,14 @@
 // Where the ways up of all objects lead, found for all at once: each round doubles the steps that the words know of.
 ghost use Rattle.std.specs.Prelude.{◌≤◌, ◌<◌, ◌≡◌, length, get_or};
 ghost use Rattle.sort.specs.Packed.{value_of};
-ghost use Rattle.tree.specs.Climbs.{kind_by, code_places, IsCode, FirstWays, SomeWays, Raised, Doubled, Ways, TellsListed, reason_in};
+ghost use Rattle.tree.specs.Climbs.{kind_number, kind_by, kind_in, code_places, IsCode, FirstWays, SomeWays, Raised, Doubled, Ways, TellsListed, reason_in};
 ghost use Rattle.tree.specs.Heads.{Heads};
 ghost use Rattle.tree.specs.Objects.{stand_by, says_by};
 ghost use Rattle.sort.specs.Search.{Sorted};
 
 use crate::objects::{MOST_DEPTH, ROOT, is_standing, parent_in};
 use crate::reason::Reason;
-use crate::search::{Found, find};
+use crate::search::find;
 use chunk::record::is_gone;
 use chunk::takes::{Takes, seen_at};
 use page::geometry::Geometry;
@@ -16,30 +16,58 @@ use page::number::PageNumber;
 use page::record::Record;
 use sort::rows::{key_of, pack, value_of};
 
-// The kinds of objects in codes.
-const GOES_ON: u32 = 0;
+// How an object stands as a parent. A code has the place of an object's row and its kind in one number, since the words that codes are kept in are
+// lent, and no more than there are headers.
+#[derive(Clone, Copy)]
+enum Kind {
+    GoesOn,
+    Deleted,
+    NonDirectory,
+    Missing,
+}
 
-const DELETED: u32 = 1;
+impl Kind {
+    // The number of a kind.
+    fn number(self) -> u32
+        ensures { result ≡ kind_number self }
+    {
+        self as u32
+    }
+}
 
-const NON_DIRECTORY: u32 = 2;
+// The kind in a code.
+impl From<u32> for Kind {
+    ghost from_gives = { λ code kind. kind_number kind ≡ kind_in code };
 
-const MISSING: u32 = 3;
-// The codes of the root, and of an object that has no header.
+    fn from(code: u32) -> Kind
+        ensures { kind_number result ≡ kind_in code }
+    {
+        match code % 4 {
+            0 => Kind::GoesOn,
+            1 => Kind::Deleted,
+            2 => Kind::NonDirectory,
+            _ => Kind::Missing,
+        }
+    }
+}
+
+// The codes of the root, and of an object that has no header: the kind of a missing one, and no place.
 const TO_ROOT: u32 = 3;
 
 const TO_NONE: u32 = 7;
 
 // The kind of an object whose newest header this is.
-fn kind_of(r: Record) -> u32
-    ensures { result ≡ kind_by (stand_by r) }
+#[tactic(auto, using(crate::proofs::Tests::cases))]
+fn kind_of(r: Record) -> Kind
+    ensures { kind_number result ≡ kind_by (stand_by r) }
 {
     if is_gone(r) {
-        return DELETED;
+        return Kind::Deleted;
     }
     if is_standing(r) {
-        return GOES_ON;
+        return Kind::GoesOn;
     }
-    NON_DIRECTORY
+    Kind::NonDirectory
 }
 
 // The code of an object.
@@ -52,10 +80,10 @@ fn code_of(dump: &[u8], g: Geometry, t: Takes, heads: &[u64], o: u32) -> u32
         return TO_ROOT;
     }
     match find(heads, o) {
-        Found::Nowhere => TO_NONE,
-        Found::At(i) => {
+        None => TO_NONE,
+        Some(i) => {
             let page = PageNumber(value_of(heads[i]));
-            (i as u32) * 4 + kind_of(seen_at(dump, g, t, page))
+            (i as u32) * 4 + kind_of(seen_at(dump, g, t, page)).number()
         }
     }
 }
@@ -67,13 +95,11 @@ fn fill_ways(dump: &[u8], g: Geometry, t: Takes, heads: &[u64], ways: &mut [u64]
     requires ways_len { length ways.old ≡ length heads.now }
     ensures { FirstWays (says_by g dump.now t) heads.now ways.new }
 {
-    let mut i: usize = 0;
-    while i < heads.len() {
+    for i in 0..heads.len() {
         let page = PageNumber(value_of(heads[i]));
         let parent = parent_in(seen_at(dump, g, t, page));
         let code = code_of(dump, g, t, heads, parent);
         ways[i] = pack(code, code);
-        i += 1;
     }
 }
 
@@ -82,21 +108,18 @@ fn double(ways: &mut [u64])
     requires { SomeWays ways.old }
     ensures { Doubled ways.old ways.new }
 {
-    let mut i: usize = 0;
-    while i < ways.len() {
+    for i in 0..ways.len() {
         let word = ways[i];
-        let at = i;
-        i += 1;
         let jump = value_of(word);
-        if jump % 4 != GOES_ON {
+        let Kind::GoesOn = jump.into() else {
             continue;
-        }
+        };
         let next = value_of(ways[(jump / 4) as usize]);
-        ways[at] = pack(key_of(word), next);
+        ways[i] = pack(key_of(word), next);
     }
 }
 
-// Lets the words go up until each has ended, or has gone as many steps as there are pages.
+// Lets the words go up until each has ended, or has gone as many steps as there are pages. Each round doubles the steps, so that no range counts them.
 fn climb(ways: &mut [u64], pages: u32)
     requires { SomeWays ways.old }
     ensures { Raised 0 pages ways.old ways.new }
@@ -133,18 +156,17 @@ pub(crate) fn is_listed(ways: &[u64], i: usize) -> bool
     ensures { TellsListed ways.now i result }
 {
     let mut code = key_of(ways[i]);
-    let mut steps: u32 = 1;
-    while code % 4 == GOES_ON {
-        if steps == MOST_DEPTH {
-            return false;
-        }
+    for _step in 1..MOST_DEPTH {
+        let Kind::GoesOn = code.into() else {
+            return code == TO_ROOT;
+        };
         code = key_of(ways[(code / 4) as usize]);
-        steps += 1;
     }
     code == TO_ROOT
 }
 
 // The reason of the object of row i, by where its way has come to.
+#[tactic(auto, using(crate::proofs::Tests::cases), unfolding(crate::specs::Climbs::reason_in))]
 pub(crate) fn reason_at(ways: &[u64], i: usize) -> Reason
     requires { i < length ways.now }
     ensures { result ≡ reason_in i (value_of (get_or ways.now i 0)) }
@@ -153,18 +175,11 @@ pub(crate) fn reason_at(ways: &[u64], i: usize) -> Reason
     if code == TO_ROOT {
         return Reason::TooDeep;
     }
-    let kind = code % 4;
-    if kind == MISSING {
-        return Reason::Missing;
+    match code.into() {
+        Kind::Missing => Reason::Missing,
+        Kind::GoesOn => Reason::Loop,
+        _ if (code / 4) as usize == i => Reason::Loop,
+        Kind::Deleted => Reason::Deleted,
+        Kind::NonDirectory => Reason::NonDirectory,
     }
-    if kind == GOES_ON {
-        return Reason::Loop;
-    }
-    if (code / 4) as usize == i {
-        return Reason::Loop;
-    }
-    if kind == DELETED {
-        return Reason::Deleted;
-    }
-    Reason::NonDirectory
 }

@@ -6,7 +6,7 @@ ghost use Rattle.tree.specs.Heads.{is_head, head_row, head_count, newer_row, new
 ghost use Rattle.tree.specs.Objects.{says_by};
 
 use crate::row::put_row;
-use chunk::record::{order_of, sequence_of};
+use chunk::record::{is_header, order_of, sequence_of};
 use chunk::takes::{Takes, seen_at};
 use page::geometry::Geometry;
 use page::number::PageNumber;
@@ -14,19 +14,15 @@ use page::record::Record;
 use sort::keys::sort;
 use sort::rows::{key_of, pack, value_of};
 
-// How many headers the first pages have.
+// How many headers the first pages have: counted apart from the gathering, since words for them are lent.
 pub(crate) fn count_heads(dump: &[u8], g: Geometry, t: Takes, pages: u32) -> u32
     ensures { result ≡ head_count (says_by g dump.now t) pages }
 {
     let mut count: u32 = 0;
-    let mut i: u32 = 0;
-    while i < pages {
-        let r = seen_at(dump, g, t, PageNumber(i));
-        i += 1;
-        let Record::Header(_) = r else {
-            continue;
-        };
-        count += 1;
+    for i in 0..pages {
+        if is_header(seen_at(dump, g, t, PageNumber(i))) {
+            count += 1;
+        }
     }
     count
 }
@@ -37,19 +33,16 @@ fn gather_heads(dump: &[u8], g: Geometry, t: Takes, pages: u32, rows: &mut [u64]
     ensures { rows.new ≡ passed (is_head (says_by g dump.now t)) (head_row (says_by g dump.now t)) pages }
 {
     let mut at: usize = 0;
-    let mut i: u32 = 0;
-    while i < pages {
-        let r = seen_at(dump, g, t, PageNumber(i));
-        let p = i;
-        i += 1;
-        let Record::Header(h) = r else {
+    for i in 0..pages {
+        let Record::Header(h) = seen_at(dump, g, t, PageNumber(i)) else {
             continue;
         };
-        at = put_row(rows, at, pack(h.object.0, p));
+        at = put_row(rows, at, pack(h.object.0, i));
     }
 }
 
-// How new a page is.
+// How new a page is, at a moment.
+#[tactic(auto, using(crate::proofs::Tests::cases))]
 fn age_at(dump: &[u8], g: Geometry, t: Takes, p: PageNumber) -> u64
     ensures { result ≡ age_of (says_by g dump.now t) p.0 }
 {
@@ -57,6 +50,7 @@ fn age_at(dump: &[u8], g: Geometry, t: Takes, p: PageNumber) -> u64
 }
 
 // The newer of two rows, the second of which stands behind the first.
+#[tactic(auto, using(crate::proofs::Tests::cases), unfolding(crate::specs::Heads::newer_row))]
 fn newer_row(dump: &[u8], g: Geometry, t: Takes, row: u64, next: u64) -> u64
     ensures { result ≡ newer_row (says_by g dump.now t) row next }
 {
@@ -79,10 +73,8 @@ fn keep_newest(dump: &[u8], g: Geometry, t: Takes, rows: &mut [u64]) -> usize
     }
     let mut best = rows[0];
     let mut at: usize = 0;
-    let mut i: usize = 1;
-    while i < n {
+    for i in 1..n {
         let row = rows[i];
-        i += 1;
         if key_of(best) == key_of(row) {
             best = newer_row(dump, g, t, best, row);
             continue;
@@ -96,6 +88,7 @@ fn keep_newest(dump: &[u8], g: Geometry, t: Takes, rows: &mut [u64]) -> usize
 }
 
 // Puts the newest headers of all objects in front of rows that have room for all headers. Answers how many they are.
+#[tactic(auto, using(crate::proofs::Tests::cases, sort::proofs::Splitting::all_first), unfolding(crate::specs::Heads::head_rows, chunk::specs::Live::ids_of))]
 pub(crate) fn fill_heads(dump: &[u8], g: Geometry, t: Takes, pages: u32, rows: &mut [u64]) -> usize
     requires { length rows.old ≡ head_count (says_by g dump.now t) pages }
     ensures upper_bound { result ≤ length rows.old }

@@ -1,5 +1,5 @@
-// The rows of the first list. Listing a directory lists each of its entries, and listing an entry that is a directory lists that in turn, with one
-// step less to go.
+// The rows of the first list, a word each whose key is the place of the directory's row: so the C interface has them. Listing a directory lists each
+// of its entries, and listing an entry that is a directory lists that in turn, with one step less to go.
 ghost use Rattle.std.specs.Prelude.{◌≡◌, ◌<◌, length, get_or};
 ghost use Rattle.sort.specs.Packed.{value_of};
 ghost use Rattle.text.specs.Put.{Put};
@@ -9,7 +9,7 @@ ghost use Rattle.tree.specs.Objects.{says_by, names_of};
 ghost use Rattle.tree.specs.Rows.{entry_rows, rows_under};
 
 use crate::objects::is_standing;
-use crate::row::{MOST_KEY, key_behind, put_row};
+use crate::row::{key_behind, put_row};
 use chunk::takes::{Takes, seen_at};
 use page::geometry::Geometry;
 use page::number::PageNumber;
@@ -40,10 +40,9 @@ pub(crate) fn list_directory(
         return at;
     }
     let first = first_from(children, pack(directory, 0));
-    let end = first_from(children, pack(directory, MOST_KEY));
+    let end = first_from(children, pack(directory, u32::MAX));
     let mut next = at;
-    let mut i = first;
-    while i < end {
+    for i in first..end {
         next = list_entry(
             dump,
             g,
@@ -57,7 +56,6 @@ pub(crate) fn list_directory(
             rows,
             next,
         );
-        i += 1;
     }
     next
 }

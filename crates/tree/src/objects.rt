@@ -12,26 +12,23 @@ const DIRECTORY: u32 = 3;
 // How many steps below the root the first list goes.
 pub(crate) const MOST_DEPTH: u32 = 32;
 
-// The parent that a header names; 0, which no object has, for another page.
+// The parent that a header names; 0, which no object has, for another page: the definition goes on from there as from an object with no header.
 pub(crate) fn parent_in(r: Record) -> u32
     ensures { result ≡ parent_in r }
 {
     match r {
-        Record::Other => 0,
         Record::Header(h) => h.parent.0,
-        Record::Data(_) => 0,
+        Record::Other | Record::Data(_) => 0,
     }
 }
 
-// Whether an object stands as a directory, by its newest header.
+// Whether an object stands as a directory, by its newest header; a test of its own, as those of chunk's records.
+#[tactic(auto, using(crate::proofs::Tests::cases))]
 pub(crate) fn is_standing(r: Record) -> bool
     ensures { result ≡ is_standing (stand_by r) }
 {
-    let Record::Header(h) = r else {
-        return false;
-    };
-    if gone_under(h.parent) {
-        return false;
+    match r {
+        Record::Header(h) => !gone_under(h.parent) && h.page_type == DIRECTORY,
+        Record::Other | Record::Data(_) => false,
     }
-    h.page_type == DIRECTORY
 }

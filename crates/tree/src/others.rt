@@ -20,14 +20,9 @@ fn is_other(dump: &[u8], g: Geometry, t: Takes, heads: &[u64], ways: &[u64], i: 
     ensures { TellsOther (says_by g dump.now t) heads.now ways.now i result }
 {
     let row = heads[i];
-    if key_of(row) == ROOT {
-        return false;
-    }
-    let page = PageNumber(value_of(row));
-    if is_gone(seen_at(dump, g, t, page)) {
-        return false;
-    }
-    !is_listed(ways, i)
+    key_of(row) != ROOT
+        && !is_gone(seen_at(dump, g, t, PageNumber(value_of(row))))
+        && !is_listed(ways, i)
 }
 
 // Puts the rows of the second list at a position. Answers the position behind.
@@ -46,16 +41,11 @@ pub(crate) fn list_others(
         rows.old at rows.new result }
 {
     let mut end = at;
-    let mut i: usize = 0;
-    while i < heads.len() {
-        let row = heads[i];
-        let k = i;
-        i += 1;
-        if !is_other(dump, g, t, heads, ways, k) {
-            continue;
+    for i in 0..heads.len() {
+        if is_other(dump, g, t, heads, ways, i) {
+            let number = reason_at(ways, i).number();
+            end = put_row(rows, end, pack(number, value_of(heads[i])));
         }
-        let number = reason_at(ways, k).number();
-        end = put_row(rows, end, pack(number, value_of(row)));
     }
     end
 }

@@ -2,18 +2,18 @@
 ghost use Rattle.std.specs.Prelude.{◌≡◌};
 ghost use Rattle.tree.specs.Rows.{number_of, reason_at};
 
-#[derive(Clone, Copy)]
+#[derive(Clone, Copy, PartialEq, Eq)]
 pub enum Reason {
     // at the root, but from too far below
-    TooDeep,
+    TooDeep = 1,
     // at the object itself, or at one that was met before
-    Loop,
+    Loop = 2,
     // at a parent that has no header
-    Missing,
+    Missing = 3,
     // at one that is unlinked or deleted
-    Deleted,
+    Deleted = 4,
     // at one that is no directory
-    NonDirectory,
+    NonDirectory = 5,
 }
 
 impl Reason {
@@ -21,31 +21,24 @@ impl Reason {
     pub fn number(self) -> u32
         ensures { result ≡ number_of self }
     {
-        match self {
-            Reason::TooDeep => 1,
-            Reason::Loop => 2,
-            Reason::Missing => 3,
-            Reason::Deleted => 4,
-            Reason::NonDirectory => 5,
-        }
+        self as u32
     }
+}
 
-    // The reason of a number.
-    pub fn of(number: u32) -> Reason
+// The reason of a number.
+impl From<u32> for Reason {
+    ghost from_gives = { λ number r. r ≡ reason_at number };
+
+    #[tactic(auto, using(crate::proofs::Tests::cases), unfolding(crate::specs::Rows::reason_at))]
+    fn from(number: u32) -> Reason
         ensures { result ≡ reason_at number }
     {
-        if number == 1 {
-            return Reason::TooDeep;
+        match number {
+            1 => Reason::TooDeep,
+            2 => Reason::Loop,
+            3 => Reason::Missing,
+            4 => Reason::Deleted,
+            _ => Reason::NonDirectory,
         }
-        if number == 2 {
-            return Reason::Loop;
-        }
-        if number == 3 {
-            return Reason::Missing;
-        }
-        if number == 4 {
-            return Reason::Deleted;
-        }
-        Reason::NonDirectory
     }
 }

@@ -5,24 +5,15 @@ ghost use Rattle.tree.specs.Search.{Finds};
 use sort::rows::{key_of, pack};
 use sort::search::first_from;
 
-// The place of a row, or that there is none.
-#[derive(Clone, Copy)]
-pub enum Found {
-    At(usize),
-    Nowhere,
-}
-
-// The row of a key.
-pub(crate) fn find(rows: &[u64], key: u32) -> Found
+// The place of the row of a key, if there is one.
+#[tactic(auto, using(crate::proofs::Tests::cases))]
+pub(crate) fn find(rows: &[u64], key: u32) -> Option<usize>
     requires { Sorted rows.now }
     ensures { Finds key rows.now result }
 {
     let i = first_from(rows, pack(key, 0));
-    if rows.len() <= i {
-        return Found::Nowhere;
+    if i < rows.len() && key_of(rows[i]) == key {
+        return Some(i);
     }
-    if key_of(rows[i]) != key {
-        return Found::Nowhere;
-    }
-    Found::At(i)
+    None
 }

@@ -14,40 +14,24 @@ use crate::objects::MOST_DEPTH;
 use crate::reason::Reason;
 use chunk::record::object_of;
 use page::fields::Text;
-use page::geometry::{Geometry, Opened};
+use page::geometry::Geometry;
 use page::header::text_in;
 use page::number::PageNumber;
 use page::record::record_at;
-use page::refusal::Refusal;
+use page::refusal::{Refusal, Short};
 use sort::rows::{key_of, row_at, value_of};
 use text::put::{put_byte, put_line, put_text};
-use text::written::Written;
+use text::written;
 
 // How many bytes were written; or a refusal, with the bytes that ShortBuffer needs.
-#[derive(Clone, Copy)]
-pub enum Texted {
-    Written(u64),
-    Refused(Refusal, u64),
-}
-
-// The byte before each name of a path.
-const SLASH: u8 = 47;
-// The byte that ends a line.
-const NEWLINE: u8 = 10;
+pub type Texted = Result<u64, Short<u64>>;
 
 // How many bytes stand before the first zero byte.
 fn name_length(bytes: &[u8]) -> usize
     ensures value { result ≡ length (up_to_zero bytes.now) }
     ensures upper_bound { result ≤ length bytes.now }
 {
-    let mut n = 0;
-    while n < bytes.len() {
-        if bytes[n] == 0 {
-            return n;
-        }
-        n += 1;
-    }
-    n
+    bytes.iter().position(|&x| x == 0).unwrap_or(bytes.len())
 }
 
 // Puts the name on a page.
@@ -63,7 +47,7 @@ fn put_name(dump: &[u8], g: Geometry, p: PageNumber, buf: &mut [u8], at: usize) 
 fn put_step(dump: &[u8], g: Geometry, row: u64, buf: &mut [u8], at: usize) -> usize
     ensures { Put (slash ∷ name_on g dump.now (value_of row)) buf.old at buf.new result }
 {
-    let next = put_byte(buf, at, SLASH);
+    let next = put_byte(buf, at, b'/');
     put_name(dump, g, PageNumber(value_of(row)), buf, next)
 }
 
@@ -92,6 +76,7 @@ fn put_path(
 }
 
 // Puts the line of a row's object.
+#[tactic(auto, using(crate::proofs::Tests::cases))]
 fn put_object(dump: &[u8], g: Geometry, row: u64, buf: &mut [u8], at: usize) -> usize
     ensures { Put (line_of (bytes_of "object=") (object_in g dump.now row)) buf.old at buf.new result }
 {
@@ -114,10 +99,11 @@ fn put_path_lines(
     let key = put_object(dump, g, row_at(rows, i), buf, at);
     let path = put_text(buf, key, b"path=");
     let end = put_path(dump, g, rows, MOST_DEPTH, i, buf, path);
-    put_byte(buf, end, NEWLINE)
+    put_byte(buf, end, b'\n')
 }
 
 // Puts a reason in words.
+#[tactic(auto, using(crate::proofs::Tests::cases))]
 fn put_words(r: Reason, buf: &mut [u8], at: usize) -> usize
     ensures { Put (words_of r) buf.old at buf.new result }
 {
@@ -136,11 +122,12 @@ fn put_reason_lines(dump: &[u8], g: Geometry, row: u64, buf: &mut [u8], at: usiz
 {
     let key = put_object(dump, g, row, buf, at);
     let words = put_text(buf, key, b"reason=");
-    let end = put_words(Reason::of(key_of(row)), buf, words);
-    put_byte(buf, end, NEWLINE)
+    let end = put_words(key_of(row).into(), buf, words);
+    put_byte(buf, end, b'\n')
 }
 
 // Puts the two lines of row i, of which so many are of the first list.
+#[tactic(auto, using(crate::proofs::Tests::cases), unfolding(crate::specs::Rows::row_lines))]
 fn put_row_lines(
     dump: &[u8],
     g: Geometry,
@@ -170,10 +157,8 @@ fn put_lines(
     ensures { Put (rows_text g dump.now rows.now listed) buf.old at buf.new result }
 {
     let mut next = at;
-    let mut i: usize = 0;
-    while i < rows.len() {
+    for i in 0..rows.len() {
         next = put_row_lines(dump, g, rows, listed, i, buf, next);
-        i += 1;
     }
     next
 }
@@ -188,62 +173,75 @@ fn put_path_at(dump: &[u8], g: Geometry, rows: &[u64], i: usize, buf: &mut [u8],
     at
 }
 
-// Writes the lines of all rows, if they fit.
-fn write_lines(dump: &[u8], g: Geometry, rows: &[u64], listed: u32, buf: &mut [u8]) -> Written
+// Writes the lines of all rows, if they fit. This and the next measure on no bytes; as one function with a closure they would need a contract of what
+// the closure puts, longer than the two.
+fn write_lines(
+    dump: &[u8],
+    g: Geometry,
+    rows: &[u64],
+    listed: u32,
+    buf: &mut [u8],
+) -> Result<usize, written::Short>
     ensures value { result ≡ written_by (length buf.old) (rows_text g dump.now rows.now listed) }
     ensures buf_after { buf.new ≡ bytes_by (rows_text g dump.now rows.now listed) buf.old }
 {
     let need = put_lines(dump, g, rows, listed, &mut buf[..0], 0);
     if buf.len() < need {
-        return Written::Short(need);
+        return Err(written::Short { needed: need });
     }
     put_lines(dump, g, rows, listed, buf, 0);
-    Written::Bytes(need)
+    Ok(need)
 }
 
 // Writes the path of row i, if it fits.
-fn write_path(dump: &[u8], g: Geometry, rows: &[u64], i: usize, buf: &mut [u8]) -> Written
+fn write_path(
+    dump: &[u8],
+    g: Geometry,
+    rows: &[u64],
+    i: usize,
+    buf: &mut [u8],
+) -> Result<usize, written::Short>
     ensures value { result ≡ written_by (length buf.old) (path_at g dump.now rows.now i) }
     ensures buf_after { buf.new ≡ bytes_by (path_at g dump.now rows.now i) buf.old }
 {
     let need = put_path_at(dump, g, rows, i, &mut buf[..0], 0);
     if buf.len() < need {
-        return Written::Short(need);
+        return Err(written::Short { needed: need });
     }
     put_path_at(dump, g, rows, i, buf, 0);
-    Written::Bytes(need)
+    Ok(need)
 }
 
-// The answer by what became of a text.
-fn texted_by(w: Written) -> Texted
+// The answer by what became of a text. A From would have to stand in a crate that has neither type.
+#[tactic(auto, using(crate::proofs::Tests::cases))]
+fn texted_by(w: Result<usize, written::Short>) -> Texted
     ensures { result ≡ texted_by w }
 {
     match w {
-        Written::Bytes(n) => Texted::Written(n as u64),
-        Written::Short(n) => Texted::Refused(Refusal::ShortBuffer, n as u64),
+        Ok(n) => Ok(n as u64),
+        Err(e) => Err(Short {
+            refusal: Refusal::ShortBuffer,
+            need: e.needed as u64,
+        }),
     }
 }
 
 // Writes the text of rows, of which so many are of the first list, if it fits.
+#[tactic(auto, using(crate::proofs::Tests::cases), unfolding(crate::specs::Texts::texted_on, crate::specs::Texts::texted_left))]
 pub fn text(dump: &[u8], g: Geometry, rows: &[u64], listed: u32, buf: &mut [u8]) -> Texted
     ensures value { result ≡ text_on g dump.now rows.now listed (length buf.old) }
     ensures buf_after { buf.new ≡ text_left g dump.now rows.now listed buf.old }
 {
-    let p = g.opened(dump.len());
-    match p {
-        Opened::Refused(r) => Texted::Refused(r, 0),
-        Opened::Pages(_) => texted_by(write_lines(dump, g, rows, listed, buf)),
-    }
+    g.opened(dump.len())?;
+    texted_by(write_lines(dump, g, rows, listed, buf))
 }
 
 // Writes the path of a row, if it fits; no bytes where there is no such row.
+#[tactic(auto, using(crate::proofs::Tests::cases), unfolding(crate::specs::Texts::texted_on, crate::specs::Texts::texted_left))]
 pub fn path(dump: &[u8], g: Geometry, rows: &[u64], row: u32, buf: &mut [u8]) -> Texted
     ensures value { result ≡ path_on g dump.now rows.now row (length buf.old) }
     ensures buf_after { buf.new ≡ path_left g dump.now rows.now row buf.old }
 {
-    let p = g.opened(dump.len());
-    match p {
-        Opened::Refused(r) => Texted::Refused(r, 0),
-        Opened::Pages(_) => texted_by(write_path(dump, g, rows, row as usize, buf)),
-    }
+    g.opened(dump.len())?;
+    texted_by(write_path(dump, g, rows, row as usize, buf))
 }

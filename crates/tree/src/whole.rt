@@ -1,8 +1,8 @@
-// The rows of both lists of a dump's tree.
-ghost use Rattle.std.specs.Prelude.{◌≡◌, ◌≤◌, ◌<◌, min, length, replicate};
+// The rows of both lists of a dump's tree. All words are lent: those of the rows, and as many for the newest headers and for the children, and then
+// the ways up.
+ghost use Rattle.std.specs.Prelude.{◌≡◌, ◌≤◌, ◌<◌, length, replicate};
 ghost use Rattle.page.specs.Numbers.{page_values};
 ghost use Rattle.page.specs.Lengths.{opened_of};
-ghost use Rattle.page.specs.declared.geometry.Opened.TheVariants as opened;
 ghost use Rattle.chunk.specs.Lists.{in_front};
 ghost use Rattle.text.specs.Put.{Put};
 ghost use Rattle.tree.specs.Answers.{grown_to, tree_on, rows_left, work_left};
@@ -18,27 +18,21 @@ use crate::list::list_directory;
 use crate::objects::{MOST_DEPTH, ROOT};
 use crate::others::list_others;
 use chunk::moment::Moment;
-use chunk::record::lesser;
 use chunk::takes::Takes;
-use page::geometry::{Geometry, Opened};
-use page::refusal::Refusal;
-use sort::room::clear;
+use page::geometry::Geometry;
+use page::refusal::{Refusal, Short};
 
 // How many rows the first list has, and the second; or a refusal, with the words that each slice needs beside ShortBuffer.
-#[derive(Clone, Copy)]
-pub enum Grown {
-    Rows(u32, u32),
-    Refused(Refusal, u32),
-}
+pub type Grown = Result<Lists, Short<u32>>;
 
-// The least of three numbers.
-fn least(a: usize, b: usize, c: usize) -> usize
-    ensures { result ≡ min a (min b c) }
-{
-    lesser(a, lesser(b, c))
+#[derive(Clone, Copy)]
+pub struct Lists {
+    pub listed: u32,
+    pub others: u32,
 }
 
 // Puts the rows of the first list, with words to work in. Answers how many they are.
+#[tactic(auto, using(crate::proofs::Tests::cases), unfolding(crate::specs::Rows::listed_rows))]
 fn first_list(
     dump: &[u8],
     g: Geometry,
@@ -91,7 +85,7 @@ fn second_list(
 }
 
 // Puts the rows of both lists, with as many words to work in as there are heads.
-fn lists(
+fn put_lists(
     dump: &[u8],
     g: Geometry,
     t: Takes,
@@ -111,9 +105,10 @@ fn lists(
     let listed = first_list(dump, g, t, pages, heads, work, rows);
     let all = second_list(dump, g, t, pages, heads, work, rows, listed);
     let others = all - listed;
-    let first = listed as u32;
-    let second = others as u32;
-    Grown::Rows(first, second)
+    Ok(Lists {
+        listed: listed as u32,
+        others: others as u32,
+    })
 }
 
 // Puts the rows of both lists. The other words, as many as there are headers, are worked in and cleared.
@@ -136,11 +131,10 @@ fn both_lists(
     ensures heads_after { heads.new ≡ replicate (length heads.old) 0 }
     ensures work_after { work.new ≡ replicate (length work.old) 0 }
 {
-    let n = heads.len();
     let count = fill_heads(dump, g, t, pages, heads);
-    let answer = lists(dump, g, t, pages, &heads[..count], &mut work[..count], rows);
-    clear(heads, 0, n);
-    clear(work, 0, n);
+    let answer = put_lists(dump, g, t, pages, &heads[..count], &mut work[..count], rows);
+    heads.fill(0);
+    work.fill(0);
     answer
 }
 
@@ -154,7 +148,7 @@ fn tree_in(
     heads: &mut [u64],
     work: &mut [u64],
 ) -> Grown
-    requires { opened_of g (length dump.now) ≡ opened.Pages pages }
+    requires { opened_of g (length dump.now) ≡ Ok pages }
     ensures value { result ≡ tree_on g dump.now m
         (length rows.old) (length heads.old) (length work.old) }
     ensures rows_after { rows.new ≡ rows_left g dump.now m
@@ -165,13 +159,16 @@ fn tree_in(
         (length rows.old) (length heads.old) (length work.old) work.old }
 {
     if m.is_missing(pages) {
-        return Grown::Refused(Refusal::BadPage, 0);
+        return Err(Refusal::BadPage.into());
     }
     let t = m.takes(dump, g);
     let need = count_heads(dump, g, t, pages);
     let room = need as usize;
-    if least(rows.len(), heads.len(), work.len()) < room {
-        return Grown::Refused(Refusal::ShortBuffer, need);
+    if rows.len().min(heads.len()).min(work.len()) < room {
+        return Err(Short {
+            refusal: Refusal::ShortBuffer,
+            need,
+        });
     }
     both_lists(
         dump,
@@ -186,6 +183,7 @@ fn tree_in(
 
 // Puts the rows of both lists of a dump's tree at a moment into `rows`, if each slice has a word for each header. The other two are worked in and
 // cleared.
+#[tactic(auto, using(crate::proofs::Tests::cases), unfolding(crate::specs::Answers::tree_on, crate::specs::Answers::rows_left, crate::specs::Answers::work_left))]
 pub fn tree(
     dump: &[u8],
     g: Geometry,
@@ -203,9 +201,6 @@ pub fn tree(
     ensures work_after { work.new ≡ work_left g dump.now m
         (length rows.old) (length heads.old) (length work.old) work.old }
 {
-    let p = g.opened(dump.len());
-    match p {
-        Opened::Refused(r) => Grown::Refused(r, 0),
-        Opened::Pages(pages) => tree_in(dump, g, pages, m, rows, heads, work),
-    }
+    let pages = g.opened(dump.len())?;
+    tree_in(dump, g, pages, m, rows, heads, work)
 }

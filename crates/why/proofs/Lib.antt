@@ -1,3 +1,4 @@
+pub mod Tests
 -- places and marks
 pub mod Latest
 pub mod Places
@@ -12,6 +13,7 @@ pub mod Meaning
 pub mod Until
 pub mod Found
 pub mod Filing
+pub mod Lending
 pub mod Shown
 -- that the sweep over the marks makes the spans
 pub mod Sighted

@@ -1,6 +1,7 @@
 -- The marks of a file: each is of a header that cuts, of the begin of a copy, or of a place at which no page begins to matter; and whatever cuts, begins
 -- or ends has its mark. The marks of all pages are those of each, one behind the other, so that both go page by page.
 use Prim.Native.Nat.{ℕ, zero, suc, ◌+◌, ◌≤◌, ◌<◌}
+use Rattle.std.specs.Prelude.{Option, Some, None}
 use mathlib.Core.Bool.{true, false}
 use mathlib.Core.List.{[], ◌∷◌, ◌++◌}
 use mathlib.Core.Logic.{inl, inr, ⊎_elim}
@@ -21,8 +22,6 @@ use Rattle.chunk.specs.Gather.{gather}
 use Rattle.chunk.specs.Records.{header_of, count_of, base_of}
 use Rattle.chunk.specs.Newest.{copy_of}
 use Rattle.chunk.specs.Cuts.{cut_of}
-use Rattle.chunk.specs.declared.cut.Cut.{Cut}
-use Rattle.chunk.specs.declared.cut.Cut.TheVariants.{At, Nowhere}
 use Rattle.why.specs.Marks.{places, no_page, mark_of, place_of, page_on, cut_marks, copy_marks, marks_of, marks_to}
 
 -- object o of a dump of n pages, whose newest header is h
@@ -31,7 +30,7 @@ module _ (says : ℕ → Record) (P o h : ℕ) where
   pub record IsCut (n p a : ℕ) : Type 0 where
     pub below : p < n
     pub header : header_of o (says p) ≡ true
-    pub cuts : cut_of (eqb p h) (says p) ≡ At a
+    pub cuts : cut_of (eqb p h) (says p) ≡ Some a
     pub inside : a < places
 
   -- page p is data of chunk c
@@ -62,9 +61,9 @@ module _ (says : ℕ → Record) (P o h : ℕ) where
   marks_suc n = refl
 
   -- the marks of one page
-  of_cut : (n k : ℕ) (r : Cut) → header_of o (says n) ≡ true → cut_of (eqb n h) (says n) ≡ r → In k (cut_marks n r) → Mark (suc n) k
-  of_cut n k Nowhere t e i = absurd i
-  of_cut n k (At a) t e i =
+  of_cut : (n k : ℕ) (r : (Option ℕ)) → header_of o (says n) ≡ true → cut_of (eqb n h) (says n) ≡ r → In k (cut_marks n r) → Mark (suc n) k
+  of_cut n k None t e i = absurd i
+  of_cut n k (Some a) t e i =
       by_test (ltb a places) _
       (λ u. ⊎_elim (λ j. cut n a record { below = le_refl _; header = t; cuts = e; inside = ltb-true _ _ u } j) (λ j. absurd j) (rw u at i))
       (λ u. absurd (rw u at i))
@@ -132,7 +131,7 @@ module _ (says : ℕ → Record) (P o h : ℕ) where
   pub cut_marked : (n p a : ℕ) → IsCut n p a → In (mark_of a p) (marks_to says P o h n)
   cut_marked n p a c = page_marked n p _ c.below (go (says p) c.header c.cuts)
     where
-      go : (r : Record) → header_of o r ≡ true → cut_of (eqb p h) r ≡ At a → In (mark_of a p) (marks_of P o h p r)
+      go : (r : Record) → header_of o r ≡ true → cut_of (eqb p h) r ≡ Some a → In (mark_of a p) (marks_of P o h p r)
       go Other t e = clash (cc)
       go (Data d) t e = let z : false ≡ true = and_right (eqb d.object.0 o) false t in clash (cc)
       go (Header f) t e = by_test (eqb f.object.0 o) _ (λ u. rw (u, e, lt-ltb _ _ c.inside) (inl refl)) (λ u. let z : false ≡ true = rw u at t in clash (cc))

@@ -6,9 +6,9 @@
 --
 -- And what a reason says determines it: the newest of some pages is one page, since ages differ, so that the searches find what is said.
 use Prim.Native.Nat.{ℕ, zero, suc, ◌≤◌, ◌<◌, max}
+use Rattle.std.specs.Prelude.{Option, Some, None}
 use mathlib.Core.Bool.{Bool, true, false, ◌&&◌, ◌||◌}
 use mathlib.Core.Logic.{◌⊎◌, inl, inr, ⊎_elim}
-use mathlib.Core.Option.{Option, none, some}
 use mathlib.Core.Path.{◌≡◌, refl, ap, ◌∙◌}
 use native.Mathlib.Nat.{le_refl}
 use native.Mathlib.Omega.{arith}
@@ -23,7 +23,8 @@ use Rattle.chunk.specs.Records.{age_of, header_of, data_of, count_of, file_size,
 use Rattle.chunk.specs.Newest.{copy_of, newest_where, newest_header, records}
 use Rattle.chunk.specs.Sizes.{end_of, data_end, size_of}
 use Rattle.chunk.specs.Lookups.{file_at, file_by, file_of}
-use Rattle.chunk.specs.declared.answer.File.TheVariants as file
+use Rattle.chunk.specs.File as file
+use Rattle.chunk.specs.declared.answer.Visited.{Visited}
 use Rattle.chunk.proofs.Cases.{size_larger}
 use Rattle.chunk.proofs.Gathering.{end_none, end_suc}
 use Rattle.chunk.proofs.Meaning.{IsNewest, Hides, newest_found, newest_missing, where_found, where_missing, where_is, where_none_is}
@@ -109,13 +110,13 @@ module _ (says : ℕ → Record) (P o n h : ℕ) where
       w.sets
 
   -- so the search finds one
-  setter_found : h < n → newest_where says setting n ≡ some (setter says P o n h)
+  setter_found : h < n → newest_where says setting n ≡ Some (setter says P o n h)
   unfolding setter
   setter_found b = found (newest_where says setting n) refl
     where
-      found : (r : Option ℕ) → newest_where says setting n ≡ r → r ≡ some (found_or h r)
-      found none e = size_set b _ (λ p w. let f = where_missing says setting n e p w.below in let t = sets_test p w in clash (cc))
-      found (some p) e = refl
+      found : (r : Option ℕ) → newest_where says setting n ≡ r → r ≡ Some (found_or h r)
+      found None e = size_set b _ (λ p w. let f = where_missing says setting n e p w.below in let t = sets_test p w in clash (cc))
+      found (Some p) e = refl
 
   -- the setter is the newest of them
   pub setter_newest : h < n → Sets (setter says P o n h) × ((r : ℕ) → Sets r → age_of says r ≤ age_of says (setter says P o n h))
@@ -188,37 +189,37 @@ module _ (says : ℕ → Record) (P o n h : ℕ) where
     pub reason_by_lem :
         (X : Reason → Type 0) →
         (size ≤ x → X (PastEnd (record { 0 = setter says P o n h }))) →
-        (x < size → found ≡ none → X NoCopy) →
-        ((q p : ℕ) → x < size → found ≡ some q → cut_by q ≡ some p → X (Cut (record { 0 = p }))) →
-        ((q : ℕ) → x < size → found ≡ some q → cut_by q ≡ none → count_of (says q) ≤ byte_at P x → X (Count (record { 0 = q }))) →
-        ((q : ℕ) → x < size → found ≡ some q → cut_by q ≡ none → byte_at P x < count_of (says q) → X (Held (record { 0 = q }) (byte_at P x))) →
+        (x < size → found ≡ None → X NoCopy) →
+        ((q p : ℕ) → x < size → found ≡ Some q → cut_by q ≡ Some p → X (Cut (record { 0 = p }))) →
+        ((q : ℕ) → x < size → found ≡ Some q → cut_by q ≡ None → count_of (says q) ≤ byte_at P x → X (Count (record { 0 = q }))) →
+        ((q : ℕ) → x < size → found ≡ Some q → cut_by q ≡ None → byte_at P x < count_of (says q) → X (Held (record { 0 = q }) (byte_at P x))) →
         X (reason_at says P o n h x)
     unfolding reason_at
     reason_by_lem X past missing cut count held =
         by_test (leb size x) _ (λ t. rw t (past (leb-true _ _ t))) (λ t. rw t (by_copy (leb-false _ _ t) found refl))
       where
-        by-cut : (q : ℕ) → x < size → found ≡ some q → (r : Option ℕ) → cut_by q ≡ r → X (reason_behind says P o n h q x r)
-        by-cut q i e (some p) d = cut q p i e d
-        by-cut q i e none d =
+        by-cut : (q : ℕ) → x < size → found ≡ Some q → (r : Option ℕ) → cut_by q ≡ r → X (reason_behind says P o n h q x r)
+        by-cut q i e (Some p) d = cut q p i e d
+        by-cut q i e None d =
             by_test (leb (count_of (says q)) (byte_at P x)) _ (λ t. rw t (count q i e d (leb-true _ _ t))) (λ t. rw t (held q i e d (leb-false _ _ t)))
 
         by_copy : x < size → (r : Option ℕ) → found ≡ r → X (reason_by says P o n h x r)
-        by_copy i none e = missing i e
-        by_copy i (some q) e = by-cut q i e (cut_by q) refl
+        by_copy i None e = missing i e
+        by_copy i (Some q) e = by-cut q i e (cut_by q) refl
 
     -- the copy that is found, or that there is none
-    pub copy_found : (q : ℕ) → found ≡ some q → TheCopy q
+    pub copy_found : (q : ℕ) → found ≡ Some q → TheCopy q
     unfolding copy_for
     copy_found q e =
-        pick_cases (ltb most_chunk (chunk_at P x)) _ _ (some q) _ e
+        pick_cases (ltb most_chunk (chunk_at P x)) _ _ (Some q) _ e
         (λ _ k. clash (cc))
         (λ t k. record { number = ltb-false _ _ t; newest = newest_found says (copy_of o (chunk_at P x)) n q k })
 
     -- none: the number is above the largest, or no page is a copy
-    pub copy_missing : found ≡ none → (most_chunk < chunk_at P x) ⊎ ((q : ℕ) → q < n → copy_of o (chunk_at P x) (says q) ≡ false)
+    pub copy_missing : found ≡ None → (most_chunk < chunk_at P x) ⊎ ((q : ℕ) → q < n → copy_of o (chunk_at P x) (says q) ≡ false)
     unfolding copy_for
     copy_missing e =
-        pick_cases (ltb most_chunk (chunk_at P x)) _ _ none _ e
+        pick_cases (ltb most_chunk (chunk_at P x)) _ _ None _ e
         (λ t _. inl (ltb-true _ _ t))
         (λ _ k. inr (newest_missing says (copy_of o (chunk_at P x)) n k))
 
@@ -242,14 +243,14 @@ module _ (says : ℕ → Record) (P o n h : ℕ) where
 
     -- what is found is the newest that cuts
     pub cutter_found :
-        (q p : ℕ) → cut_by q ≡ some p → CutsBehind q p × ((r : ℕ) → CutsBehind q r → age_of says r ≤ age_of says p)
+        (q p : ℕ) → cut_by q ≡ Some p → CutsBehind q p × ((r : ℕ) → CutsBehind q r → age_of says r ≤ age_of says p)
     unfolding cutter
     cutter_found q p e =
         let w = where_found says (cutting q) n p e in
         (test-cuts q p w.below w.passes, λ r c. w.newest r c.below (cuts-test q r c))
 
     -- and where nothing is found none cuts
-    pub cutter_missing : (q : ℕ) → cut_by q ≡ none → (p : ℕ) → CutsBehind q p → ⊥
+    pub cutter_missing : (q : ℕ) → cut_by q ≡ None → (p : ℕ) → CutsBehind q p → ⊥
     unfolding cutter
     cutter_missing q e p c = let f = where_missing says (cutting q) n e p c.below in let t = cuts-test q p c in clash (cc)
 
@@ -273,12 +274,12 @@ module _ (says : ℕ → Record) (P o n h : ℕ) where
 
     module _ (few : n ≤ 4294967296) where
       -- the copy is what the search finds
-      copy_is : (q : ℕ) → TheCopy q → found ≡ some q
+      copy_is : (q : ℕ) → TheCopy q → found ≡ Some q
       unfolding copy_for
       copy_is q w = rw (le-ltb most_chunk (chunk_at P x) w.number) (where_is says (λ p. copy_of o (chunk_at P x) (says p)) n q w.newest few)
 
       -- where there is none it finds nothing
-      none_is : BecauseNoCopy → found ≡ none
+      none_is : BecauseNoCopy → found ≡ None
       unfolding copy_for
       none_is w =
           ⊎_elim
@@ -288,13 +289,13 @@ module _ (says : ℕ → Record) (P o n h : ℕ) where
           w.missing
 
       -- the newest header that cuts is what the search finds
-      pub cutter_is : (q p : ℕ) → CutsBehind q p → ((r : ℕ) → CutsBehind q r → age_of says r ≤ age_of says p) → cut_by q ≡ some p
+      pub cutter_is : (q p : ℕ) → CutsBehind q p → ((r : ℕ) → CutsBehind q r → age_of says r ≤ age_of says p) → cut_by q ≡ Some p
       unfolding cutter
       cutter_is q p c w =
           where_is says (cutting q) n p record { below = c.below; passes = cuts-test q p c; newest = λ r b t. w r (test-cuts q r b t) } few
 
       -- and where none cuts it finds nothing
-      pub uncut_is : (q : ℕ) → ((p : ℕ) → CutsBehind q p → ⊥) → cut_by q ≡ none
+      pub uncut_is : (q : ℕ) → ((p : ℕ) → CutsBehind q p → ⊥) → cut_by q ≡ None
       unfolding cutter
       uncut_is q w =
           where_none_is says (cutting q) n (λ p b. by_test (cutting q p) _ (λ t. absurd (w p (test-cuts q p b t))) (λ t. t))
@@ -320,9 +321,15 @@ module _ (says : ℕ → Record) (P o n h : ℕ) where
 
 -- page h is the header of a live file: the newest of its object, of a file, and not gone
 pub record IsLive (says : ℕ → Record) (o n h : ℕ) : Type 0 where
-  pub newest : newest_header says o n ≡ some h
+  pub newest : newest_header says o n ≡ Some h
   pub linked : is_gone (says h) ≡ false
   pub file : is_file (says h) ≡ true
+
+-- a lookup goes by one page
+same_header : (g h : PageNumber) (v w : ℕ) → file.Header g v ≡ file.Header h w → g ≡ h
+same_header g h v w e =
+    let k : ◌≡◌ {A = Visited PageNumber} (record { answer = g; visits = v }) (record { answer = h; visits = w }) = cc in
+    ap (λ (x : Visited PageNumber). x.answer) k
 
 -- so is the one that a lookup goes by
 pub file_live : (says : ℕ → Record) (o n v : ℕ) (h : PageNumber) → file_of says o n ≡ file.Header h v → IsLive says o n h.0
@@ -331,16 +338,16 @@ file_live says o n v h e =
     pick_cases (eqb (records says o n) 0) _ _ _ _ e (λ _ k. clash (cc)) (λ _ k. by-header (newest_header says o n) refl k)
   where
     by-header : (r : Option ℕ) → newest_header says o n ≡ r → file_by says o n r ≡ file.Header h v → IsLive says o n h.0
-    by-header none i k = clash (cc)
-    by-header (some g) i k =
+    by-header None i k = clash (cc)
+    by-header (Some g) i k =
         pick_cases (is_gone (says g)) _ _ _ _ k
         (λ _ j. clash (cc))
         (λ t j.
         pick_cases (is_file (says g)) _ _ _ _ j
-        (λ u l. let z : g ≡ h.0 = cc in record { newest = i ∙ ap some z; linked = rw (← z) t; file = rw (← z) u })
+        (λ u l. let z : g ≡ h.0 = ap (λ (p : PageNumber). p.0) (same_header _ h _ v l) in record { newest = i ∙ ap Some z; linked = rw (← z) t; file = rw (← z) u })
         (λ _ l. clash (cc)))
 
-pub file_newest : (says : ℕ → Record) (o n v : ℕ) (h : PageNumber) → file_of says o n ≡ file.Header h v → newest_header says o n ≡ some h.0
+pub file_newest : (says : ℕ → Record) (o n v : ℕ) (h : PageNumber) → file_of says o n ≡ file.Header h v → newest_header says o n ≡ Some h.0
 file_newest says o n v h e = (file_live says o n v h e).newest
 
 -- so of every position of a live file the reason is true

@@ -1,6 +1,7 @@
 -- Marks put into words one behind another. A page makes no more than three, and none if it is no record of the object, so that they are bounded by the
 -- pages and by the records; those of each page have room where all have.
 use Prim.Native.Nat.{ℕ, zero, suc, ◌+◌, ◌*◌, ◌≤◌, ◌<◌, zero-le}
+use Rattle.std.specs.Prelude.{Option, Some, None}
 use mathlib.Core.Bool.{false}
 use mathlib.Core.List.{List, [], ◌∷◌, ◌++◌, append-nil}
 use mathlib.Core.Logic.{⊎_elim}
@@ -19,8 +20,6 @@ use Rattle.chunk.specs.Lists.{in_front}
 use Rattle.chunk.specs.Newest.{records}
 use Rattle.chunk.specs.Records.{is_of}
 use Rattle.chunk.specs.Cuts.{cut_of}
-use Rattle.chunk.specs.declared.cut.Cut.{Cut}
-use Rattle.chunk.specs.declared.cut.Cut.TheVariants.{At, Nowhere}
 use Rattle.chunk.proofs.Gathering.{gather_step, since_one, since_skip}
 use Rattle.why.specs.Marks.{places, no_page, mark_of, cut_marks, marks_of, marks_to}
 use Rattle.why.proofs.Marking.{marks_none, marks_suc}
@@ -44,9 +43,9 @@ front_first (x ∷ w) m h = refl
 -- of object o, whose newest header is h
 module _ (says : ℕ → Record) (P o h : ℕ) where
   -- a page makes at most three marks
-  cut_few : (p : ℕ) (k : Cut) → length (cut_marks p k) ≤ 3
-  cut_few p Nowhere = zero-le
-  cut_few p (At a) = by_test (ltb a places) _ (λ t. rw t (omega arith)) (λ t. rw t (omega arith))
+  cut_few : (p : ℕ) (k : (Option ℕ)) → length (cut_marks p k) ≤ 3
+  cut_few p None = zero-le
+  cut_few p (Some a) = by_test (ltb a places) _ (λ t. rw t (omega arith)) (λ t. rw t (omega arith))
 
   -- whatever the page says
   of_few : (p : ℕ) (r : Record) → length (marks_of P o h p r) ≤ 3

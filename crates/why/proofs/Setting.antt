@@ -1,13 +1,11 @@
 -- The search for the page that sets the size. A page sets it as the newest header, or as data of the object; so one that is neither that header nor named
 -- for the object may be passed over, and the newest of the others is the setter.
 use Prim.Native.Nat.{ℕ}
-use mathlib.Core.Bool.{Bool, true, false, ◌&&◌, ◌||◌}
+use mathlib.Core.Bool.{Bool, true, false, ◌||◌}
 use mathlib.Core.List.{List}
 use mathlib.Core.Path.{◌≡◌}
 use lib.Dec.{eqb}
-use Rattle.page.specs.declared.record.Header.{Header}
 use Rattle.page.specs.declared.record.Record.{Record}
-use Rattle.page.specs.declared.record.Record.TheVariants as said
 use Rattle.page.specs.Records.{record_at}
 use Rattle.page.specs.Tags.{names_at}
 use Rattle.page.specs.declared.geometry.Geometry.{Geometry}
@@ -20,13 +18,9 @@ use Rattle.chunk.specs.Sizes.{size_of}
 use Rattle.chunk.specs.Takes.{seen_by}
 use Rattle.chunk.specs.declared.takes.Takes.{Takes}
 use Rattle.chunk.proofs.Records.{seen_unnamed}
-use Rattle.chunk.specs.declared.scan.Newest.TheVariants.{At, Nothing}
+use Rattle.chunk.specs.Aged.{At, Nothing}
 use Rattle.chunk.proofs.Gathering.{in_none, in_some}
 use Rattle.why.specs.Reasons.{found_or, sets_by, setter}
-
--- a header sets it as the newest header or not at all
-pub header_sets : (P o h x size p : ℕ) (k : Header) → eqb p h && eqb k.size size ≡ false → false ≡ sets_by P o h x size p (said.Header k)
-header_sets P o h x size p k t = rw t (by_test (eqb k.object.0 o) _ (λ u. rw u) (λ u. rw u))
 
 -- a page that is not the newest header, and whose tags do not name the object, does not
 pub unnamed_sets :

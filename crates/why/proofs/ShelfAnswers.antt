@@ -1,5 +1,8 @@
 -- The answers for W's file, computed from the definitions, number by number: what each reason is told by, the span of a row, and each refusal in its turn.
 use Prim.Native.Nat.{ℕ}
+use Rattle.std.specs.Prelude.{Result, Ok, Err}
+use Rattle.page.specs.declared.number.PageNumber.{PageNumber}
+use Rattle.page.specs.declared.refusal.Refusal.{Refusal}
 use mathlib.Core.List.{List, [], ◌∷◌}
 use mathlib.Core.Path.{◌≡◌, refl, ap, ◌∙◌}
 use lib.ListN.{get_or}
@@ -20,12 +23,10 @@ use Rattle.why.specs.Answers.{filed_in, spans_on, why_on, span_of}
 use Rattle.why.specs.Codes.{kind_of, page_in, byte_in, reason_of}
 use Rattle.why.specs.Marks.{marks_to}
 use Rattle.why.specs.Reasons.{until_of}
-use Rattle.why.specs.declared.byte.Told.TheVariants as told
+use Rattle.why.specs.Told as told
 use Rattle.why.specs.declared.reason.Reason.{Reason}
 use Rattle.why.specs.declared.reason.Reason.TheVariants.{Held, NoCopy, Cut, Count, PastEnd}
-use Rattle.why.specs.declared.spans.Filed.{Filed}
-use Rattle.why.specs.declared.spans.Filed.TheVariants as filed
-use Rattle.why.specs.declared.spans.Spanned.TheVariants as spanned
+use Rattle.why.specs.Spanned as spanned
 
 -- what a reason is told by: its kind, its page and its data byte
 abbrev numbers : Reason → List ℕ
@@ -42,7 +43,7 @@ unfolding reason_of
 row_tells = refl
 
 -- a page that W lacks, before an id that no object has, before an object without records; and W's file, whose newest header is page 4
-abbrev asked : (ℕ → Record) → List Filed
+abbrev asked : (ℕ → Record) → List (Result PageNumber Refusal)
 asked pages =
     filed_in pages 8 (Before (record { 0 = 8 })) 0 ∷
     filed_in pages 8 (Before (record { 0 = 7 })) 0 ∷
@@ -50,8 +51,8 @@ asked pages =
     filed_in pages 8 Now 257 ∷
     []
 
-abbrev pub expected : List Filed
-expected = filed.Refused BadPage ∷ filed.Refused BadObject ∷ filed.Refused NoObject ∷ filed.Header (record { 0 = 4 }) ∷ []
+abbrev pub expected : List (Result PageNumber Refusal)
+expected = Err BadPage ∷ Err BadObject ∷ Err NoObject ∷ Ok (record { 0 = 4 }) ∷ []
 
 computed : asked (λ i. record_of (get_or shelf_kinds i Blank)) ≡ expected
 unfolding filed_in file_of file_by file_at bad_object since newest_where gather shelf_kinds

@@ -5,9 +5,9 @@
 -- when no such header cuts and the byte count does: when the reason is that a page holds the byte. A read puts those bytes of that page into the buffer
 -- and zeros behind them.
 use Prim.Native.Nat.{ℕ, ◌+◌, ◌≤◌, ◌<◌}
+use Rattle.std.specs.Prelude.{Result, Ok, Err, Option, Some, None}
 use mathlib.Core.Bool.{true, false, ◌&&◌}
 use mathlib.Core.List.{List, [], ◌++◌}
-use mathlib.Core.Option.{Option, none, some}
 use mathlib.Core.Path.{◌≡◌, refl, sym, ap, ◌∙◌}
 use native.Mathlib.Omega.{arith}
 use lib.Dec.{ltb, leb}
@@ -20,8 +20,6 @@ use Rattle.page.specs.Numbers.{most_chunk, bad_object}
 use Rattle.page.specs.Pages.{page_at}
 use Rattle.page.specs.Records.{record_at}
 use Rattle.page.specs.declared.geometry.Geometry.{Geometry}
-use Rattle.page.specs.declared.geometry.Opened.{Opened}
-use Rattle.page.specs.declared.geometry.Opened.TheVariants as opened
 use Rattle.page.specs.declared.number.PageNumber.{PageNumber}
 use Rattle.page.specs.declared.record.Record.{Record}
 use Rattle.page.specs.declared.refusal.Refusal.{Refusal}
@@ -35,21 +33,20 @@ use Rattle.chunk.specs.Newest.{newest_copy}
 use Rattle.chunk.specs.Cuts.{lowest_cut, hides, leaves}
 use Rattle.chunk.specs.Sizes.{size_of}
 use Rattle.chunk.specs.Lookups.{file_of, shown_of, valid_of, copy_by, looked_by, looked_of}
-use Rattle.chunk.specs.Answers.{on_pages, chunk_on, read_by, valid_part, overlaid, buffer_by}
-use Rattle.chunk.specs.declared.cut.Cut.{Cut}
-use Rattle.chunk.specs.declared.cut.Cut.TheVariants.{At, Nowhere}
-use Rattle.chunk.specs.declared.answer.File.{File}
-use Rattle.chunk.specs.declared.answer.File.TheVariants as file
-use Rattle.chunk.specs.declared.answer.Looked.{Looked}
-use Rattle.chunk.specs.declared.answer.Looked.TheVariants as looked
+use Rattle.chunk.specs.Answers.{on_pages, chunk_on, read_by, valid_part, part_by, overlaid, buffer_by}
+use Rattle.chunk.specs.File.{File}
+use Rattle.chunk.specs.File as file
+use Rattle.chunk.specs.Looked.{Looked}
+use Rattle.chunk.specs.Looked as looked
 use Rattle.chunk.proofs.Cases.{copy_missing, copy_hidden, copy_shown, looked_past, looked_inside, chunk_by_file, valid_there, valid_none}
 use Rattle.chunk.proofs.Cuts.{leaves_most}
 use Rattle.chunk.proofs.Laying.{zero_at}
 use Rattle.chunk.proofs.Meaning.{lowest_cut_hides, hides_lowest_cut}
 use Rattle.why.specs.Answers.{filed_by, filed_in, on_file, says_at, room_for, why_on, shown_by}
 use Rattle.chunk.specs.Moments.{is_missing}
-use Rattle.why.specs.declared.byte.Told.{Told}
-use Rattle.why.specs.declared.byte.Told.TheVariants as told
+use Rattle.why.specs.Told.{Told}
+use Rattle.why.specs.Told as told
+use Rattle.why.specs.declared.answer.Why.{Why}
 use Rattle.chunk.specs.declared.moment.Moment.{Moment}
 use Rattle.why.specs.Reasons.{last_position, chunk_at, byte_at, copy_for, cutter, reason_at, until_of}
 use Rattle.why.specs.declared.reason.Reason.{Reason}
@@ -61,44 +58,44 @@ use Rattle.why.proofs.Until.{HoldsUntil, until_holds, until_past}
 -- ---- what a cut leaves of the bytes from a place on
 
 -- a cut that hides a place hides what is behind it
-hides_behind : (a : Cut) (base at : ℕ) → hides a base ≡ true → hides a (base + at) ≡ true
-hides_behind Nowhere base at t = t
-hides_behind (At a) base at t = le-leb a (base + at) (omega (arith, leb-true a base t))
+hides_behind : (a : (Option ℕ)) (base at : ℕ) → hides a base ≡ true → hides a (base + at) ≡ true
+hides_behind None base at t = t
+hides_behind (Some a) base at t = le-leb a (base + at) (omega (arith, leb-true a base t))
 
 -- it leaves exactly the bytes that it does not hide
-leaves_more : (a : Cut) (base at bytes : ℕ) → at < bytes → hides a (base + at) ≡ false → at < leaves a base bytes
-leaves_more Nowhere base at bytes i t = i
-leaves_more (At a) base at bytes i t = omega (arith, leb-false a (base + at) t)
+leaves_more : (a : (Option ℕ)) (base at bytes : ℕ) → at < bytes → hides a (base + at) ≡ false → at < leaves a base bytes
+leaves_more None base at bytes i t = i
+leaves_more (Some a) base at bytes i t = omega (arith, leb-false a (base + at) t)
 
-leaves_less : (a : Cut) (base at bytes : ℕ) → hides a (base + at) ≡ true → leaves a base bytes ≤ at
-leaves_less Nowhere base at bytes t = clash (cc)
-leaves_less (At a) base at bytes t = omega (arith, leb-true a (base + at) t)
+leaves_less : (a : (Option ℕ)) (base at bytes : ℕ) → hides a (base + at) ≡ true → leaves a base bytes ≤ at
+leaves_less None base at bytes t = clash (cc)
+leaves_less (Some a) base at bytes t = omega (arith, leb-true a (base + at) t)
 
 -- ---- what a lookup answers
 
 -- how many bytes it shows; a refused one none
 abbrev pub shown_in : Looked → ℕ
-shown_in (looked.Refused r v n) = 0
+shown_in (Err e) = 0
 shown_in (looked.Hole s v) = s
 shown_in (looked.Copy p a s v) = s
 
 -- the page whose valid bytes reach data byte `at`, if one's do
 abbrev pub holder_in : (at : ℕ) → Looked → Option ℕ
-holder_in at (looked.Refused r v n) = none
-holder_in at (looked.Hole s v) = none
-holder_in at (looked.Copy p a s v) = pick (ltb at a) (some p.0) none
+holder_in at (Err e) = None
+holder_in at (looked.Hole s v) = None
+holder_in at (looked.Copy p a s v) = pick (ltb at a) (Some p.0) None
 
 -- the page that holds the byte by a reason, if one does
 abbrev pub holder_of : Reason → Option ℕ
-holder_of (reason.Held p at) = some p.0
-holder_of reason.NoCopy = none
-holder_of (reason.Cut p) = none
-holder_of (reason.Count p) = none
-holder_of (reason.PastEnd p) = none
+holder_of (reason.Held p at) = Some p.0
+holder_of reason.NoCopy = None
+holder_of (reason.Cut p) = None
+holder_of (reason.Count p) = None
+holder_of (reason.PastEnd p) = None
 
 -- no more bytes are valid than are shown, and no more shown than a page has
 abbrev pub Fits : (P : ℕ) → Looked → Type 0
-Fits P (looked.Refused r v n) = Unit {0}
+Fits P (Err e) = Unit {0}
 Fits P (looked.Hole s v) = s ≤ P
 Fits P (looked.Copy p a s v) = (a ≤ s) × (s ≤ P)
 
@@ -125,7 +122,7 @@ module _
   answer = looked_of says o n P c
 
   -- the lowest cut that is newer than page q
-  abbrev lowest : ℕ → Cut
+  abbrev lowest : ℕ → Option ℕ
   lowest q = lowest_cut says o h.0 (age_of says q) n
 
   -- the position is the begin of its chunk and its data byte
@@ -144,8 +141,8 @@ module _
 
   -- a copy, or a hole, is shown as far as the size leaves
   copy_fits : (r : Option ℕ) → (shown_in (copy_by says o n P c h.0 shown r) ≡ shown) × Fits P (copy_by says o n P c h.0 shown r)
-  copy_fits none = rw (copy_missing says o n P c h.0 shown) (refl, omega arith)
-  copy_fits (some q) =
+  copy_fits None = rw (copy_missing says o n P c h.0 shown) (refl, omega arith)
+  copy_fits (Some q) =
       by_test (hides (lowest q) base) _
       (λ t. rw (copy_hidden says o n P c h.0 shown q t) (refl, omega arith))
       (λ t. rw (copy_shown says o n P c h.0 shown q t) (refl, (omega (arith, leaves_most (lowest q) base shown), omega arith)))
@@ -183,8 +180,8 @@ module _
   not_refused r w m b e = never (newest_copy says o c n) (sym (by_copy b) ∙ e)
     where
       never : (f : Option ℕ) → copy_by says o n P c h.0 shown f ≡ looked.Refused r w m → ⊥
-      never none k = let z = copy_missing says o n P c h.0 shown in clash (cc)
-      never (some q) k =
+      never None k = let z = copy_missing says o n P c h.0 shown in clash (cc)
+      never (Some q) k =
           by_test (hides (lowest q) base) _
           (λ t. let z = copy_hidden says o n P c h.0 shown q t in clash (cc))
           (λ t. let z = copy_shown says o n P c h.0 shown q t in clash (cc))
@@ -195,15 +192,15 @@ module _
   same_copy = rw (le-ltb most_chunk c number)
 
   -- so no page's bytes reach x
-  uncopied : x < size → newest_copy says o c n ≡ none → holder_in at answer ≡ none
+  uncopied : x < size → newest_copy says o c n ≡ None → holder_in at answer ≡ None
   uncopied i e = ap (holder_in at) (by_copy (omega (arith, place)) ∙ ap (copy_by says o n P c h.0 shown) e ∙ copy_missing says o n P c h.0 shown)
 
   -- of a copy q: where the lowest later cut is at or below x its valid bytes do not reach x, and else they do as its byte count does
-  module _ (i : x < size) (q : ℕ) (e : newest_copy says o c n ≡ some q) where
-    answered : answer ≡ copy_by says o n P c h.0 shown (some q)
+  module _ (i : x < size) (q : ℕ) (e : newest_copy says o c n ≡ Some q) where
+    answered : answer ≡ copy_by says o n P c h.0 shown (Some q)
     answered = by_copy (omega (arith, place)) ∙ rw e
 
-    behind-cut : hides (lowest q) x ≡ true → holder_in at answer ≡ none
+    behind-cut : hides (lowest q) x ≡ true → holder_in at answer ≡ None
     behind-cut t =
         by_test (hides (lowest q) base) _
         (λ u. ap (holder_in at) (answered ∙ copy_hidden says o n P c h.0 shown q u))
@@ -212,26 +209,26 @@ module _
         ap (holder_in at) (answered ∙ copy_shown says o n P c h.0 shown q u) ∙ rw (le-ltb at (valid_of P c (says q) shown (lowest q)) (omega arith)))
 
     -- where the lowest later cut is behind x the copy is shown
-    in_sight : hides (lowest q) x ≡ false → holder_in at answer ≡ pick (ltb at (valid_of P c (says q) shown (lowest q))) (some q) none
+    in_sight : hides (lowest q) x ≡ false → holder_in at answer ≡ pick (ltb at (valid_of P c (says q) shown (lowest q))) (Some q) None
     in_sight t =
         by_test (hides (lowest q) base) _
         (λ u. let z : false ≡ true = sym t ∙ ap (hides (lowest q)) (sym place) ∙ hides_behind (lowest q) base at u in clash (cc))
         (λ u. ap (holder_in at) (answered ∙ copy_shown says o n P c h.0 shown q u))
 
-    counted-out : hides (lowest q) x ≡ false → count_of (says q) ≤ at → holder_in at answer ≡ none
+    counted-out : hides (lowest q) x ≡ false → count_of (says q) ≤ at → holder_in at answer ≡ None
     counted-out t k = in_sight t ∙ rw (le-ltb at (valid_of P c (says q) shown (lowest q)) (omega arith))
 
-    counted-in : hides (lowest q) x ≡ false → at < count_of (says q) → holder_in at answer ≡ some q
+    counted-in : hides (lowest q) x ≡ false → at < count_of (says q) → holder_in at answer ≡ Some q
     counted-in t k =
         let s : at < shown = omega (arith, place, small) in
         let l : at < leaves (lowest q) base shown = leaves_more (lowest q) base at shown s (ap (hides (lowest q)) place ∙ t) in
         in_sight t ∙ rw (lt-ltb at (valid_of P c (says q) shown (lowest q)) (omega arith))
 
   -- the lowest later cut is at or below x exactly when a later header cuts there
-  low_cut : (q p : ℕ) → cutter says P o n h.0 q x ≡ some p → hides (lowest q) x ≡ true
+  low_cut : (q p : ℕ) → cutter says P o n h.0 q x ≡ Some p → hides (lowest q) x ≡ true
   low_cut q p d = hides_lowest_cut says o h.0 (age_of says q) x n p (cutter_found says P o n h.0 x q p d).0
 
-  no_cut : (q : ℕ) → cutter says P o n h.0 q x ≡ none → hides (lowest q) x ≡ false
+  no_cut : (q : ℕ) → cutter says P o n h.0 q x ≡ None → hides (lowest q) x ≡ false
   no_cut q d =
       by_test (hides (lowest q) x) _
       (λ t. absurd (lowest_cut_hides says o h.0 (age_of says q) x n ⊥ t (cutter_missing says P o n h.0 x q d)))
@@ -267,11 +264,11 @@ overlaid_at part buffer shown i k =
 module _ (g : Geometry) (dump : List ℕ) where
   -- the byte that a page holds, or 0 where none does
   abbrev byte_of : (at : ℕ) → Option ℕ → ℕ
-  byte_of at none = 0
-  byte_of at (some p) = shown_by g dump (reason.Held (record { 0 = p }) at)
+  byte_of at None = 0
+  byte_of at (Some p) = shown_by g dump (reason.Held (record { 0 = p }) at)
 
   -- the valid part of a page reaches as far as it is long
-  valid_at_lem : (p valid at : ℕ) → valid ≤ g.layout.«data» → get_or (valid_part g dump p valid) at 0 ≡ byte_of at (pick (ltb at valid) (some p) none)
+  valid_at_lem : (p valid at : ℕ) → valid ≤ g.layout.«data» → get_or (valid_part g dump p valid) at 0 ≡ byte_of at (pick (ltb at valid) (Some p) None)
   valid_at_lem p valid at i =
       by_test (page_in g (length dump) p) _
       (λ u.
@@ -290,8 +287,8 @@ module _ (g : Geometry) (dump : List ℕ) where
   -- so a buffer has the byte of the page whose valid bytes reach it, and else 0
   buffer_at :
       (buffer : List ℕ) (l : Looked) (at : ℕ) → Fits g.layout.«data» l → at < shown_in l → get_or (buffer_by g dump buffer l) at 0 ≡ byte_of at (holder_in at l)
-  unfolding buffer_by
-  buffer_at buffer (looked.Refused r v n) at w i = absurd (omega arith)
+  unfolding buffer_by part_by
+  buffer_at buffer (Err e) at w i = absurd (omega arith)
   buffer_at buffer (looked.Hole s v) at w i = overlaid_at [] buffer s at i
   buffer_at buffer (looked.Copy p a s v) at w i = overlaid_at (valid_part g dump p.0 a) buffer s at i ∙ valid_at_lem p.0 a at (omega arith)
 
@@ -303,7 +300,7 @@ module _ (g : Geometry) (dump : List ℕ) where
       (λ _. refl) (λ _ _. refl) (λ _ _ _ _ _. refl) (λ _ _ _ _ _. refl) (λ _ _ _ _ _. refl)
 
   -- and where none does, 0
-  pub zero_byte : (r : Reason) → holder_of r ≡ none → shown_by g dump r ≡ 0
+  pub zero_byte : (r : Reason) → holder_of r ≡ None → shown_by g dump r ≡ 0
   zero_byte (reason.Held p at) e = clash (cc)
   zero_byte reason.NoCopy e = refl
   zero_byte (reason.Cut p) e = refl
@@ -326,7 +323,7 @@ module _ (g : Geometry) (dump : List ℕ) where
       ∙ sym (reason_byte says P o n h.0 x)
 
   -- an accepted dump
-  module _ (n : ℕ) (accepted : opened_of g (length dump) ≡ opened.Pages n) where
+  module _ (n : ℕ) (accepted : opened_of g (length dump) ≡ Ok n) where
     data_some : 0 < P
     data_some = let r = roomy_facts g.layout (opened_facts g (length dump) n accepted).room in omega (arith, r.header)
 
@@ -354,7 +351,7 @@ module _ (g : Geometry) (dump : List ℕ) where
       -- with room for what is shown it is not refused for its buffer
       room-read : (room : ℕ) (l : Looked) → shown_in l ≤ room → read_by room l ≡ l
       unfolding read_by
-      room-read room (looked.Refused r w m) i = refl
+      room-read room (Err e) i = refl
       room-read room (looked.Hole s w) i = rw (le-ltb room s i)
       room-read room (looked.Copy p a s w) i = rw (le-ltb room s i)
 
@@ -395,7 +392,7 @@ module _ (g : Geometry) (dump : List ℕ) (m : Moment) (o x : ℕ) where
     pub pages : ℕ
     pub header : PageNumber
     pub visits : ℕ
-    pub accepted : opened_of g (length dump) ≡ opened.Pages pages
+    pub accepted : opened_of g (length dump) ≡ Ok pages
     pub object : bad_object o ≡ false
     pub live : file_of seen o pages ≡ file.Header header visits
     pub means : Means seen bytes o pages header.0 x r
@@ -404,6 +401,10 @@ module _ (g : Geometry) (dump : List ℕ) (m : Moment) (o x : ℕ) where
     pub shown :
         (buffer : List ℕ) → chunk_at bytes x ≤ most_chunk → x < size_of seen bytes o header.0 pages →
         get_or (buffer_by g dump buffer (looked_of seen o pages bytes (chunk_at bytes x))) (byte_at bytes x) 0 ≡ shown_by g dump r
+
+  -- what is told of a byte is one reason and one end
+  same_why : (r s : Reason) (u v : ℕ) → told.Because r u ≡ told.Because s v → ◌≡◌ {A = Why} (record { reason = r; until = u }) (record { reason = s; until = v })
+  same_why r s u v e = cc
 
   module _ (words u : ℕ) (r : Reason) where
     abbrev refuse : Refusal → Told
@@ -414,7 +415,7 @@ module _ (g : Geometry) (dump : List ℕ) (m : Moment) (o x : ℕ) where
         pick (ltb words (room_for g dump m o n h)) (told.Refused ShortBuffer (room_for g dump m o n h))
         (told.Because (reason_at seen bytes o n h x) (until_of seen bytes o n h x))
 
-    module _ (n : ℕ) (accepted : opened_of g (length dump) ≡ opened.Pages n) where
+    module _ (n : ℕ) (accepted : opened_of g (length dump) ≡ Ok n) where
       of_header :
           (h : PageNumber) (v : ℕ) → bad_object o ≡ false → file_of seen o n ≡ file.Header h v →
           reason_at seen bytes o n h.0 x ≡ r → until_of seen bytes o n h.0 x ≡ u → Answered r u
@@ -434,11 +435,13 @@ module _ (g : Geometry) (dump : List ℕ) (m : Moment) (o x : ℕ) where
 
       -- by what the object is, what refuses it, and what refuses the dump
       of-file : (f : File) → bad_object o ≡ false → file_of seen o n ≡ f → on_file refuse (tell n) (filed_by f) ≡ told.Because r u → Answered r u
-      of-file (file.Refused f v) object live k = clash (cc)
-      of-file (file.Header h v) object live k =
-          pick_cases (ltb words (room_for g dump m o n h.0)) _ _ _ _ k
+      of-file (Err e) object live k = clash (cc)
+      of-file (Ok x) object live k =
+          pick_cases (ltb words (room_for g dump m o n x.answer.0)) _ _ _ _ k
           (λ _ j. clash (cc))
-          (λ _ j. of_header h v object live (cc) (cc))
+          (λ _ j.
+          let w = same_why _ r _ u j in
+          of_header x.answer x.visits object live (ap (λ (y : Why). y.reason) w) (ap (λ (y : Why). y.until) w))
 
       of-filed : on_file refuse (tell n) (filed_in seen n m o) ≡ told.Because r u → Answered r u
       unfolding filed_in
@@ -450,9 +453,9 @@ module _ (g : Geometry) (dump : List ℕ) (m : Moment) (o x : ℕ) where
           (λ b. let j : refuse BadObject ≡ told.Because r u = rw (t, b) at k in clash (cc))
           (λ b. of-file (file_of seen o n) b refl (rw (t, b) at k)))
 
-    of-dump : (p : Opened) → opened_of g (length dump) ≡ p → on_pages refuse (λ n. on_file refuse (tell n) (filed_in seen n m o)) p ≡ told.Because r u → Answered r u
-    of-dump (opened.Refused f) e k = clash (cc)
-    of-dump (opened.Pages n) e k = of-filed n e k
+    of-dump : (p : (Result ℕ Refusal)) → opened_of g (length dump) ≡ p → on_pages refuse (λ n. on_file refuse (tell n) (filed_in seen n m o)) p ≡ told.Because r u → Answered r u
+    of-dump (Err f) e k = clash (cc)
+    of-dump (Ok n) e k = of-filed n e k
 
     -- what is told is so
     pub told_answered : why_on g dump m o x words ≡ told.Because r u → Answered r u

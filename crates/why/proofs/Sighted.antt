@@ -2,10 +2,10 @@
 -- marks were passed. A mark more takes in its page. And where all marks up to a place were passed, what was taken in gives the reason there: a header
 -- newer than the copy cuts it exactly if the newest header passed is newer, since whatever cuts at or below the place was passed.
 use Prim.Native.Nat.{ℕ, ◌≤◌, ◌<◌}
+use Rattle.std.specs.Prelude.{Option, Some, None}
 use mathlib.Core.Bool.{true, false, ◌&&◌}
 use mathlib.Core.List.{List, [], ◌∷◌, ◌++◌}
 use mathlib.Core.Logic.{◌⊎◌, inl, inr, ⊎_elim}
-use mathlib.Core.Option.{none, some}
 use mathlib.Core.Path.{◌≡◌, refl, sym, ap, ◌∙◌}
 use native.Mathlib.Nat.{le_refl, le_trans}
 use native.Mathlib.Omega.{arith}
@@ -27,10 +27,8 @@ use Rattle.chunk.specs.Records.{order_of, sequence_of, age_of, header_of, base_o
 use Rattle.chunk.specs.Newest.{copy_of}
 use Rattle.chunk.specs.Cuts.{cut_of, hides}
 use Rattle.chunk.specs.Scans.{later_in}
-use Rattle.chunk.specs.declared.cut.Cut.{Cut}
-use Rattle.chunk.specs.declared.cut.Cut.TheVariants as cut
-use Rattle.chunk.specs.declared.scan.Newest.{Newest}
-use Rattle.chunk.specs.declared.scan.Newest.TheVariants.{At, Nothing}
+use Rattle.chunk.specs.Aged.{Newest}
+use Rattle.chunk.specs.Aged.{At, Nothing}
 use Rattle.chunk.proofs.Meaning.{where_is, where_none_is}
 use Rattle.why.specs.Marks.{places, no_page, mark_of, place_of, page_on, marks_to}
 use Rattle.why.specs.Reasons.{chunk_at, copy_for, cuts_at, cutter, reason_behind, reason_by}
@@ -67,8 +65,7 @@ seen_header s o p (Data d) t = let z : false ≡ true = and_right (eqb d.object.
 seen_data :
     (s : Seen) (o c p : ℕ) (r : Record) → copy_of o c r ≡ true →
     seen_with s p r
-    ≡ pick (eqb c s.chunk) (record { cut = s.cut; chunk = s.chunk; copy = later_in s.copy p (order_of (sequence_of r) p) })
-    (record { cut = s.cut; chunk = c; copy = At (record { 0 = p }) (order_of (sequence_of r) p) })
+    ≡ record { cut = s.cut; chunk = record { 0 = c }; copy = later_in (pick (eqb c s.chunk.0) s.copy Nothing) p (order_of (sequence_of r) p) }
 seen_data s o c p Other t = clash (cc)
 seen_data s o c p (Header f) t = let z : false ≡ true = and_right (eqb f.object.0 o) false t in clash (cc)
 seen_data s o c p (Data d) t = let e : d.chunk.0 ≡ c = eqb-true _ _ (and_right (eqb d.object.0 o) (eqb d.chunk.0 c) t) in rw (← e)
@@ -105,9 +102,9 @@ module _ (says : ℕ → Record) (P o h n : ℕ) (few : n < page_values) (some-d
   -- what was taken in by the marks passed: the newest header that cuts, and of the highest chunk the newest copy, if there is one
   pub record Sighted (A : List ℕ) (s : Seen) : Type 0 where
     pub newest_cut : Latest says (CutIn A) s.cut
-    pub newest_copy_lem : Latest says (CopyIn A s.chunk) s.copy
-    pub highest : (p c : ℕ) → CopyIn A c p → c ≤ s.chunk
-    pub one : (s.chunk ≡ 0) ⊎ Copied A s.chunk
+    pub newest_copy_lem : Latest says (CopyIn A s.chunk.0) s.copy
+    pub highest : (p c : ℕ) → CopyIn A c p → c ≤ s.chunk.0
+    pub one : (s.chunk.0 ≡ 0) ⊎ Copied A s.chunk.0
 
   -- nothing passed, nothing taken in
   pub nothing_sighted : Sighted [] nothing_seen
@@ -150,16 +147,16 @@ module _ (says : ℕ → Record) (P o h n : ℕ) (few : n < page_values) (some-d
       take_bare x e = record {
         newest_cut =
             latest_same says (CutIn A) (CutIn more) s.cut before.newest_cut cut-kept
-            (λ q i. cut_parts (CutIn A q) q i (λ a w f. absurd (none q a w.below (f ∙ e))) (λ j. j));
+            (λ q i. cut_parts (CutIn A q) q i (λ a w f. absurd (None q a w.below (f ∙ e))) (λ j. j));
         newest_copy_lem =
-            latest_same says (CopyIn A s.chunk) (CopyIn more s.chunk) s.copy before.newest_copy_lem (copy-kept s.chunk)
-            (λ q i. copy_parts (CopyIn A s.chunk q) s.chunk q i (λ w f. absurd (none q _ w.below (f ∙ e))) (λ j. j));
-        highest = λ q c i. copy_parts (c ≤ s.chunk) c q i (λ w f. absurd (none q _ w.below (f ∙ e))) (λ j. before.highest q c j);
-        one = copied-kept s.chunk before.one;
+            latest_same says (CopyIn A s.chunk.0) (CopyIn more s.chunk.0) s.copy before.newest_copy_lem (copy-kept s.chunk.0)
+            (λ q i. copy_parts (CopyIn A s.chunk.0 q) s.chunk.0 q i (λ w f. absurd (None q _ w.below (f ∙ e))) (λ j. j));
+        highest = λ q c i. copy_parts (c ≤ s.chunk.0) c q i (λ w f. absurd (None q _ w.below (f ∙ e))) (λ j. before.highest q c j);
+        one = copied-kept s.chunk.0 before.one;
       }
         where
-          none : (q a : ℕ) → q < n → mark_of a q ≡ mark_of x no_page → ⊥
-          none q a b f = let z = same_page a x q no_page (omega (arith, few, b)) (omega arith) f in omega (arith, few, b, z)
+          None : (q a : ℕ) → q < n → mark_of a q ≡ mark_of x no_page → ⊥
+          None q a b f = let z = same_page a x q no_page (omega (arith, few, b)) (omega arith) f in omega (arith, few, b, z)
 
       -- a header that cuts
       take-cut :
@@ -170,10 +167,10 @@ module _ (says : ℕ → Record) (P o h n : ℕ) (few : n < page_values) (some-d
             latest_more says (CutIn A) (CutIn more) s.cut p before.newest_cut record { place = a; is = w; there = rw (← e) last } cut-kept
             (λ q i. cut_parts ((q ≡ p) ⊎ CutIn A q) q i (λ b v f. inl (same q b v.below (f ∙ e))) (λ j. inr j));
         newest_copy_lem =
-            latest_same says (CopyIn A s.chunk) (CopyIn more s.chunk) s.copy before.newest_copy_lem (copy-kept s.chunk)
-            (λ q i. copy_parts (CopyIn A s.chunk q) s.chunk q i (λ v f. absurd (other q s.chunk v (f ∙ e))) (λ j. j));
-        highest = λ q c i. copy_parts (c ≤ s.chunk) c q i (λ v f. absurd (other q c v (f ∙ e))) (λ j. before.highest q c j);
-        one = copied-kept s.chunk before.one;
+            latest_same says (CopyIn A s.chunk.0) (CopyIn more s.chunk.0) s.copy before.newest_copy_lem (copy-kept s.chunk.0)
+            (λ q i. copy_parts (CopyIn A s.chunk.0 q) s.chunk.0 q i (λ v f. absurd (other q s.chunk.0 v (f ∙ e))) (λ j. j));
+        highest = λ q c i. copy_parts (c ≤ s.chunk.0) c q i (λ v f. absurd (other q c v (f ∙ e))) (λ j. before.highest q c j);
+        one = copied-kept s.chunk.0 before.one;
       }
         where
           same : (q b : ℕ) → q < n → mark_of b q ≡ mark_of a p → q ≡ p
@@ -205,30 +202,30 @@ module _ (says : ℕ → Record) (P o h n : ℕ) (few : n < page_values) (some-d
         new = record { is = w; there = rw (← e) last }
 
         -- of the chunk that was the highest
-        take_same : c ≡ s.chunk → Sighted more (record { cut = s.cut; chunk = s.chunk; copy = later_in s.copy p (age_of says p) })
+        take_same : c ≡ s.chunk.0 → Sighted more (record { cut = s.cut; chunk = s.chunk; copy = later_in s.copy p (age_of says p) })
         take_same z = record {
           newest_cut = cuts;
           newest_copy_lem =
-              latest_more says (CopyIn A s.chunk) (CopyIn more s.chunk) s.copy p before.newest_copy_lem (rw (← z) new) (copy-kept s.chunk)
-              (λ q i. copy_parts ((q ≡ p) ⊎ CopyIn A s.chunk q) s.chunk q i (λ v f. inl (same q _ v.below (f ∙ e))) (λ j. inr j));
-          highest = λ q d i. copy_parts (d ≤ s.chunk) d q i (λ v f. omega (arith, chunk q d v (f ∙ e), z)) (λ j. before.highest q d j);
+              latest_more says (CopyIn A s.chunk.0) (CopyIn more s.chunk.0) s.copy p before.newest_copy_lem (rw (← z) new) (copy-kept s.chunk.0)
+              (λ q i. copy_parts ((q ≡ p) ⊎ CopyIn A s.chunk.0 q) s.chunk.0 q i (λ v f. inl (same q _ v.below (f ∙ e))) (λ j. inr j));
+          highest = λ q d i. copy_parts (d ≤ s.chunk.0) d q i (λ v f. omega (arith, chunk q d v (f ∙ e), z)) (λ j. before.highest q d j);
           one = inr record { page = p; copy = rw (← z) new };
         }
 
         -- the highest so far is not above
-        not-above : Every (λ m. m ≤ k) A → s.chunk ≤ c
-        not-above up = ⊎_elim (λ (z : s.chunk ≡ 0). omega (arith, z)) (λ i. below i.page i.copy) before.one
+        not-above : Every (λ m. m ≤ k) A → s.chunk.0 ≤ c
+        not-above up = ⊎_elim (λ (z : s.chunk.0 ≡ 0). omega (arith, z)) (λ i. below i.page i.copy) before.one
           where
-            below : (q : ℕ) → CopyIn A s.chunk q → s.chunk ≤ c
+            below : (q : ℕ) → CopyIn A s.chunk.0 q → s.chunk.0 ≤ c
             below q i =
-                let m : mark_of (base_of P s.chunk) q ≤ k = every_in (λ m. m ≤ k) (mark_of (base_of P s.chunk) q) A up i.there in
-                base_order P some-data s.chunk c (omega (arith, chunk_within c w.good))
-                (mark_order (base_of P s.chunk) (base_of P c) q p (omega (arith, few, i.is.below)) (omega (arith, few, w.below)) (rw e at m))
+                let m : mark_of (base_of P s.chunk.0) q ≤ k = every_in (λ m. m ≤ k) (mark_of (base_of P s.chunk.0) q) A up i.there in
+                base_order P some-data s.chunk.0 c (omega (arith, chunk_within c w.good))
+                (mark_order (base_of P s.chunk.0) (base_of P c) q p (omega (arith, few, i.is.below)) (omega (arith, few, w.below)) (rw e at m))
 
         -- of a higher chunk
-        take_next : (c ≡ s.chunk → ⊥) → Every (λ m. m ≤ k) A → Sighted more (record { cut = s.cut; chunk = c; copy = At (record { 0 = p }) (age_of says p) })
+        take_next : (c ≡ s.chunk.0 → ⊥) → Every (λ m. m ≤ k) A → Sighted more (record { cut = s.cut; chunk = record { 0 = c }; copy = At (record { 0 = p }) (age_of says p) })
         take_next z up =
-            let above : s.chunk < c = omega (arith, not-above up, z) in
+            let above : s.chunk.0 < c = omega (arith, not-above up, z) in
             record {
               newest_cut = cuts;
               newest_copy_lem = (
@@ -257,8 +254,8 @@ module _ (says : ℕ → Record) (P o h n : ℕ) (few : n < page_values) (some-d
           rw (taken-page p w.below (ap page_on e ∙ mark_page a p (omega (arith, few, w.below))), seen_header s o p (says p) w.header) (take-cut p a w e)
       take_in (marking.copy p c w e) up =
           rw (taken-page p w.below (ap page_on e ∙ mark_page (base_of P c) p (omega (arith, few, w.below))), seen_data s o c p (says p) w.copy)
-          (by_test (eqb c s.chunk) _
-          (λ t. rw t (take_same p c w e (eqb-true _ _ t)))
+          (by_test (eqb c s.chunk.0) _
+          (λ t. let z : c ≡ s.chunk.0 = eqb-true _ _ t in rw (t, z) (take_same p c w e z))
           (λ t. rw t (take_next p c w e (eqb-false _ _ t) up)))
 
   -- where all marks up to place x were passed, and none behind it, what was taken in gives the reason there
@@ -278,9 +275,9 @@ module _ (says : ℕ → Record) (P o h n : ℕ) (few : n < page_values) (some-d
     cut_passed : (p : ℕ) → p < n → cuts_at says P o n h x p ≡ true → CutIn A p
     cut_passed p b t = go (cut_of (eqb p h) (says p)) refl (and_right (header_of o (says p)) _ t)
       where
-        go : (r : Cut) → cut_of (eqb p h) (says p) ≡ r → hides r x ≡ true → CutIn A p
-        go cut.Nowhere e u = clash (cc)
-        go (cut.At a) e u =
+        go : (r : (Option ℕ)) → cut_of (eqb p h) (says p) ≡ r → hides r x ≡ true → CutIn A p
+        go None e u = clash (cc)
+        go (Some a) e u =
             let l : a ≤ x = leb-true _ _ u in
             let v : IsCut says P o h n p a = record { below = b; header = and_left (header_of o (says p)) _ t; cuts = e; inside = omega (arith, l, fits) } in
             record { place = a; is = v; there = full _ (cut_marked says P o h n p a v) (rw (mark_place a p (omega (arith, few, b))) l) }
@@ -293,7 +290,7 @@ module _ (says : ℕ → Record) (P o h n : ℕ) (few : n < page_values) (some-d
         rw (i.is.header, i.is.cuts) (le-leb i.place x m)
 
     -- no data of the place's chunk
-    no_copy_lem : ((q : ℕ) → CopyIn A c q → ⊥) → copy_for says P o n h x ≡ none
+    no_copy_lem : ((q : ℕ) → CopyIn A c q → ⊥) → copy_for says P o n h x ≡ None
     unfolding copy_for
     no_copy_lem f =
         by_test (ltb most_chunk c) _
@@ -303,7 +300,7 @@ module _ (says : ℕ → Record) (P o h n : ℕ) (few : n < page_values) (some-d
         (λ q b. by_test (copy_of o c (says q)) _ (λ u. absurd (f q (copy_passed q b u (ltb-false _ _ t)))) (λ u. u))))
 
     -- the newest data of the place's chunk
-    a_copy : (q : ℕ) → CopyIn A c q → ((r : ℕ) → CopyIn A c r → age_of says r ≤ age_of says q) → copy_for says P o n h x ≡ some q
+    a_copy : (q : ℕ) → CopyIn A c q → ((r : ℕ) → CopyIn A c r → age_of says r ≤ age_of says q) → copy_for says P o n h x ≡ Some q
     unfolding copy_for
     a_copy q i f =
         let m : c ≤ most_chunk = omega (arith, chunk_within c i.is.good) in
@@ -313,7 +310,7 @@ module _ (says : ℕ → Record) (P o h n : ℕ) (few : n < page_values) (some-d
         (omega (arith, few)))
 
     -- no header newer than the copy cuts
-    no-cutter : (q : ℕ) → ((p : ℕ) → CutIn A p → age_of says p ≤ age_of says q) → cutter says P o n h q x ≡ none
+    no-cutter : (q : ℕ) → ((p : ℕ) → CutIn A p → age_of says p ≤ age_of says q) → cutter says P o n h q x ≡ None
     unfolding cutter
     no-cutter q f =
         where_none_is says (λ p. cuts_at says P o n h x p && ltb (age_of says q) (age_of says p)) n
@@ -325,7 +322,7 @@ module _ (says : ℕ → Record) (P o h n : ℕ) (few : n < page_values) (some-d
         (λ t. t))
 
     -- the newest that does
-    a-cutter : (q p : ℕ) → CutIn A p → age_of says q < age_of says p → ((r : ℕ) → CutIn A r → age_of says r ≤ age_of says p) → cutter says P o n h q x ≡ some p
+    a-cutter : (q p : ℕ) → CutIn A p → age_of says q < age_of says p → ((r : ℕ) → CutIn A r → age_of says r ≤ age_of says p) → cutter says P o n h q x ≡ Some p
     unfolding cutter
     a-cutter q p i l f =
         where_is says (λ r. cuts_at says P o n h x r && ltb (age_of says q) (age_of says r)) n p
@@ -339,35 +336,35 @@ module _ (says : ℕ → Record) (P o h n : ℕ) (few : n < page_values) (some-d
     -- the copy q, of this age, behind the newest header passed
     behind : (q : PageNumber) (age : ℕ) → age ≡ age_of says q.0 → (r : Newest) → Latest says (CutIn A) r → behind_seen says P q age x r ≡ reason_behind says P o n h q.0 x (cutter says P o n h q.0 x)
     behind q age e Nothing l = rw (no-cutter q.0 (λ p i. absurd (l p i)))
-    behind q age e (At p later) l =
-        by_test (ltb age later) _
-        (λ t. rw (t, a-cutter q.0 p.0 l.0 (omega (arith, ltb-true age later t, e, l.1)) (λ r i. le_trans (l.2 r i) (omega (arith, l.1)))))
-        (λ t. rw (t, no-cutter q.0 (λ r i. le_trans (l.2 r i) (omega (arith, ltb-false age later t, e)))))
+    behind q age e (Some x) l =
+        by_test (ltb age x.age) _
+        (λ t. rw (t, a-cutter q.0 x.page.0 l.0 (omega (arith, ltb-true age x.age t, e, l.1)) (λ r i. le_trans (l.2 r i) (omega (arith, l.1)))))
+        (λ t. rw (t, no-cutter q.0 (λ r i. le_trans (l.2 r i) (omega (arith, ltb-false age x.age t, e)))))
 
     -- the newest copy passed decides, if it is of the place's chunk; a chunk passed before has ended
-    by_copy : (r : Newest) → Latest says (CopyIn A s.chunk) r → copy_seen says P s x r ≡ reason_by says P o n h x (copy_for says P o n h x)
+    by_copy : (r : Newest) → Latest says (CopyIn A s.chunk.0) r → copy_seen says P s x r ≡ reason_by says P o n h x (copy_for says P o n h x)
     by_copy Nothing l =
         rw (no_copy_lem
         (λ q i.
         ⊎_elim
-        (λ (z : s.chunk ≡ 0). absurd (omega (arith, z, w.highest q c i, chunk_within c i.is.good)))
+        (λ (z : s.chunk.0 ≡ 0). absurd (omega (arith, z, w.highest q c i, chunk_within c i.is.good)))
         (λ j. l j.page j.copy)
         w.one))
-    by_copy (At q age) l =
-        by_test (eqb s.chunk c) _
+    by_copy (Some y) l =
+        by_test (eqb s.chunk.0 c) _
         (λ t.
-        let e : s.chunk ≡ c = eqb-true _ _ t in
+        let e : s.chunk.0 ≡ c = eqb-true _ _ t in
         let m = rw e at l in
-        rw (t, a_copy q.0 m.0 (λ r i. le_trans (m.2 r i) (omega (arith, m.1)))) (behind q age l.1 s.cut w.newest_cut))
+        rw (t, a_copy y.page.0 m.0 (λ r i. le_trans (m.2 r i) (omega (arith, m.1)))) (behind y.page y.age l.1 s.cut w.newest_cut))
         (λ t.
         rw (
           t,
           no_copy_lem
               (λ r i.
-              let lo : c ≤ s.chunk = w.highest r c i in
+              let lo : c ≤ s.chunk.0 = w.highest r c i in
               let b = upto _ l.0.there in
-              let hi : s.chunk ≤ c = begins_below P some-data s.chunk x (rw (mark_place (base_of P s.chunk) q.0 (omega (arith, few, l.0.is.below))) at b) in
-              absurd (eqb-false s.chunk c t (omega (arith, lo, hi)))),
+              let hi : s.chunk.0 ≤ c = begins_below P some-data s.chunk.0 x (rw (mark_place (base_of P s.chunk.0) y.page.0 (omega (arith, few, l.0.is.below))) at b) in
+              absurd (eqb-false s.chunk.0 c t (omega (arith, lo, hi)))),
         ))
 
     -- so the reason is that of the place

@@ -1,8 +1,8 @@
 -- Between marks nothing changes. The reason or its page changes from one position to the next only where a mark is: where a header cuts, where a copy's
 -- bytes end, or where a chunk begins of which it or the one before it has a copy.
 use Prim.Native.Nat.{ℕ, ◌+◌, ◌-◌, ◌≤◌, ◌<◌}
+use Rattle.std.specs.Prelude.{Option, Some, None}
 use mathlib.Core.Bool.{Bool, true, false, ◌&&◌}
-use mathlib.Core.Option.{Option, none, some}
 use mathlib.Core.Path.{◌≡◌, refl, sym, ap, ◌∙◌}
 use native.Mathlib.Omega.{arith}
 use lib.Dec.{eqb, ltb, leb}
@@ -17,8 +17,6 @@ use Rattle.chunk.specs.Records.{age_of, header_of, count_of, base_of}
 use Rattle.chunk.specs.Newest.{newest_copy}
 use Rattle.chunk.specs.Cuts.{cut_of, hides}
 use Rattle.chunk.specs.Sizes.{size_of}
-use Rattle.chunk.specs.declared.cut.Cut.{Cut}
-use Rattle.chunk.specs.declared.cut.Cut.TheVariants.{At, Nowhere}
 use Rattle.chunk.proofs.Meaning.{where_same}
 use Rattle.why.specs.Codes.{code_of}
 use Rattle.why.specs.Marks.{most_data, places, no_page, mark_of, place_of, marks_to}
@@ -34,7 +32,7 @@ module _ (says : ℕ → Record) (P o n h : ℕ) (some-data : 0 < P) (most-data 
   inside_reason x l = rw (lt-leb (size_of says P o h n) x l)
 
   -- what the copy of a position is
-  copy_is : (x q : ℕ) → copy_for says P o n h x ≡ some q → IsCopy says P o h n q (chunk_at P x)
+  copy_is : (x q : ℕ) → copy_for says P o n h x ≡ Some q → IsCopy says P o h n q (chunk_at P x)
   copy_is x q e =
       let f = copy_found says P o n h x q e in
       record { below = f.newest.below; copy = f.newest.passes; good = chunk_good (chunk_at P x) (record { least = omega arith; most = f.number }) }
@@ -42,7 +40,7 @@ module _ (says : ℕ → Record) (P o n h : ℕ) (some-data : 0 < P) (most-data 
   -- positions of one chunk have one copy
   same_copy : (x y : ℕ) → chunk_at P x ≡ chunk_at P y → copy_for says P o n h x ≡ copy_for says P o n h y
   unfolding copy_for
-  same_copy x y e = ap (λ (c : ℕ). pick (ltb most_chunk c) none (newest_copy says o c n)) e
+  same_copy x y e = ap (λ (c : ℕ). pick (ltb most_chunk c) None (newest_copy says o c n)) e
 
   -- a position and the next, at which there is no mark
   module _ (x : ℕ) (bare : (k : ℕ) → In k (marks_to says P o h n) → place_of k ≡ x + 1 → ⊥) where
@@ -50,9 +48,9 @@ module _ (says : ℕ → Record) (P o n h : ℕ) (some-data : 0 < P) (most-data 
     same-cut : (p : ℕ) → p < n → x + 1 < places → cuts_at says P o n h x p ≡ cuts_at says P o n h (x + 1) p
     same-cut p b l = by_test (header_of o (says p)) _ (λ t. rw t (go t (cut_of (eqb p h) (says p)) refl)) (λ t. rw t)
       where
-        go : header_of o (says p) ≡ true → (r : Cut) → cut_of (eqb p h) (says p) ≡ r → hides r x ≡ hides r (x + 1)
-        go t Nowhere e = refl
-        go t (At a) e =
+        go : header_of o (says p) ≡ true → (r : (Option ℕ)) → cut_of (eqb p h) (says p) ≡ r → hides r x ≡ hides r (x + 1)
+        go t None e = refl
+        go t (Some a) e =
             by_test (leb a x) _
             (λ u. rw (u, le-leb a (x + 1) (omega (arith, leb-true a x u))))
             (λ u.
@@ -90,13 +88,13 @@ module _ (says : ℕ → Record) (P o n h : ℕ) (some-data : 0 < P) (most-data 
 
       -- and so is the reason, cut or not
       same-behind : (q : ℕ) → IsCopy says P o h n q (chunk_at P (x + 1)) → (r : Option ℕ) → code_of (reason_behind says P o n h q x r) ≡ code_of (reason_behind says P o n h q (x + 1) r)
-      same-behind q w none = same-held q w
-      same-behind q w (some p) = refl
+      same-behind q w None = same-held q w
+      same-behind q w (Some p) = refl
 
       -- and that of the chunk's copy
       by_same : (r : Option ℕ) → copy_for says P o n h (x + 1) ≡ r → code_of (reason_by says P o n h x r) ≡ code_of (reason_by says P o n h (x + 1) r)
-      by_same none e = refl
-      by_same (some q) e =
+      by_same None e = refl
+      by_same (Some q) e =
           let w = copy_is (x + 1) q e in
           let l : x + 1 < places = inside_places P some-data (x + 1) most-data (chunk-most w) in
           ap (λ (r : Option ℕ). code_of (reason_behind says P o n h q x r)) (same-cutter q l) ∙ same-behind q w (cutter says P o n h q (x + 1))
@@ -106,22 +104,22 @@ module _ (says : ℕ → Record) (P o n h : ℕ) (some-data : 0 < P) (most-data 
 
     -- at the begin of a chunk neither it nor the one before has a copy
     module _ (next : chunk_at P x ≡ chunk_at P (x + 1) → ⊥) where
-      none_here : copy_for says P o n h (x + 1) ≡ none
+      none_here : copy_for says P o n h (x + 1) ≡ None
       none_here = go (copy_for says P o n h (x + 1)) refl
         where
-          go : (r : Option ℕ) → copy_for says P o n h (x + 1) ≡ r → r ≡ none
-          go none e = refl
-          go (some q) e =
+          go : (r : Option ℕ) → copy_for says P o n h (x + 1) ≡ r → r ≡ None
+          go None e = refl
+          go (Some q) e =
               let w = copy_is (x + 1) q e in
               absurd (bare (mark_of (base_of P (chunk_at P (x + 1))) q) (copy_marked says P o h n q (chunk_at P (x + 1)) w)
               (mark_place _ q (omega (arith, few, w.below)) ∙ sym (next_chunk P some-data x next).1))
 
-      none_before : copy_for says P o n h x ≡ none
+      none_before : copy_for says P o n h x ≡ None
       none_before = go (copy_for says P o n h x) refl
         where
-          go : (r : Option ℕ) → copy_for says P o n h x ≡ r → r ≡ none
-          go none e = refl
-          go (some q) e =
+          go : (r : Option ℕ) → copy_for says P o n h x ≡ r → r ≡ None
+          go None e = refl
+          go (Some q) e =
               let w = copy_is x q e in
               absurd (bare (mark_of (base_of P (chunk_at P x) + P) no_page) (end_marked says P o h n q (chunk_at P x) w)
               (mark_place _ no_page (omega arith) ∙ sym (next_chunk P some-data x next).0))

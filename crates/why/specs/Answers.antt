@@ -1,5 +1,6 @@
 -- What is answered of a byte and of a whole file, and what the lent words hold then (document 02, item 5, and document 01's refusals).
-use Rattle.std.specs.Prelude.{ℕ, ◌&&◌, List, [], ◌∷◌, length, get_or, eqb, ltb}
+use Rattle.std.specs.Prelude.{ℕ, ◌&&◌, List, [], ◌∷◌, length, get_or, eqb, ltb, Result, Ok, Err}
+use Rattle.page.specs.declared.number.PageNumber.{PageNumber}
 use Rattle.page.specs.Choice.{pick}
 use Rattle.page.specs.Lengths.{opened_of, page_in}
 use Rattle.page.specs.Numbers.{bad_object}
@@ -14,8 +15,7 @@ use Rattle.chunk.specs.Answers.{on_pages}
 use Rattle.chunk.specs.Lookups.{file_of}
 use Rattle.chunk.specs.Sizes.{size_of}
 use Rattle.chunk.specs.Takes.{seen_by}
-use Rattle.chunk.specs.declared.answer.File.{File}
-use Rattle.chunk.specs.declared.answer.File.TheVariants as file
+use Rattle.chunk.specs.File.{File}
 use Rattle.why.specs.Codes.{reason_of, from_of, code_in}
 use Rattle.why.specs.Marks.{marks_to}
 use Rattle.chunk.specs.Moments.{is_missing, takes_at}
@@ -23,31 +23,31 @@ use Rattle.why.specs.Reasons.{byte_at, reason_at, until_of, spans_of}
 use Rattle.chunk.specs.declared.moment.Moment.{Moment}
 use Rattle.why.specs.declared.reason.Reason.{Reason}
 use Rattle.why.specs.declared.reason.Reason.TheVariants.{Held, NoCopy, Cut, Count, PastEnd}
-use Rattle.why.specs.declared.spans.Filed.{Filed}
-use Rattle.why.specs.declared.spans.Filed.TheVariants as filed
-use Rattle.why.specs.declared.spans.Spanned.{Spanned}
-use Rattle.why.specs.declared.spans.Spanned.TheVariants as spanned
-use Rattle.why.specs.declared.byte.Told.{Told}
-use Rattle.why.specs.declared.byte.Told.TheVariants as told
+use Rattle.why.specs.Spanned.{Spanned}
+use Rattle.why.specs.Spanned as spanned
+use Rattle.why.specs.Told.{Told}
+use Rattle.why.specs.Told as told
 use Rattle.why.specs.declared.byte.Span.{Span}
+use Rattle.why.specs.declared.spans.Filed.{Filed}
+use Rattle.page.specs.declared.refusal.Short.{Short}
 use Rattle.why.specs.declared.byte.Found.{Found}
 
 -- the file that a lookup of an object finds
-abbrev pub filed_by : File → Filed
-filed_by (file.Refused r v) = filed.Refused r
-filed_by (file.Header h v) = filed.Header h
+abbrev pub filed_by : File → Result PageNumber Refusal
+filed_by (Err e) = Err e.answer
+filed_by (Ok x) = Ok x.answer
 
 -- the file that object o of a dump of n pages is at a moment: the page of the moment, and then the object, refused as in lookups
-unfoldable pub filed_in : (says : ℕ → Record) (pages : ℕ) → Moment → (object : ℕ) → Filed
+unfoldable pub filed_in : (says : ℕ → Record) (pages : ℕ) → Moment → (object : ℕ) → Result PageNumber Refusal
 filed_in says n m o =
-    pick (is_missing n m) (filed.Refused BadPage)
-    (pick (bad_object o) (filed.Refused BadObject)
+    pick (is_missing n m) (Err BadPage)
+    (pick (bad_object o) (Err BadObject)
     (filed_by (file_of says o n)))
 
 -- an answer about a file, by its newest header
-abbrev pub on_file : {A : Type 0} → (Refusal → A) → (ℕ → A) → Filed → A
-on_file refuse answer (filed.Refused r) = refuse r
-on_file refuse answer (filed.Header h) = answer h.0
+abbrev pub on_file : {A : Type 0} → (Refusal → A) → (ℕ → A) → Result PageNumber Refusal → A
+on_file refuse answer (Err r) = refuse r
+on_file refuse answer (Ok h) = answer h.0
 
 -- object o of a dump at a moment
 module _ (g : Geometry) (dump : List ℕ) (m : Moment) (o : ℕ) where
@@ -62,6 +62,14 @@ module _ (g : Geometry) (dump : List ℕ) (m : Moment) (o : ℕ) where
   -- how many words it needs: one for each of its marks
   abbrev pub room_for : (pages header : ℕ) → ℕ
   room_for n h = length (marks_to says_at g.layout.«data» o h n)
+
+  -- the file, if there are so many words
+  unfoldable pub filed_on : (words : ℕ) → Result Filed (Short ℕ)
+  filed_on words =
+      on_live (λ r. Err (record { refusal = r; need = 0 }))
+      (λ n h.
+      pick (ltb words (room_for n h)) (Err (record { refusal = ShortBuffer; need = room_for n h }))
+      (Ok (record { pages = n; takes = takes_at (record_at g dump) m; header = record { 0 = h }; size = size_of says_at g.layout.«data» o h n; marks = room_for n h })))
 
   -- the spans of the file, in so many words: its size, and how many they are
   unfoldable pub spans_on : (words : ℕ) → Spanned

@@ -1,3 +1,5 @@
+pub mod Told
+pub mod Spanned
 pub mod Codes
 pub mod Reasons
 pub mod Marks

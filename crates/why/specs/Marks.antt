@@ -1,16 +1,15 @@
 -- The places of a file at which the reason of its bytes can change: its begin; where a header cuts; where a copy begins, where its bytes end and where
 -- its page does, which are one place if they fill it. A mark is such a place and the page that begins to matter there, if one does, in one number:
 -- first by its place.
-use Rattle.std.specs.Prelude.{ℕ, ◌+◌, ◌-◌, ◌*◌, ◌/◌, ◌%◌, List, [], ◌∷◌, ◌++◌, eqb, ltb, leb}
+use Rattle.std.specs.Prelude.{ℕ, ◌+◌, ◌-◌, ◌*◌, ◌/◌, ◌%◌, List, [], ◌∷◌, ◌++◌, eqb, ltb, leb, Option, Some, None}
 use Rattle.page.specs.Choice.{pick}
 use Rattle.page.specs.Numbers.{bad_chunk, page_values}
+use Rattle.page.specs.declared.number.PageNumber.{PageNumber}
 use Rattle.page.specs.declared.record.Record.{Record}
 use Rattle.page.specs.declared.record.Record.TheVariants.{Other, Header, Data}
 use Rattle.chunk.specs.Gather.{gather}
 use Rattle.chunk.specs.Records.{base_of}
 use Rattle.chunk.specs.Cuts.{cut_of}
-use Rattle.chunk.specs.declared.cut.Cut.{Cut}
-use Rattle.chunk.specs.declared.cut.Cut.TheVariants.{At, Nowhere}
 use Rattle.why.specs.declared.marks.Marks.{Marks}
 use Rattle.why.specs.declared.marks.Marks.TheVariants.{Nothing, One, Two, Three}
 
@@ -35,6 +34,10 @@ place_of m = m / page_values
 abbrev pub page_on : (mark : ℕ) → ℕ
 page_on m = m % page_values
 
+-- the page that begins to matter at a mark, if one does
+abbrev pub marked : (mark : ℕ) → Option PageNumber
+marked m = pick (eqb (page_on m) no_page) None (Some (record { 0 = page_on m }))
+
 -- as a list
 abbrev pub marks_in : Marks → List ℕ
 marks_in Nothing = []
@@ -43,9 +46,9 @@ marks_in (Two a b) = a ∷ b ∷ []
 marks_in (Three a b c) = a ∷ b ∷ c ∷ []
 
 -- those of a header on page p, by its cut
-abbrev pub cut_marks : (page : ℕ) → Cut → List ℕ
-cut_marks p Nowhere = []
-cut_marks p (At a) = pick (ltb a places) (mark_of a p ∷ []) []
+abbrev pub cut_marks : (page : ℕ) → Option ℕ → List ℕ
+cut_marks p None = []
+cut_marks p (Some a) = pick (ltb a places) (mark_of a p ∷ []) []
 
 -- those of a copy of chunk c on page p, by its byte count
 abbrev pub copy_marks : (P page chunk count : ℕ) → List ℕ

@@ -1,6 +1,5 @@
 -- Why a byte of a file is what it is (document 02, item 5), over what each page says.
-use Rattle.std.specs.Prelude.{ℕ, ◌+◌, ◌-◌, ◌/◌, ◌%◌, Bool, not, ◌&&◌, ◌||◌, List, eqb, ltb, leb}
-use Rattle.std.proofs.Math.Option.{Option, none, some}
+use Rattle.std.specs.Prelude.{ℕ, ◌+◌, ◌-◌, ◌/◌, ◌%◌, Bool, not, ◌&&◌, ◌||◌, List, eqb, ltb, leb, Option, Some, None}
 use Rattle.page.specs.Choice.{pick}
 use Rattle.page.specs.Numbers.{most_chunk}
 use Rattle.page.specs.Search.{first_from}
@@ -27,8 +26,8 @@ byte_at P x = x % P
 
 -- the page that a search found, or another
 abbrev pub found_or : ℕ → Option ℕ → ℕ
-found_or other none = other
-found_or other (some p) = p
+found_or other None = other
+found_or other (Some p) = p
 
 -- the copy q at position x where nothing cuts it: its byte count ends before, or it holds the byte
 abbrev pub held_by : (says : ℕ → Record) (P page position : ℕ) → Reason
@@ -44,7 +43,7 @@ sets_by P o h x size p k =
 module _ (says : ℕ → Record) (P o n h : ℕ) where
   -- the copy of the chunk that position x lies in; a chunk numbered above the largest has none
   unfoldable pub copy_for : (position : ℕ) → Option ℕ
-  copy_for x = pick (ltb most_chunk (chunk_at P x)) none (newest_copy says o (chunk_at P x) n)
+  copy_for x = pick (ltb most_chunk (chunk_at P x)) None (newest_copy says o (chunk_at P x) n)
 
   -- whether page p is a header that cuts at or below position x
   abbrev pub cuts_at : (position page : ℕ) → Bool
@@ -60,12 +59,12 @@ module _ (says : ℕ → Record) (P o n h : ℕ) where
 
   -- the copy q at position x, by the header that cuts it, if one does
   abbrev pub reason_behind : (page position : ℕ) → Option ℕ → Reason
-  reason_behind q x (some p) = Cut (record { 0 = p })
-  reason_behind q x none = held_by says P q x
+  reason_behind q x (Some p) = Cut (record { 0 = p })
+  reason_behind q x None = held_by says P q x
 
   abbrev pub reason_by : (position : ℕ) → Option ℕ → Reason
-  reason_by x none = NoCopy
-  reason_by x (some q) = reason_behind q x (cutter q x)
+  reason_by x None = NoCopy
+  reason_by x (Some q) = reason_behind q x (cutter q x)
 
   -- the reason of position x
   unfoldable pub reason_at : (position : ℕ) → Reason

@@ -1,18 +1,17 @@
 // The places of a file at which the reason of its bytes can change: its begin; where a header cuts; where a copy begins, where its bytes end and where
 // its page does, which are one place if they fill it. A mark is such a place and the page that begins to matter there, if one does, in one number:
 // first by its place.
-ghost use Rattle.std.specs.Prelude.{not, ◌≡◌, ◌+◌, ◌*◌, ◌≤◌, ◌<◌, eqb, length};
+ghost use Rattle.std.specs.Prelude.{◌≡◌, ◌+◌, ◌≤◌, ◌<◌, length};
 ghost use Rattle.std.proofs.lemmas.List.Edits.{sets};
 ghost use Rattle.page.specs.Numbers.{page_values};
 ghost use Rattle.page.specs.Records.{record_at};
 ghost use Rattle.chunk.specs.Takes.{seen_by};
-ghost use Rattle.chunk.specs.Scans.{end_with};
 ghost use Rattle.chunk.specs.Sizes.{size_of};
 ghost use Rattle.chunk.specs.Lists.{in_front};
-ghost use Rattle.why.specs.Marks.{most_data, places, no_page, mark_of, place_of, page_on, marks_in, cut_marks, data_marks, marks_of, marks_to};
+ghost use Rattle.why.specs.Marks.{most_data, places, mark_of, place_of, marked, marks_in, cut_marks, data_marks, marks_of, marks_to};
 
 use chunk::cut::{Cut, cut_of};
-use chunk::record::{base_of, file_size, larger, order_of, sequence_of};
+use chunk::record::{base_of, file_size, order_of, sequence_of};
 use chunk::scan::end_with;
 use chunk::takes::{Takes, seen_at};
 use page::geometry::Geometry;
@@ -23,16 +22,16 @@ use page::tags::names_object;
 // How many places marks tell apart; no chunk has a byte behind them.
 const PLACES: u64 = 0x100_0000_0000;
 
-// The page of a mark at which none begins to matter.
+// The page of a mark at which none begins to matter: marks are words that the caller lends, and sorted as numbers, so that an Option has no place.
 const NO_PAGE: u32 = 0x1F_FFFF;
 
-// The mark of a place and a page.
+// The mark of a place and a page. A packing of two numbers that rows and codes share would be no shorter than this line and the two below.
 fn mark(place: u64, page: u32) -> u64
     requires place_lt_places { place < places }
     requires page_lt_page_values { page < page_values }
     ensures { result ≡ mark_of place page }
 {
-    place * PAGE_VALUES + (page as u64)
+    place * PAGE_VALUES + u64::from(page)
 }
 
 // The place of a mark.
@@ -42,21 +41,19 @@ pub(crate) fn place_of(mark: u64) -> u64
     mark / PAGE_VALUES
 }
 
-// The page of a mark.
-pub(crate) fn page_on(mark: u64) -> u32
-    ensures { result ≡ page_on mark }
+// The page that begins to matter at a mark, if one does.
+#[tactic(auto, using(crate::proofs::Tests::cases))]
+pub(crate) fn page_on(mark: u64) -> Option<PageNumber>
+    ensures { result ≡ marked mark }
 {
-    (mark % PAGE_VALUES) as u32
+    let page = (mark % PAGE_VALUES) as u32;
+    if page == NO_PAGE {
+        return None;
+    }
+    Some(PageNumber(page))
 }
 
-// Whether a page begins to matter at a mark.
-pub(crate) fn has_page(page: u32) -> bool
-    ensures { result ≡ not (eqb page no_page) }
-{
-    page != NO_PAGE
-}
-
-// The marks that a page makes.
+// The marks that a page makes: a list of at most three, without a heap. Three words with a length beside them would be no plainer.
 #[derive(Clone, Copy)]
 pub(crate) enum Marks {
     Nothing,
@@ -106,22 +103,19 @@ impl Marks {
 }
 
 // The mark of a cut that page p makes, if it makes one.
+#[tactic(auto, using(crate::proofs::Tests::cases))]
 fn cut_mark(p: PageNumber, cut: Cut) -> Marks
     requires { p.0 < page_values }
     ensures { marks_in result ≡ cut_marks p.0 cut }
 {
     match cut {
-        Cut::Nowhere => Marks::Nothing,
-        Cut::At(a) => {
-            if PLACES <= a {
-                return Marks::Nothing;
-            }
-            Marks::One(mark(a, p.0))
-        }
+        Some(a) if a < PLACES => Marks::One(mark(a, p.0)),
+        _ => Marks::Nothing,
     }
 }
 
 // The marks of the data on page p: where it begins, where its bytes end if that is before its page does, and where its page ends.
+#[tactic(auto, using(crate::proofs::Tests::cases))]
 fn data_marks(data: u32, p: PageNumber, d: Data) -> Marks
     requires p_lt_page_values { p.0 < page_values }
     requires data_le_most_data { «data» ≤ most_data }
@@ -132,33 +126,24 @@ fn data_marks(data: u32, p: PageNumber, d: Data) -> Marks
     }
     let base = base_of(data, d.chunk);
     let begin = mark(base, p.0);
-    let next = mark(base + (data as u64), NO_PAGE);
+    let next = mark(base + u64::from(data), NO_PAGE);
     if data <= d.count {
         return Marks::Two(begin, next);
     }
-    Marks::Three(begin, mark(base + (d.count as u64), NO_PAGE), next)
+    Marks::Three(begin, mark(base + u64::from(d.count), NO_PAGE), next)
 }
 
 // The marks that page p, which is this record, makes for the file of object o, whose newest header is page h.
+#[tactic(auto, using(crate::proofs::Tests::cases))]
 fn marks_of(data: u32, o: ObjectId, h: PageNumber, p: PageNumber, r: Record) -> Marks
     requires p_lt_page_values { p.0 < page_values }
     requires data_le_most_data { «data» ≤ most_data }
     ensures { marks_in result ≡ marks_of «data» o.0 h.0 p.0 r }
 {
     match r {
-        Record::Other => Marks::Nothing,
-        Record::Header(k) => {
-            if k.object.0 != o.0 {
-                return Marks::Nothing;
-            }
-            cut_mark(p, cut_of(p.0 == h.0, k))
-        }
-        Record::Data(d) => {
-            if d.object.0 != o.0 {
-                return Marks::Nothing;
-            }
-            data_marks(data, p, d)
-        }
+        Record::Header(k) if k.object == o => cut_mark(p, cut_of(p == h, k)),
+        Record::Data(d) if d.object == o => data_marks(data, p, d),
+        _ => Marks::Nothing,
     }
 }
 
@@ -169,18 +154,8 @@ pub(crate) struct Measured {
     pub size: u64,
 }
 
-// The largest end so far, with page p too, which is this record, if it is data of object o that is newer than an age.
-fn end_by(end: u64, data: u32, o: ObjectId, age: u64, p: PageNumber, r: Record) -> u64
-    ensures { result ≡ end_with end «data» o.0 age p.0 r }
-{
-    match r {
-        Record::Other => end,
-        Record::Header(_) => end,
-        Record::Data(d) => end_with(end, data, o, age, p, d),
-    }
-}
-
-// How many marks the file of object o has, whose newest header is page h, and its size: both by one pass.
+// How many marks the file of object o has, whose newest header is page h, and its size: both by one pass. It goes over the pages as `fill_marks` does;
+// a closure for what is done at each would be as long as the two loops.
 pub(crate) fn measure(
     dump: &[u8],
     g: Geometry,
@@ -198,21 +173,20 @@ pub(crate) fn measure(
     let age = order_of(sequence_of(newest), h);
     let mut marks: u32 = 1;
     let mut end: u64 = 0;
-    let mut i: u32 = 0;
-    while i < pages {
+    for i in 0..pages {
         let p = PageNumber(i);
-        i += 1;
         if !names_object(dump, g, p, o) {
             continue;
         }
         let r = seen_at(dump, g, t, p);
-        end = end_by(end, g.layout.data, o, age, p, r);
-        let made = marks_of(g.layout.data, o, h, p, r);
-        marks += made.count();
+        marks += marks_of(g.layout.data, o, h, p, r).count();
+        if let Record::Data(d) = r {
+            end = end_with(end, g.layout.data, o, age, p, d);
+        }
     }
     Measured {
         marks,
-        size: larger(file_size(newest) as u64, end),
+        size: u64::from(file_size(newest)).max(end),
     }
 }
 
@@ -233,10 +207,8 @@ pub(crate) fn fill_marks(
 {
     rows[0] = mark(0, NO_PAGE);
     let mut at: usize = 1;
-    let mut i: u32 = 0;
-    while i < pages {
+    for i in 0..pages {
         let p = PageNumber(i);
-        i += 1;
         if !names_object(dump, g, p, o) {
             continue;
         }

@@ -19,7 +19,7 @@ pub enum Reason {
 const KIND_VALUES: u64 = 8;
 
 impl Reason {
-    // The number of its kind.
+    // The number of its kind, as C is told it; a reason has values, so that no cast gives it.
     pub fn kind(self) -> u32
         ensures { result ≡ kind_of self }
     {
@@ -32,58 +32,46 @@ impl Reason {
         }
     }
 
-    // The page that it goes by; 0 where there is none.
+    // The page that it goes by; 0 where there is none, as C is told.
     pub fn page(self) -> u32
         ensures { result ≡ page_in self }
     {
         match self {
-            Reason::Held(p, _) => p.0,
+            Reason::Held(p, _) | Reason::Cut(p) | Reason::Count(p) | Reason::PastEnd(p) => p.0,
             Reason::NoCopy => 0,
-            Reason::Cut(p) => p.0,
-            Reason::Count(p) => p.0,
-            Reason::PastEnd(p) => p.0,
         }
     }
 
-    // The data byte of a held one; 0 of another.
+    // The data byte of a held one; 0 of another, as C is told.
     pub fn byte(self) -> u32
         ensures { result ≡ byte_in self }
     {
         match self {
             Reason::Held(_, at) => at,
-            Reason::NoCopy => 0,
-            Reason::Cut(_) => 0,
-            Reason::Count(_) => 0,
-            Reason::PastEnd(_) => 0,
+            Reason::NoCopy | Reason::Cut(_) | Reason::Count(_) | Reason::PastEnd(_) => 0,
         }
     }
 
-    // Its kind and its page as one number, which stays the same as long as both do.
+    // Its kind and its page as one number, which stays the same as long as both do: a part of a row's word, which the caller lends.
     pub(crate) fn code(self) -> u64
         ensures { result ≡ code_of self }
     {
-        (self.page() as u64) * KIND_VALUES + (self.kind() as u64)
+        u64::from(self.page()) * KIND_VALUES + u64::from(self.kind())
     }
 
-    // The reason of a code, at a data byte.
+    // The reason of a code, at a data byte: of two numbers, so that no From gives it.
+    #[tactic(auto, using(crate::proofs::Tests::cases), unfolding(crate::specs::Codes::reason_of))]
     pub(crate) fn of(code: u64, at: u32) -> Reason
         requires { code < code_values }
         ensures { result ≡ reason_of code at }
     {
         let page = PageNumber((code / KIND_VALUES) as u32);
-        let kind = code % KIND_VALUES;
-        if kind == 1 {
-            return Reason::Held(page, at);
+        match code % KIND_VALUES {
+            1 => Reason::Held(page, at),
+            3 => Reason::Cut(page),
+            4 => Reason::Count(page),
+            5 => Reason::PastEnd(page),
+            _ => Reason::NoCopy,
         }
-        if kind == 3 {
-            return Reason::Cut(page);
-        }
-        if kind == 4 {
-            return Reason::Count(page);
-        }
-        if kind == 5 {
-            return Reason::PastEnd(page);
-        }
-        Reason::NoCopy
     }
 }

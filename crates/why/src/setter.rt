@@ -7,8 +7,8 @@ ghost use Rattle.chunk.specs.Sizes.{size_of};
 ghost use Rattle.chunk.specs.Takes.{seen_by};
 ghost use Rattle.why.specs.Reasons.{sets_by, setter};
 
-use chunk::record::{base_of, file_size, order_of, sequence_of};
-use chunk::scan::Newest;
+use chunk::record::{end_of, file_size, order_of, sequence_of};
+use chunk::scan::newer;
 use chunk::takes::{Takes, seen_at};
 use page::geometry::Geometry;
 use page::number::{ObjectId, PageNumber};
@@ -16,7 +16,8 @@ use page::record::Record;
 use page::tags::names_object;
 
 // Whether page p, which is this record, sets a size: it is page h, and has it as its file size; or it is data of object o that is newer than an age,
-// and ends there.
+// and ends there. Page h is told first, whatever its kind.
+#[tactic(auto, using(crate::proofs::Tests::cases))]
 fn sets_size(
     data: u32,
     o: ObjectId,
@@ -28,37 +29,27 @@ fn sets_size(
 ) -> bool
     ensures { result ≡ sets_by «data» o.0 h.0 age size p.0 r }
 {
-    if p.0 == h.0 {
-        if (file_size(r) as u64) == size {
-            return true;
-        }
+    if p == h && u64::from(file_size(r)) == size {
+        return true;
     }
     match r {
-        Record::Other => false,
-        Record::Header(_) => false,
+        Record::Other | Record::Header(_) => false,
         Record::Data(d) => {
-            if d.object.0 != o.0 {
-                return false;
-            }
-            if order_of(d.sequence, p) <= age {
-                return false;
-            }
-            base_of(data, d.chunk) + (d.count as u64) == size
+            d.object == o && age < order_of(d.sequence, p) && end_of(data, d) == size
         }
     }
 }
 
 // Whether page p may set the size of the file of object o: it is page h, or its tags name the object.
+#[tactic(auto, using(crate::proofs::Tests::cases))]
 fn may_set(dump: &[u8], g: Geometry, o: ObjectId, h: PageNumber, p: PageNumber) -> bool
     ensures { result ≡ eqb p.0 h.0 || names_at g dump.now p.0 o.0 }
 {
-    if p.0 == h.0 {
-        return true;
-    }
-    names_object(dump, g, p, o)
+    p == h || names_object(dump, g, p, o)
 }
 
-// The newest page that sets the size of the file of object o, whose newest header is page h.
+// The newest page that sets the size of the file of object o, whose newest header is page h. Its pass reads that page too, whatever its tags name, which
+// chunk's do not.
 pub(crate) fn setter(
     dump: &[u8],
     g: Geometry,
@@ -72,22 +63,19 @@ pub(crate) fn setter(
     ensures { result.0 ≡ setter (seen_by t (record_at g dump.now)) g.layout.«data» o.0 pages h.0 }
 {
     let age = order_of(sequence_of(seen_at(dump, g, t, h)), h);
-    let mut best = Newest::Nothing;
-    let mut i: u32 = 0;
-    while i < pages {
+    let mut best = None;
+    for i in 0..pages {
         let p = PageNumber(i);
-        i += 1;
         if !may_set(dump, g, o, h, p) {
             continue;
         }
         let r = seen_at(dump, g, t, p);
-        if !sets_size(g.layout.data, o, h, age, size, p, r) {
-            continue;
+        if sets_size(g.layout.data, o, h, age, size, p, r) {
+            best = newer(best, p, order_of(sequence_of(r), p));
         }
-        best = best.or_newer(p, order_of(sequence_of(r), p));
     }
     match best {
-        Newest::Nothing => h,
-        Newest::At(p, _) => p,
+        None => h,
+        Some(newest) => newest.page,
     }
 }

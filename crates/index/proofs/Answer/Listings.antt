@@ -6,10 +6,10 @@
 -- record. Then its chain is not empty, and its id is the key of the slot where it is looked for; and two slots where one object is looked for
 -- are the same. So the ids of the slots that are asked for are those of the objects that are, each once; both lists ascend, and are the same.
 use Prim.Native.Nat.{ℕ, ◌≤◌, ◌<◌}
+use Rattle.std.specs.Prelude.{Ok, Err, Option, Some, None}
 use mathlib.Core.Bool.{Bool, true, false}
 use mathlib.Core.List.{List, [], ◌∷◌}
 use mathlib.Core.Logic.{inl}
-use mathlib.Core.Option.{Option, none, some}
 use mathlib.Core.Path.{◌≡◌, refl, sym, ap, ◌∙◌}
 use native.Mathlib.Omega.{arith}
 use lib.ListN.{length}
@@ -27,8 +27,7 @@ use Rattle.chunk.specs.Records.{age_of, is_of, header_of, is_gone}
 use Rattle.chunk.specs.Newest.{newest_header}
 use Rattle.chunk.specs.Live.{live_ids, object_count, object_ids}
 use Rattle.chunk.specs.Lists.{listed_by}
-use Rattle.chunk.specs.declared.answer.Listed.TheVariants as listed
-use Rattle.chunk.specs.declared.answer.Tallied.TheVariants as tallied
+use Rattle.chunk.specs.Listed as listed
 use Rattle.sort.specs.Ascending.{In, Ascends}
 use Rattle.sort.proofs.Ascending.{same_members}
 use Rattle.chunk.proofs.Records.{of_object}
@@ -96,13 +95,13 @@ module _ (a : Ask) (says : ℕ → Record) (P : ℕ) (c : List ℕ) (n : ℕ) wh
   at_free s e = rw (eq-eqb (keys c s) 0 e)
 
   -- the tally: a damaged slot refuses it, and else it counts the slots asked for
-  pub tally_damaged : (s : ℕ) → s < slots_for n → standing_at a says P c n s ≡ standing.Damaged → tally_in a says P c n ≡ tallied.Refused IndexDamaged
+  pub tally_damaged : (s : ℕ) → s < slots_for n → standing_at a says P c n s ≡ standing.Damaged → tally_in a says P c n ≡ Err IndexDamaged
   unfolding tally_in
   tally_damaged s h e =
       let k = count_below (damaged_slot a says P c n) s (slots_for n) h (rw e) in
       rw (lt-ltb 0 (count (damaged_slot a says P c n) (slots_for n)) (omega arith))
 
-  pub tally_whole : count (damaged_slot a says P c n) (slots_for n) ≡ 0 → tally_in a says P c n ≡ tallied.Count (count (asked_slot a says P c n) (slots_for n))
+  pub tally_whole : count (damaged_slot a says P c n) (slots_for n) ≡ 0 → tally_in a says P c n ≡ Ok (count (asked_slot a says P c n) (slots_for n))
   unfolding tally_in
   tally_whole e = rw e
 
@@ -156,10 +155,6 @@ module _ (says : ℕ → Record) (P : ℕ) (c : List ℕ) (n : ℕ) where
   unfolding list_in
   list_short room h = rw (lt-ltb (length c) (cells_for n) h)
 
-  pub objects_short : length c < cells_for n → objects_in says P c n ≡ tallied.Refused ShortIndex
-  unfolding objects_in
-  objects_short h = rw (lt-ltb (length c) (cells_for n) h)
-
   -- what a tally of m tells of a listing into so many words
   abbrev pub Counted : ℕ → ℕ → Type 0
   Counted room m =
@@ -172,7 +167,7 @@ module _ (says : ℕ → Record) (P : ℕ) (c : List ℕ) (n : ℕ) where
     unfolding objects_in
     objects_tally = rw (le-ltb (length c) (cells_for n) enough)
 
-    pub list_refused : (room : ℕ) (r : Refusal) → tally_in ask.Live says P c n ≡ tallied.Refused r → list_in says P c n room ≡ listed.Refused r 0
+    pub list_refused : (room : ℕ) (r : Refusal) → tally_in ask.Live says P c n ≡ Err r → list_in says P c n room ≡ listed.Refused r 0
     unfolding tally_in list_in
     list_refused room r e =
         rw (le-ltb (length c) (cells_for n) enough)
@@ -180,7 +175,7 @@ module _ (says : ℕ → Record) (P : ℕ) (c : List ℕ) (n : ℕ) where
         (λ t q. let same : IndexDamaged ≡ r = cc in rw (t, same))
         (λ t q. clash (cc)))
 
-    pub list_counted : (room m : ℕ) → tally_in ask.Live says P c n ≡ tallied.Count m → Counted room m
+    pub list_counted : (room m : ℕ) → tally_in ask.Live says P c n ≡ Ok m → Counted room m
     unfolding tally_in list_in slot_ids
     list_counted room m e =
         rw (le-ltb (length c) (cells_for n) enough, listed_count room _ _ (ids_length (asked_slot ask.Live says P c n) (keys c) (slots_for n)))
@@ -230,8 +225,8 @@ module _
 
     -- how an object stands among the live ones by its newest header
     abbrev stands_by : Option ℕ → Standing
-    stands_by none = standing.Other
-    stands_by (some h) = pick (is_gone (S h)) standing.Other standing.Asked
+    stands_by None = standing.Other
+    stands_by (Some h) = pick (is_gone (S h)) standing.Other standing.Asked
 
     stands-parted : (o : ℕ) (L : List ℕ) → Parted (headed says) L → Listed says S o n top L → list_stands says ask.Live L ≡ stands_by (newest_header S o n)
     stands-parted o L (all f) l = rw (stands_none ask.Live says false L f, newest_none says S o n top L l is_header f)
@@ -257,8 +252,8 @@ module _
 
     -- an object is live by its newest header exactly if it is by the rules
     stands_live : (o : ℕ) (r : Option ℕ) → newest_header S o n ≡ r → is_asked (stands_by r) ≡ true → Live S n o
-    stands_live o none e t = never t
-    stands_live o (some h) e t =
+    stands_live o None e t = never t
+    stands_live o (Some h) e t =
         by_test (is_gone (S h)) _
         (λ u. never (rw u at t))
         (λ u. record { header = h; newest_header_lem = e; kept = u })
@@ -344,9 +339,9 @@ module _
     objects-same = slots_same ask.Any says P c n (object_ids S n) pages (objects_ascend S n) any-in any_found
 
     -- what counting the objects answers: the number of distinct ids of the added records
-    pub objects_held : objects_in says P c n ≡ tallied.Count (object_count S n)
+    pub objects_held : objects_in says P c n ≡ Ok (object_count S n)
     unfolding slot_ids
     objects_held =
         objects_tally says P c n g.room
         ∙ tally_whole ask.Any says P c n (count_nothing (damaged_slot ask.Any says P c n) (slots_for n) (λ s h. none-damaged ask.Any s))
-        ∙ ap tallied.Count (sym (ids_length (asked_slot ask.Any says P c n) (keys c) (slots_for n)) ∙ ap length objects-same ∙ objects_length S n)
+        ∙ ap Ok (sym (ids_length (asked_slot ask.Any says P c n) (keys c) (slots_for n)) ∙ ap length objects-same ∙ objects_length S n)

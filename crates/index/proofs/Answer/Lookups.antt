@@ -1,6 +1,7 @@
 -- Lookups by an index that holds exactly the added pages answer what the rules answer where pages not added read as blank, refusals and
 -- visits included, and visit no more records than the object's added ones.
 use Prim.Native.Nat.{ℕ, ◌≤◌, ◌<◌, zero-le}
+use Rattle.std.specs.Prelude.{Ok}
 use mathlib.Core.Bool.{Bool}
 use mathlib.Core.List.{List}
 use mathlib.Core.Path.{◌≡◌, refl, sym, ◌∙◌}
@@ -12,7 +13,6 @@ use Rattle.page.specs.Lengths.{opened_of}
 use Rattle.page.specs.Numbers.{bad_object, bad_chunk}
 use Rattle.page.specs.declared.record.Record.{Record}
 use Rattle.page.specs.declared.geometry.Geometry.{Geometry}
-use Rattle.page.specs.declared.geometry.Opened.TheVariants.{Pages}
 use Rattle.page.proofs.Searching.{by_test}
 use Rattle.page.proofs.Within.{object_within}
 use Rattle.chunk.specs.Records.{age_of}
@@ -83,7 +83,7 @@ module _
 
 -- an accepted dump of n pages
 module _
-    (g : Geometry) (dump : List ℕ) (n : ℕ) (e : opened_of g (length dump) ≡ Pages n)
+    (g : Geometry) (dump : List ℕ) (n : ℕ) (e : opened_of g (length dump) ≡ Ok n)
     (added : ℕ → Bool) (cells : List ℕ)
     (held : Held n (objects (record_at g dump)) (age_of (record_at g dump)) added cells)
     (o : ℕ)

@@ -1,5 +1,6 @@
 -- The records of an object by cells that hold exactly the added pages: its added records, the newest first, and NoObject where it has none.
 use Prim.Native.Nat.{ℕ, ◌<◌}
+use Rattle.std.specs.Prelude.{Ok}
 use mathlib.Core.Bool.{Bool, false}
 use mathlib.Core.List.{List}
 use mathlib.Core.Path.{◌≡◌, ap, ◌∙◌}
@@ -7,7 +8,6 @@ use lib.ListN.{length}
 use Rattle.page.specs.Numbers.{bad_object}
 use Rattle.page.specs.declared.record.Record.{Record}
 use Rattle.chunk.specs.Records.{age_of}
-use Rattle.chunk.specs.declared.answer.Tallied.TheVariants.{Count}
 use Rattle.index.specs.Chains.{objects, Trace}
 use Rattle.index.specs.Held.{seen, recs, from_list, Held}
 use Rattle.index.specs.Walks.{chain_of}
@@ -25,7 +25,7 @@ module _
     pub pages_held : pages_of (chain_of says P c o n) ≡ R
     pages_held = ap pages_of (g.chains o pos) ∙ list_pages R
 
-    pub records_held : (room : ℕ) → records_at says P c o n room ≡ records_by room R (Count (length R))
+    pub records_held : (room : ℕ) → records_at says P c o n room ≡ records_by room R (Ok (length R))
     records_held room =
         records_tally says P c o n room g.room good
         ∙ ap (λ (t : Trace). records_by room (pages_of t) (tally_of t)) (g.chains o pos)

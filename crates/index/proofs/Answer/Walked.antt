@@ -2,6 +2,8 @@
 -- records is parted at its newest header, and then at the first copy of the chunk, above that header or below it. In each case the walk comes
 -- out as stated in Walks, the rules as stated in Rules, and both are the same.
 use Prim.Native.Nat.{ℕ, ◌+◌, ◌≤◌, ◌<◌, min}
+use Rattle.std.specs.Prelude.{Option, None}
+use Rattle.page.specs.declared.number.PageNumber.{PageNumber}
 use mathlib.Core.Bool.{Bool, true, false}
 use mathlib.Core.List.{List, ◌∷◌, ◌++◌, append_assoc}
 use mathlib.Core.Path.{◌≡◌, refl, sym, ap, ◌∙◌}
@@ -20,17 +22,13 @@ use Rattle.chunk.specs.Newest.{newest_copy, since, records}
 use Rattle.chunk.specs.Cuts.{lowest_cut, hides}
 use Rattle.chunk.specs.Sizes.{size_of}
 use Rattle.chunk.specs.Lookups.{file_at, file_of, sized_by, copy_by, looked_by, shown_of}
-use Rattle.chunk.specs.declared.cut.Cut.{Cut}
-use Rattle.chunk.specs.declared.cut.Cut.TheVariants.{Nowhere}
-use Rattle.chunk.specs.declared.answer.File.TheVariants as file
+use Rattle.chunk.specs.File as file
 use Rattle.chunk.proofs.Cases.{file_cases, file_headless, file_headed, size_larger, sized_refused, sized_file, copy_missing, copy_hidden, copy_shown, looked_refused, looked_past, looked_inside}
 use Rattle.sort.specs.Ascending.{In}
 use Rattle.index.specs.Chains.{objects, top}
 use Rattle.index.specs.Held.{seen, recs, from_list}
 use Rattle.index.specs.Walks.{seen_says, records_in, size_visits, chunk_visits, size_file, size_at, size_reached, cut_by, met_with, reach, copy_from, chunk_file, chunk_reached, chunk_walk, size_walk}
-use Rattle.index.specs.declared.walks.Met.{Met}
-use Rattle.index.specs.declared.walks.Met.TheVariants.{Nothing}
-use Rattle.index.specs.declared.walks.Reached.TheVariants as reached
+use Rattle.index.specs.Reached as reached
 use Rattle.index.proofs.Sorted.Records.{recs_of, recs_same}
 use Rattle.index.proofs.Sorted.Steps.{through, through_at, through_idle, through_same}
 use Rattle.index.proofs.Sorted.Parting.{Fails, Parted, all, at, parted, fails_at, in_at, in_above, falls_same, recs_falls}
@@ -67,9 +65,9 @@ module _ (says S : ℕ → Record) (o n b P : ℕ) (pos : 0 < o) where
 
     reached-at :
         (c : ℕ) →
-        reach says P c 0 Nothing 0 (from_list (A ++ (h ∷ B)))
-        ≡ reached.Header (record { 0 = h }) (through (end_by says P) 0 A) (through (met_with says P c) Nothing A) (length A + 1)
-    reached-at c = let z : 0 + (length A + 1) ≡ length A + 1 = omega arith in rw (← z) (reach_at says P c A h B 0 Nothing 0 f e)
+        reach says P c 0 None 0 (from_list (A ++ (h ∷ B)))
+        ≡ reached.Header (record { 0 = h }) (through (end_by says P) 0 A) (through (met_with says P c) None A) (length A + 1)
+    reached-at c = let z : 0 + (length A + 1) ≡ length A + 1 = omega arith in rw (← z) (reach_at says P c A h B 0 None 0 f e)
 
     size-walk-at : size_walk says P (from_list (A ++ (h ∷ B))) ≡ sized_by S o n P (file_of S o n)
     unfolding size_walk size_reached
@@ -77,7 +75,7 @@ module _ (says S : ℕ → Record) (o n b P : ℕ) (pos : 0 < o) where
 
     -- refusals that leave a live file or none
     chunk-at :
-        (c : ℕ) (m : Met) (k : Record) (v : ℕ) →
+        (c : ℕ) (m : (Option PageNumber)) (k : Record) (v : ℕ) →
         copy_from says P c h (shown_of P c (size_of S P o h n)) v (from_list B) m ≡ copy_by S o n P c h (shown_of P c (size_of S P o h n)) (newest_copy S o c n) →
         chunk_file says P c (size_of S P o h n) m (from_list B) (file_at k h v) ≡ looked_by S o n P c (file_at k h v)
     unfolding chunk_file
@@ -90,32 +88,32 @@ module _ (says S : ℕ → Record) (o n b P : ℕ) (pos : 0 < o) where
 
     chunk-walk-at :
         (c : ℕ) →
-        copy_from says P c h (shown_of P c (size_of S P o h n)) (length A + 1) (from_list B) (through (met_with says P c) Nothing A)
+        copy_from says P c h (shown_of P c (size_of S P o h n)) (length A + 1) (from_list B) (through (met_with says P c) None A)
         ≡ copy_by S o n P c h (shown_of P c (size_of S P o h n)) (newest_copy S o c n) →
         chunk_walk says P c (from_list (A ++ (h ∷ B))) ≡ looked_by S o n P c (file_of S o n)
     unfolding chunk_walk chunk_reached
     chunk-walk-at c g =
-        rw (reached-at c, behind_at says A h B f e, file-at, ← size-at) (chunk-at c (through (met_with says P c) Nothing A) (says h) (length A + 1) g)
+        rw (reached-at c, behind_at says A h B f e, file-at, ← size-at) (chunk-at c (through (met_with says P c) None A) (says h) (length A + 1) g)
 
   pub size_parted : (L : List ℕ) → Parted (headed says) L → Listed says S o n b L → size_walk says P (from_list L) ≡ sized_by S o n P (file_of S o n)
   unfolding size_walk size_reached
   size_parted L (all f) l =
       let z : 0 + length L ≡ length L = omega arith in
-      rw (reach_none says P 0 L 0 Nothing 0 f, file_none L l f, z)
+      rw (reach_none says P 0 L 0 None 0 f, file_none L l f, z)
       (by_test (eqb (length L) 0) _ (λ t. rw (t, sized_refused)) (λ t. rw (t, sized_refused)))
   size_parted L (at A h B f e) l = size-walk-at A h B l f e
 
   module _ (c : ℕ) (shown : ℕ) where
     -- headers cut as they are the newest or not
-    abbrev cutAs : (h x : ℕ) → Cut → Cut
+    abbrev cutAs : (h x : ℕ) → Option ℕ → Option ℕ
     cutAs h x cut = cut_by says (eqb x h) x cut
 
-    no_cut : (h : ℕ) (A : List ℕ) → Fails (headed says) A → through (cutAs h) Nowhere A ≡ Nowhere
-    no_cut h A f = through_idle (cutAs h) A Nowhere (λ x i. rw (f x i))
+    no_cut : (h : ℕ) (A : List ℕ) → Fails (headed says) A → through (cutAs h) None A ≡ None
+    no_cut h A f = through_idle (cutAs h) A None (λ x i. rw (f x i))
 
     abbrev Same : List ℕ → ℕ → List ℕ → Type 0
     Same A h B =
-        copy_from says P c h shown (length A + 1) (from_list B) (through (met_with says P c) Nothing A) ≡ copy_by S o n P c h shown (newest_copy S o c n)
+        copy_from says P c h shown (length A + 1) (from_list B) (through (met_with says P c) None A) ≡ copy_by S o n P c h shown (newest_copy S o c n)
 
     -- no copy in the list
     copy_none :
@@ -134,7 +132,7 @@ module _ (says S : ℕ → Record) (o n b P : ℕ) (pos : 0 < o) where
           copy_missing S o n P c h shown,
           some-records A h B l f e,
         )
-        (seek_none says P c shown B (cut_by says true h Nowhere) (length A + 1) fb)
+        (seek_none says P c shown B (cut_by says true h None) (length A + 1) fb)
 
     -- the copy is above the header
     copy-above :
@@ -149,7 +147,7 @@ module _ (says S : ℕ → Record) (o n b P : ℕ) (pos : 0 < o) where
         let l' : Listed says S o n b (A ++ (q ∷ (A' ++ (h ∷ B)))) = rw append_assoc at l in
         let d : age_of S h < age_of S q = above says S o n b (A ++ (q ∷ A')) h B l q (in_at A q A') in
         let m : min (age_of S q) (age_of S h) ≡ age_of S h = omega arith in
-        let cut : lowest_cut S o h (age_of S q) n ≡ Nowhere =
+        let cut : lowest_cut S o h (age_of S q) n ≡ None =
         cut_at says S o n b A q (A' ++ (h ∷ B)) l' h ∙ no_cut h A (λ x i. f x (in_above A q A' x i)) in
         rw (
           met_at_lem says P c A q A' fa e,
@@ -176,11 +174,11 @@ module _ (says S : ℕ → Record) (o n b P : ℕ) (pos : 0 < o) where
         let l' : Listed says S o n b ((A ++ (h ∷ B)) ++ (q ∷ B')) = rw append_assoc l in
         let d : age_of S q < age_of S h = above says S o n b (A ++ (h ∷ B)) q B' l' h (in_at A h B) in
         let m : min (age_of S q) (age_of S h) ≡ age_of S q = omega arith in
-        let cut : lowest_cut S o h (age_of S q) n ≡ through (cut_by says false) (cut_by says true h Nowhere) B =
+        let cut : lowest_cut S o h (age_of S q) n ≡ through (cut_by says false) (cut_by says true h None) B =
         cut_at says S o n b (A ++ (h ∷ B)) q B' l' h
-        ∙ through_at (cutAs h) A Nowhere h B
+        ∙ through_at (cutAs h) A None h B
         ∙ rw (no_cut h A f, eq-eqb h h refl)
-        (through_same (cutAs h) (cut_by says false) B (cut_by says true h Nowhere)
+        (through_same (cutAs h) (cut_by says false) B (cut_by says true h None)
         (λ x i y.
         let z = below says S o n b A h (B ++ (q ∷ B')) l x (in_above B q B' x i) in
         rw (ne_eqb x h (λ g. absurd (omega (arith, ap (age_of S) g)))))) in
@@ -191,7 +189,7 @@ module _ (says S : ℕ → Record) (o n b P : ℕ) (pos : 0 < o) where
         rw (
           met_none says P c A fa,
           newest_at says S o n b (A ++ (h ∷ B)) q B' l' (is_copy c) (fails_at (copied says P c) A h B fa (no_copy_lem c (says h) e) fb) eq,
-          seek_at says P c shown B q B' (cut_by says true h Nowhere) (length A + 1) fb eq,
+          seek_at says P c shown B q B' (cut_by says true h None) (length A + 1) fb eq,
           ← cut,
         )
         (by_test (hides (lowest_cut S o h (age_of S q) n) (base_of P c)) _
@@ -216,7 +214,7 @@ module _ (says S : ℕ → Record) (o n b P : ℕ) (pos : 0 < o) where
     unfolding chunk_walk chunk_reached
     chunk-parted L (all f) l =
         let z : 0 + length L ≡ length L = omega arith in
-        rw (reach_none says P c L 0 Nothing 0 f, file_none L l f, z)
+        rw (reach_none says P c L 0 None 0 f, file_none L l f, z)
         (by_test (eqb (length L) 0) _ (λ t. rw (t, looked_refused)) (λ t. rw (t, looked_refused)))
     chunk-parted L (at A h B f e) l =
         chunk-walk-at A h B l f e c

@@ -2,6 +2,7 @@
 -- the first link: down to the page's place the links stay, for they are links of newer records; there the new link leads to the page; and
 -- from the page on the chain is the old one, since it reads only links of older records (`frame`).
 use Prim.Native.Nat.{ℕ, ◌≤◌, ◌<◌}
+use Rattle.std.specs.Prelude.{Ok, Err}
 use mathlib.Core.Bool.{Bool, true, false}
 use mathlib.Core.List.{List, [], ◌∷◌}
 use mathlib.Core.Logic.{◌≢◌, ◌⊎◌, inl, inr, ⊎_elim}
@@ -19,7 +20,6 @@ use Rattle.index.specs.Cells.{cells_for, word, link_at, link_to, marked, linked}
 use Rattle.index.specs.Chains.{rec, trace}
 use Rattle.index.specs.Places.{place_of}
 use Rattle.index.specs.Held.{insert, from_list}
-use Rattle.index.specs.declared.places.Place.TheVariants.{At, Refused}
 use Rattle.index.proofs.Chain.Links.{Leads, trace_record, trace_end, trace_inverse, trace_clean, frame}
 
 -- ages fall along a list, from below a bound
@@ -67,20 +67,20 @@ module _ (age : ℕ → ℕ) (p : ℕ) where
   spot [] at = at
   spot (q ∷ L) at = let below = spot L (link_at q) in pick (leb (age q) (age p)) at below
 
-  pub place_spot : (L : List ℕ) (at : ℕ) → (In p L → ⊥) → place_of age p (from_list L) at ≡ At (spot L at)
+  pub place_spot : (L : List ℕ) (at : ℕ) → (In p L → ⊥) → place_of age p (from_list L) at ≡ Ok (spot L at)
   unfolding place_of from_list spot
   place_spot [] at w = refl
   place_spot (q ∷ L) at w = go (leb (age q) (age p)) (place_spot L (link_at q) (λ k. w (inr k)))
     where
       go :
           (t : Bool) →
-          place_of age p (from_list L) (link_at q) ≡ At (spot L (link_at q)) →
-          pick t (pick (eqb q p) (Refused AlreadyAdded) (At at)) (place_of age p (from_list L) (link_at q)) ≡ At (pick t at (spot L (link_at q)))
+          place_of age p (from_list L) (link_at q) ≡ Ok (spot L (link_at q)) →
+          pick t (pick (eqb q p) (Err AlreadyAdded) (Ok at)) (place_of age p (from_list L) (link_at q)) ≡ Ok (pick t at (spot L (link_at q)))
       go true h = simp (ne_eqb q p (λ e. w (inl (sym e))))
       go false h = h
 
   -- a page that is in the list is met
-  pub place_met : (L : List ℕ) (b at : ℕ) → Falls age b L → In p L → place_of age p (from_list L) at ≡ Refused AlreadyAdded
+  pub place_met : (L : List ℕ) (b at : ℕ) → Falls age b L → In p L → place_of age p (from_list L) at ≡ Err AlreadyAdded
   unfolding place_of from_list
   place_met [] b at f i = absurd i
   place_met (q ∷ L) b at f (inl e) = simp (le-leb (age q) (age p) (rw e (le_refl _)), eq-eqb q p (sym e))

@@ -65,23 +65,13 @@ module _ (n : ℕ) (obj age : ℕ → ℕ) (o b w : ℕ) where
   unfolding lead_of
   lead_end h = simp (lt-ltb w 2 h)
 
-  module _ (big : 2 ≤ w) where
-    pub lead_outside : n ≤ w - 2 → lead_of n obj age o b w ≡ Damaged
+  module _ (big : 2 ≤ w) (inside : w - 2 < n) (some : 0 < obj (w - 2)) (own : obj (w - 2) ≡ o) where
+    record_of : is_record_of o (obj (w - 2)) ≡ true
+    record_of = rw (ne_eqb (obj (w - 2)) 0 (λ e. absurd (omega arith))) (eq-eqb (obj (w - 2)) o own)
+
+    pub lead_older : age (w - 2) < b → lead_of n obj age o b w ≡ To (record { 0 = w - 2 }) (age (w - 2))
     unfolding lead_of
-    lead_outside h = simp (le-ltb w 2 big, le-ltb (w - 2) n h)
-
-    module _ (inside : w - 2 < n) where
-      pub lead_none : obj (w - 2) ≡ 0 → lead_of n obj age o b w ≡ Damaged
-      unfolding lead_of
-      lead_none h = simp (le-ltb w 2 big, lt-ltb (w - 2) n inside, eq-eqb (obj (w - 2)) 0 h)
-
-      module _ (some : 0 < obj (w - 2)) (own : obj (w - 2) ≡ o) where
-        record_of : is_record_of o (obj (w - 2)) ≡ true
-        record_of = rw (ne_eqb (obj (w - 2)) 0 (λ e. absurd (omega arith))) (eq-eqb (obj (w - 2)) o own)
-
-        pub lead_older : age (w - 2) < b → lead_of n obj age o b w ≡ To (record { 0 = w - 2 }) (age (w - 2))
-        unfolding lead_of
-        lead_older h = rw (le-ltb w 2 big, lt-ltb (w - 2) n inside, record_of, lt-ltb (age (w - 2)) b h)
+    lead_older h = rw (le-ltb w 2 big, lt-ltb (w - 2) n inside, record_of, lt-ltb (age (w - 2)) b h)
 
   pub lead_record : (q : ℕ) → Leads n obj age o b w q → lead_of n obj age o b w ≡ To (record { 0 = q }) (age q)
   lead_record q l =

@@ -1,6 +1,7 @@
 -- One turn of each walk, by what the next link leads to. A chain has no more records than there are pages, since each is older than the last;
 -- so the records visited, and those still ahead, never outnumber the pages.
 use Prim.Native.Nat.{ℕ, zero, suc, ◌+◌, ◌≤◌, ◌<◌, zero-le}
+use Rattle.std.specs.Prelude.{Option, None, Ok, Err}
 use mathlib.Core.Bool.{Bool, true, false}
 use mathlib.Core.List.{List}
 use mathlib.Core.Path.{◌≡◌, refl}
@@ -8,40 +9,33 @@ use native.Mathlib.Nat.{not-suc-le-zero, le_refl, le_trans}
 use native.Mathlib.Decide.{ℕ_discrete}
 use native.Mathlib.Omega.{arith}
 use lib.Dec.{eqb, ltb, leb}
-use borrow.Author.Tests.{eq-eqb, ne_eqb, lt-ltb, le-ltb, ltb-true}
+use borrow.Author.Tests.{lt-ltb, le-ltb, ltb-true}
 use Rattle.page.specs.Choice.{pick}
 use Rattle.page.specs.Records.{is_header}
 use Rattle.page.specs.Search.{count, more}
 use Rattle.page.proofs.Searching.{clash, by_test, count_none, count_le}
 use Rattle.page.specs.declared.number.PageNumber.{PageNumber}
 use Rattle.page.specs.declared.record.Record.{Record}
-use Rattle.page.specs.declared.refusal.Refusal.TheVariants.{NoObject, NoHeader, PastEnd, IndexDamaged}
+use Rattle.page.specs.declared.refusal.Refusal.TheVariants.{PastEnd, IndexDamaged}
 use Rattle.chunk.specs.Records.{age_of, base_of}
 use Rattle.chunk.specs.Lookups.{file_at, shown_of}
-use Rattle.chunk.specs.declared.cut.Cut.{Cut}
-use Rattle.chunk.specs.declared.answer.File.TheVariants as file
-use Rattle.chunk.specs.declared.answer.Looked.TheVariants as looked
+use Rattle.chunk.specs.File as file
+use Rattle.chunk.specs.Looked as looked
 use Rattle.chunk.proofs.Cases.{file_cases}
 use Rattle.index.specs.Cells.{word, link_at}
 use Rattle.index.specs.Chains.{objects, Lead, End, Damaged, To, Trace, clean, broken, rec, by, lead_of, trace_by, trace}
-use Rattle.index.specs.Walks.{records_in, behind, cut_by, met_with, reach, found, is_shown, seek, copy_from, chunk_file, under, below}
-use Rattle.index.specs.declared.walks.Met.{Met}
-use Rattle.index.specs.declared.walks.Met.TheVariants.{Nothing}
-use Rattle.index.specs.declared.walks.Reached.{Reached}
-use Rattle.index.specs.declared.walks.Reached.TheVariants as reached
+use Rattle.index.specs.Walks.{records_in, headless, behind, cut_by, met_with, reach, found, is_shown, seek, copy_from, chunk_file, under, below}
+use Rattle.index.specs.Reached.{Reached}
+use Rattle.index.specs.Reached as reached
 use Rattle.index.proofs.Slot.Counts.{count_suc}
 use Rattle.index.proofs.Chain.Links.{Known, known, Told, told}
 use Rattle.index.proofs.Walk.Walks.{end_by}
 
 -- down to the newest header
-module _ (says : ℕ → Record) (P c end : ℕ) (m : Met) (v : ℕ) (t : Trace) where
-  pub reach_nothing : t ≡ clean → v ≡ 0 → reach says P c end m v t ≡ reached.Refused NoObject 0
+module _ (says : ℕ → Record) (P c end : ℕ) (m : (Option PageNumber)) (v : ℕ) (t : Trace) where
+  pub reach_end : t ≡ clean → reach says P c end m v t ≡ headless v
   unfolding reach
-  reach_nothing e z = rw e (rw (eq-eqb v 0 z))
-
-  pub reach_headless : t ≡ clean → (v ≡ 0 → ⊥) → reach says P c end m v t ≡ reached.Refused NoHeader v
-  unfolding reach
-  reach_headless e z = rw e (rw (ne_eqb v 0 z))
+  reach_end e = rw e
 
   pub reach_broken : t ≡ broken → reach says P c end m v t ≡ reached.Refused IndexDamaged 0
   unfolding reach
@@ -57,7 +51,7 @@ module _ (says : ℕ → Record) (P c end : ℕ) (m : Met) (v : ℕ) (t : Trace)
     reach_on h = rw e (rw h)
 
 -- below it
-module _ (says : ℕ → Record) (P c shown : ℕ) (cut : Cut) (v : ℕ) (t : Trace) where
+module _ (says : ℕ → Record) (P c shown : ℕ) (cut : (Option ℕ)) (v : ℕ) (t : Trace) where
   pub seek_end : t ≡ clean → seek says P c shown cut v t ≡ looked.Hole shown v
   unfolding seek
   seek_end e = rw e
@@ -140,11 +134,11 @@ module _ (n : ℕ) (obj age : ℕ → ℕ) (c : List ℕ) (o : ℕ) where
 -- where a walk down to the newest header lands: at a page of the dump, with the chain below that page behind it
 module _ (says : ℕ → Record) (n : ℕ) (cells : List ℕ) (o P c : ℕ) where
   abbrev pub Lands : Trace → Reached → Type 0
-  Lands rest (reached.Refused r v) = Unit {0}
-  Lands rest (reached.Header h e m v) = (h.0 < n) × (rest ≡ below says n cells o h.0)
+  Lands rest (Err e) = Unit {0}
+  Lands rest (Ok x) = (x.page.0 < n) × (rest ≡ below says n cells o x.page.0)
 
   abbrev Landed : ℕ → ℕ → Type 0
-  Landed b w = (end : ℕ) (m : Met) (v : ℕ) → Lands (behind says (under says n cells o b w)) (reach says P c end m v (under says n cells o b w))
+  Landed b w = (end : ℕ) (m : (Option PageNumber)) (v : ℕ) → Lands (behind says (under says n cells o b w)) (reach says P c end m v (under says n cells o b w))
 
   -- by where the next link leads, if it holds from each older record on
   lands_on : (b w : ℕ) → ((q : ℕ) → age_of says q < b → Landed (age_of says q) (word cells (link_at q))) → Landed b w
@@ -167,12 +161,12 @@ module _ (says : ℕ → Record) (n : ℕ) (cells : List ℕ) (o P c : ℕ) wher
   lands_by zero b w h = lands_on b w (λ q k. absurd (omega arith))
   lands_by (suc f) b w h = lands_on b w (λ q k. lands_by f (age_of says q) (word cells (link_at q)) (omega arith))
 
-  pub lands : (b w : ℕ) → Lands (behind says (under says n cells o b w)) (reach says P c 0 Nothing 0 (under says n cells o b w))
-  lands b w = lands_by b b w (le_refl b) 0 Nothing 0
+  pub lands : (b w : ℕ) → Lands (behind says (under says n cells o b w)) (reach says P c 0 None 0 (under says n cells o b w))
+  lands b w = lands_by b b w (le_refl b) 0 None 0
 
 -- a chunk of a live file
 pub chunk_live :
-    (says : ℕ → Record) (P c size : ℕ) (m : Met) (t : Trace) (k : Record) (h v : ℕ) (g : PageNumber) (u : ℕ) →
+    (says : ℕ → Record) (P c size : ℕ) (m : (Option PageNumber)) (t : Trace) (k : Record) (h v : ℕ) (g : PageNumber) (u : ℕ) →
     file_at k h v ≡ file.Header g u →
     chunk_file says P c size m t (file_at k h v)
     ≡ pick (leb size (base_of P c)) (looked.Refused PastEnd v 0) (copy_from says P c h (shown_of P c size) v t m)

@@ -1,6 +1,7 @@
 -- The requests of demand 3 are the calls: one that is lent all the words, and names the list's own K, is answered by the definition that the
 -- call's contract cites, and leaves the words that it says. And the demand's premise can be met: W's own start is accepted.
 use Prim.Native.Nat.{ℕ}
+use Rattle.std.specs.Prelude.{Ok}
 use mathlib.Core.List.{List, [], ◌++◌, append-nil}
 use mathlib.Core.Path.{◌≡◌, refl, ap, ◌∙◌}
 use native.Mathlib.Nat.{le_refl}
@@ -9,7 +10,6 @@ use lib.Seq.{take_all}
 use Rattle.page.specs.Lengths.{opened_of}
 use Rattle.page.specs.Shelf.{shelf, shelf_geometry}
 use Rattle.page.specs.declared.geometry.Geometry.{Geometry}
-use Rattle.page.specs.declared.geometry.Opened.TheVariants.{Pages}
 use Rattle.page.proofs.Marked as pages
 use Rattle.chunk.specs.Answers.{read_by, buffer_by, part_by}
 use Rattle.chunk.specs.Lists.{words_by}
@@ -17,7 +17,6 @@ use Rattle.index.specs.Additions.{start_in, start_of, add_of}
 use Rattle.index.specs.Walks.{size_from, chunk_from}
 use Rattle.index.specs.Listing.{ids_from, list_from}
 use Rattle.index.specs.Requests.{start, add, size, chunk, read, part, list, addition, a_size, a_chunk, a_read, a_part, a_list, answer_on, words_after}
-use Rattle.index.specs.declared.additions.Added.TheVariants.{Done}
 
 module _ (g : Geometry) (dump cells : List ℕ) where
   -- lent all the words
@@ -80,8 +79,8 @@ module _ (g : Geometry) (dump cells : List ℕ) where
   list_call buffer = rw lent (refl, refl)
 
 -- W in 48 words, whatever they hold, with any seed
-pub shelf_start : (c : List ℕ) (seed : ℕ) → length c ≡ 48 → (start_of shelf_geometry shelf c seed).answer ≡ Done
+pub shelf_start : (c : List ℕ) (seed : ℕ) → length c ≡ 48 → (start_of shelf_geometry shelf c seed).answer ≡ (Ok tt)
 unfolding start_of start_in
 shelf_start c seed e =
-    let opened : opened_of shelf_geometry (length shelf) ≡ Pages 8 = rw (pages.marked).shelf_length (pages.marked).shelf_opened in
+    let opened : opened_of shelf_geometry (length shelf) ≡ Ok 8 = rw (pages.marked).shelf_length (pages.marked).shelf_opened in
     rw (opened, e)

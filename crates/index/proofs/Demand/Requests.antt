@@ -1,6 +1,7 @@
 -- One request on cells that hold exactly the added pages is answered as the paper says, and leaves cells that hold exactly the pages added
 -- after it. So a list of requests is too: by induction, with nothing in it.
 use Prim.Native.Nat.{ℕ, ◌≤◌, ◌<◌, min}
+use Rattle.std.specs.Prelude.{Result, Ok, Err}
 use mathlib.Core.Bool.{Bool, true, false}
 use mathlib.Core.List.{List, [], ◌∷◌, ◌++◌}
 use mathlib.Core.Path.{◌≡◌, refl, sym, ap, ap₂, ◌∙◌}
@@ -14,16 +15,14 @@ use Rattle.page.specs.Lengths.{in_blocks, opened_of}
 use Rattle.page.specs.Records.{record_at}
 use Rattle.page.specs.declared.record.Record.{Record}
 use Rattle.page.specs.declared.geometry.Geometry.{Geometry}
-use Rattle.page.specs.declared.geometry.Opened.{Opened}
-use Rattle.page.specs.declared.geometry.Opened.TheVariants as opened
 use Rattle.page.specs.declared.refusal.Refusal.{Refusal}
 use Rattle.page.specs.declared.refusal.Refusal.TheVariants.{AlreadyAdded}
 use Rattle.page.proofs.Searching.{by_test}
 use Rattle.page.proofs.Lengths.{opened_facts}
 use Rattle.page.proofs.Within.{records_any_block}
 use Rattle.chunk.specs.Records.{age_of}
-use Rattle.chunk.specs.declared.answer.Sized.TheVariants as sized
-use Rattle.chunk.specs.declared.answer.Looked.TheVariants as looked
+use Rattle.chunk.specs.Sized as sized
+use Rattle.chunk.specs.Looked as looked
 use Rattle.chunk.proofs.Cases.{words_kept}
 use Rattle.index.specs.Cells.{cells_for, word, keys, linked, claimed, is_marked}
 use Rattle.index.specs.Chains.{objects, top}
@@ -32,9 +31,6 @@ use Rattle.index.specs.Held.{none_added, with, Held}
 use Rattle.index.specs.Walks.{size_in, chunk_in, size_from, chunk_from}
 use Rattle.index.specs.Listing.{ids_from, list_from}
 use Rattle.index.specs.Requests.{Request, start, add, size, chunk, read, part, list, Answer, addition, a_size, a_chunk, read_answer, part_answer, answer_on, words_after, answers_on, words_of, unless_refused, size_seen, chunk_seen, answer_by, added_after, answers_by, added_of}
-use Rattle.index.specs.declared.additions.Added.TheVariants.{Done, Refused}
-use Rattle.index.specs.declared.places.Place.{Place}
-use Rattle.index.specs.declared.places.Place.TheVariants as place
 use Rattle.index.proofs.Held.Cases.{add_short, add_far}
 use Rattle.index.proofs.Held.Additions.{answer_to, add_keeps, add_past, start_past, start_holds}
 use Rattle.index.proofs.Held.Slices.{word_swap, held_lent}
@@ -44,10 +40,10 @@ use Rattle.index.proofs.Sorted.Order.{pages_most, ages_below, ages_differ, heade
 
 -- a call changes words, not their number
 module _ (n : ℕ) (obj age : ℕ → ℕ) where
-  at_length : (c : List ℕ) (p o s : ℕ) (r : Place) → length (add_at c p o s r).cells ≡ length c
+  at_length : (c : List ℕ) (p o s : ℕ) (r : (Result ℕ Refusal)) → length (add_at c p o s r).cells ≡ length c
   unfolding add_at linked claimed
-  at_length c p o s (place.Refused r) = refl
-  at_length c p o s (place.At at) =
+  at_length c p o s (Err r) = refl
+  at_length c p o s (Ok at) =
       by_test (is_marked c p) _
       (λ t. rw t)
       (λ t. rw t (simp length-set (by_test (eqb (keys c s) o) _ (λ u. rw u) (λ u. rw u (simp length-set)))))
@@ -67,7 +63,7 @@ module _ (n : ℕ) (obj age : ℕ → ℕ) where
       (λ v. rw v (by_test (is_marked c p) _ (λ m. rw m) (λ m. rw m (simp length-set))))
       (λ v. rw v (at_length c p (obj p) _ _))))))
 
-module _ (g : Geometry) (dump : List ℕ) (n : ℕ) (accepted : opened_of g (length dump) ≡ opened.Pages n) where
+module _ (g : Geometry) (dump : List ℕ) (n : ℕ) (accepted : opened_of g (length dump) ≡ Ok n) where
   abbrev says : ℕ → Record
   says = record_at g dump
 
@@ -84,16 +80,16 @@ module _ (g : Geometry) (dump : List ℕ) (n : ℕ) (accepted : opened_of g (len
   old = ages_below g dump n accepted
 
   -- the dump is refused for a K, or has the same pages for it
-  by_block : (k : ℕ) (X : Type 0) → ((r : Refusal) → opened_of (in_blocks g k) (length dump) ≡ opened.Refused r → X) → (opened_of (in_blocks g k) (length dump) ≡ opened.Pages n → X) → X
+  by_block : (k : ℕ) (X : Type 0) → ((r : Refusal) → opened_of (in_blocks g k) (length dump) ≡ Err r → X) → (opened_of (in_blocks g k) (length dump) ≡ Ok n → X) → X
   by_block k X f h = go (opened_of (in_blocks g k) (length dump)) refl
     where
-      go : (v : Opened) → opened_of (in_blocks g k) (length dump) ≡ v → X
-      go (opened.Refused r) e = f r e
-      go (opened.Pages m) e =
+      go : (v : (Result ℕ Refusal)) → opened_of (in_blocks g k) (length dump) ≡ v → X
+      go (Err r) e = f r e
+      go (Ok m) e =
           let a = (opened_facts (in_blocks g k) (length dump) m e).pages in
           let b = (opened_facts g (length dump) n accepted).pages in
           let same : m ≡ n = sym a ∙ b in
-          h (e ∙ ap opened.Pages same)
+          h (e ∙ ap Ok same)
 
   -- what one request does, where m is the number of words of the memory
   abbrev Step : ℕ → List ℕ → (ℕ → Bool) → Request → Type 0
@@ -119,7 +115,7 @@ module _ (g : Geometry) (dump : List ℕ) (n : ℕ) (accepted : opened_of g (len
         simp (length-append, length-drop) (omega (arith, slice-length)),
       )
 
-    answer-to : (b : Bool) → answer_to b ≡ pick b (Refused AlreadyAdded) Done
+    answer-to : (b : Bool) → answer_to b ≡ pick b (Err AlreadyAdded) (Ok tt)
     answer-to true = refl
     answer-to false = refl
 

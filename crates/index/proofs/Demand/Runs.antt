@@ -1,6 +1,7 @@
 -- A run of additions, one at a time: none left, one that was done, or one that was refused. However it ends, a run leaves the words that the list
 -- of the additions it asked for leaves, so that demand 3 speaks of it too.
 use Prim.Native.Nat.{ℕ, zero, suc, ◌+◌, ◌-◌, ◌≤◌, ◌<◌, min}
+use Rattle.std.specs.Prelude.{Result, Ok, Err}
 use mathlib.Core.Bool.{Bool, true, false}
 use mathlib.Core.List.{List, [], ◌++◌, append-nil}
 use mathlib.Core.Path.{◌≡◌, refl, sym, ap, ◌∙◌}
@@ -8,16 +9,13 @@ use native.Mathlib.Omega.{arith}
 use lib.ListN.{length, take, drop, length-take, length-drop, length-append, take-append-drop, drop_of_length-le}
 use lib.Seq.{take_all, length-take-le, take_at, drop_at}
 use lib.Dec.{ltb, leb}
-use borrow.Author.Tests.{lt-ltb, le-ltb, le-leb, lt-leb, ltb-true, leb-true, leb-false}
+use borrow.Author.Tests.{lt-leb, ltb-true, leb-true, leb-false}
 use Rattle.page.specs.Choice.{pick}
 use Rattle.page.specs.Records.{record_at}
 use Rattle.page.specs.Lengths.{opened_of}
 use Rattle.page.specs.declared.record.Record.{Record}
 use Rattle.page.specs.declared.geometry.Geometry.{Geometry}
-use Rattle.page.specs.declared.geometry.Opened.{Opened}
-use Rattle.page.specs.declared.geometry.Opened.TheVariants as opened
 use Rattle.page.specs.declared.refusal.Refusal.{Refusal}
-use Rattle.page.specs.declared.refusal.Refusal.TheVariants.{ShortIndex, BadPage}
 use Rattle.page.proofs.Searching.{by_test}
 use Rattle.chunk.specs.Records.{age_of}
 use Rattle.chunk.specs.declared.takes.Takes.{Takes}
@@ -27,9 +25,7 @@ use Rattle.index.specs.Chains.{objects}
 use Rattle.index.specs.Additions.{Outcome, outcome, add_to, add_in, add_of}
 use Rattle.index.specs.Requests.{add, words_after, words_of}
 use Rattle.index.specs.Runs.{Ran, ran, taken_by, onward, run_by, run_in, taken_of, older_in, older_of, adds, asked}
-use Rattle.index.specs.declared.additions.Added.{Added}
-use Rattle.index.specs.declared.additions.Added.TheVariants as added
-use Rattle.index.specs.declared.runs.Run.TheVariants.{Done, Stopped}
+use Rattle.index.specs.Run.{Done, Stopped}
 use Rattle.index.proofs.Held.Cases.{add_short}
 use Rattle.index.proofs.Demand.Requests.{add_length}
 
@@ -47,53 +43,24 @@ module _ (taken : ℕ → Bool) (n : ℕ) (obj age : ℕ → ℕ) (end p : ℕ) 
     run_skip t = rw (more, t)
 
     module _ (t : taken p ≡ true) (u : List ℕ) where
-      pub run_more : outcome added.Done u ≡ add_to n obj age c p → run_by taken n obj age (end - p) p c ≡ run_by taken n obj age (end - (p + 1)) (p + 1) u
+      pub run_more : outcome (Ok tt) u ≡ add_to n obj age c p → run_by taken n obj age (end - p) p c ≡ run_by taken n obj age (end - (p + 1)) (p + 1) u
       unfolding run_by
       run_more e = rw (more, t, ← e)
 
-      pub run_stop : (r : Refusal) → outcome (added.Refused r) u ≡ add_to n obj age c p → run_by taken n obj age (end - p) p c ≡ ran (Stopped (record { 0 = p }) r) u
+      pub run_stop : (r : Refusal) → outcome (Err r) u ≡ add_to n obj age c p → run_by taken n obj age (end - p) p c ≡ ran (Stopped (record { 0 = p }) r) u
       unfolding run_by
       run_stop r e = rw (more, t, ← e)
 
--- words that are too few, and enough of them
-module _ (takes : Takes) (n : ℕ) (says : ℕ → Record) (from end : ℕ) (c : List ℕ) where
-  pub run_short : length c < cells_for n → run_in takes (opened.Pages n) says from end c ≡ ran (Stopped (record { 0 = from }) ShortIndex) c
-  unfolding run_in
-  run_short h = simp (lt-ltb (length c) (cells_for n) h)
-
-  pub run_room :
-      cells_for n ≤ length c → run_in takes (opened.Pages n) says from end c ≡ run_by (taken_by takes says) n (objects says) (age_of says) (end - from) from c
-  unfolding run_in
-  run_room h = simp (le-ltb (length c) (cells_for n) h)
-
 -- a run of the records older than page b
 module _ (g : Geometry) (dump : List ℕ) (from end b : ℕ) (c : List ℕ) where
-  pub older_refused : (r : Refusal) → opened_of g (length dump) ≡ opened.Refused r → older_of g dump c from end b ≡ ran (Stopped (record { 0 = from }) r) c
-  unfolding older_of older_in
-  older_refused r e = rw e refl
-
-  module _ (n : ℕ) (e : opened_of g (length dump) ≡ opened.Pages n) where
+  module _ (n : ℕ) (e : opened_of g (length dump) ≡ Ok n) where
     abbrev says : ℕ → Record
     says = record_at g dump
-
-    pub older_short : length c < cells_for n → older_of g dump c from end b ≡ ran (Stopped (record { 0 = from }) ShortIndex) c
-    unfolding older_of older_in
-    older_short h = rw (e, lt-leb (cells_for n) (length c) h) (run_short (Older (age_of says b)) n says from (min end n) c h)
-
-    pub older_far : cells_for n ≤ length c → n ≤ b → older_of g dump c from end b ≡ ran (Stopped (record { 0 = from }) BadPage) c
-    unfolding older_of older_in
-    older_far h k = rw (e, le-leb (cells_for n) (length c) h, le-leb n b k) refl
 
     -- it takes those below the age of page b, if the dump has that page
     pub older_taken : b < n → older_of g dump c from end b ≡ taken_of (Older (age_of says b)) g dump c from (min end n)
     unfolding older_of older_in taken_of
     older_taken k = rw (e, lt-leb n b k) (by_test (leb (cells_for n) (length c)) _ (λ t. rw t) (λ t. rw t))
-
-    pub older_room :
-        cells_for n ≤ length c → b < n →
-        older_of g dump c from end b ≡ run_by (taken_by (Older (age_of says b)) says) n (objects says) (age_of says) (min end n - from) from c
-    unfolding taken_of
-    older_room h k = older_taken k ∙ rw e (run_room (Older (age_of says b)) n says from (min end n) c h)
 
 -- a run that goes on after page p went over one page more from p on
 module _ (taken : ℕ → Bool) (n : ℕ) (obj age : ℕ → ℕ) (end p : ℕ) (h : p < end) where
@@ -106,11 +73,11 @@ module _ (taken : ℕ → Bool) (n : ℕ) (obj age : ℕ → ℕ) (end p : ℕ) 
       rest : List ℕ → Ran
       rest = run_by taken n obj age m (q + 1)
 
-      go : (t : Bool) (a : Added) (u : List ℕ)
+      go : (t : Bool) (a : (Result Unit Refusal)) (u : List ℕ)
           → ((v : List ℕ) → asked (rest v).answer p end ≡ suc (asked (rest v).answer (p + 1) end))
           → asked (pick t (onward a u q rest) (rest c)).answer p end ≡ suc (asked (pick t (onward a u q rest) (rest c)).answer (p + 1) end)
-      go true added.Done u on = on u
-      go true (added.Refused r) u on = omega arith
+      go true (Ok tt) u on = on u
+      go true (Err r) u on = omega arith
       go false a u on = on c
 
 module _ (takes : Takes) (g : Geometry) (dump : List ℕ) (c : List ℕ) (w : ℕ) where
@@ -135,7 +102,7 @@ module _ (takes : Takes) (g : Geometry) (dump : List ℕ) (c : List ℕ) (w : �
         (λ t. drop_at d (drop w c) w (e ∙ length-take-le w c (leb-true _ _ t)))
         (λ t. drop_of_length-le (d ++ drop w c) (short t) ∙ sym (none t))
 
-  module _ (n : ℕ) (o : opened_of g (length dump) ≡ opened.Pages n) where
+  module _ (n : ℕ) (o : opened_of g (length dump) ≡ Ok n) where
     abbrev obj : ℕ → ℕ
     obj = objects (record_at g dump)
 
@@ -186,11 +153,11 @@ module _ (takes : Takes) (g : Geometry) (dump : List ℕ) (c : List ℕ) (w : �
         further : (d : List ℕ) → asked (rest d).answer p end ≡ suc (asked (rest d).answer (p + 1) end)
         further d = asked_more taken n obj age end p (omega arith) m (p + 1) d (omega arith)
 
-        go : (t : Bool) → taken p ≡ t → (a : Added) → Left end m (p + 1) u → Left end m (p + 1) d
+        go : (t : Bool) → taken p ≡ t → (a : (Result Unit Refusal)) → Left end m (p + 1) u → Left end m (p + 1) d
             → (pick t (onward a u p rest) (rest d)).cells ++ drop w c
             ≡ words_of g dump (d ++ drop w c) (adds taken g.block w (asked (pick t (onward a u p rest) (rest d)).answer p end) p)
-        go true t added.Done on off = rw (further u) (on ∙ sym (next d p (asked (rest u).answer (p + 1) end) t e))
-        go true t (added.Refused r) on off = rw single (sym (next d p zero t e))
+        go true t (Ok tt) on off = rw (further u) (on ∙ sym (next d p (asked (rest u).answer (p + 1) end) t e))
+        go true t (Err r) on off = rw single (sym (next d p zero t e))
         go false t a on off = rw (further d) (off ∙ sym (skipped (d ++ drop w c) p (asked (rest d).answer (p + 1) end) t))
 
   -- one addition that is refused leaves the words as they are, and so does none
@@ -199,11 +166,11 @@ module _ (takes : Takes) (g : Geometry) (dump : List ℕ) (c : List ℕ) (w : �
   refused_one from e = by_test (taken_by takes (record_at g dump) from) _ (λ t. rw t (rw e (sym (take-append-drop w c)))) (λ t. rw t refl)
 
   -- a dump and words that no addition would take
-  unopened : (from : ℕ) (r : Refusal) → opened_of g (length dump) ≡ opened.Refused r → (add_of g dump (take w c) from).cells ≡ take w c
+  unopened : (from : ℕ) (r : Refusal) → opened_of g (length dump) ≡ Err r → (add_of g dump (take w c) from).cells ≡ take w c
   unfolding add_of add_in
   unopened from r o = rw o refl
 
-  shortened : (from n : ℕ) → opened_of g (length dump) ≡ opened.Pages n → length (take w c) < cells_for n → (add_of g dump (take w c) from).cells ≡ take w c
+  shortened : (from n : ℕ) → opened_of g (length dump) ≡ Ok n → length (take w c) < cells_for n → (add_of g dump (take w c) from).cells ≡ take w c
   unfolding add_of add_in
   shortened from n o h = rw (o, add_short n (objects (record_at g dump)) (age_of (record_at g dump)) (take w c) from h) refl
 
@@ -218,11 +185,11 @@ module _ (takes : Takes) (g : Geometry) (dump : List ℕ) (c : List ℕ) (w : �
       single : from - from + 1 ≡ 1
       single = omega arith
 
-      go : (v : Opened) → opened_of g (length dump) ≡ v
+      go : (v : (Result ℕ Refusal)) → opened_of g (length dump) ≡ v
           → (run_in takes v (record_at g dump) from end (take w c)).cells ++ drop w c
           ≡ words_of g dump c (adds (taken_by takes (record_at g dump)) g.block w (asked (run_in takes v (record_at g dump) from end (take w c)).answer from end) from)
-      go (opened.Refused r) o = rw single (take-append-drop w c ∙ refused_one from (unopened from r o))
-      go (opened.Pages n) o =
+      go (Err r) o = rw single (take-append-drop w c ∙ refused_one from (unopened from r o))
+      go (Ok n) o =
           by_test (ltb (length (take w c)) (cells_for n)) _
           (λ t. rw (t, single) (take-append-drop w c ∙ refused_one from (shortened from n o (ltb-true _ _ t))))
           (λ t. rw t (rw (take-append-drop w c) at (by n o end (end - from) from (take w c) refl refl)))

@@ -1,6 +1,7 @@
 -- Demand 3, proved: a start makes the cells hold no page, every request keeps what they hold and is answered by it, and held cells have the chains
 -- that the demand asks for. The answers are the paper's, and so none is IndexDamaged.
 use Prim.Native.Nat.{ℕ, ◌<◌, ◌≤◌}
+use Rattle.std.specs.Prelude.{Result, Ok, Err}
 use mathlib.Core.Bool.{Bool}
 use mathlib.Core.List.{List, [], ◌∷◌, ◌++◌}
 use mathlib.Core.Logic.{inl, inr, ⊎_elim}
@@ -12,8 +13,6 @@ use borrow.Author.Tests.{ltb-false}
 use Rattle.page.specs.Records.{record_at}
 use Rattle.page.specs.Lengths.{opened_of, page_count}
 use Rattle.page.specs.declared.geometry.Geometry.{Geometry}
-use Rattle.page.specs.declared.geometry.Opened.{Opened}
-use Rattle.page.specs.declared.geometry.Opened.TheVariants as opened
 use Rattle.page.specs.declared.refusal.Refusal.{Refusal}
 use Rattle.page.specs.declared.refusal.Refusal.TheVariants.{ShortIndex}
 use Rattle.page.proofs.Searching.{clash, by_test}
@@ -28,7 +27,6 @@ use Rattle.index.specs.Held.{none_added, seen, recs, from_list, Held}
 use Rattle.index.specs.Walks.{seen_says, size_visits, chunk_visits}
 use Rattle.index.specs.Requests.{Request, size_seen, chunk_seen, answers_on, answers_by, added_of, words_of}
 use Rattle.index.specs.Demand.{OnChain, Falling, is_added, added_records, Demand3, Demand}
-use Rattle.index.specs.declared.additions.Added.TheVariants.{Done, Refused}
 use Rattle.index.proofs.Chain.Insertion.{Falls}
 use Rattle.index.proofs.Held.Calls.{held_falls, held_in_lem, held_of, held_apart, start_kept}
 use Rattle.index.proofs.Held.Slices.{held_lent}
@@ -91,28 +89,28 @@ module _ (g : Geometry) (dump c : List ℕ) (rs : List Request) where
 module _ (g : Geometry) (dump : List ℕ) (w seed : ℕ) (c : List ℕ) where
   -- an accepted start was of an accepted dump, and lent enough words
   accepted_start :
-      (A : Type 0) → (start_of g dump (take w c) seed).answer ≡ Done →
-      (opened_of g (length dump) ≡ opened.Pages (page_count g (length dump)) → cells_for (page_count g (length dump)) ≤ length (take w c) → A) → A
+      (A : Type 0) → (start_of g dump (take w c) seed).answer ≡ (Ok tt) →
+      (opened_of g (length dump) ≡ Ok (page_count g (length dump)) → cells_for (page_count g (length dump)) ≤ length (take w c) → A) → A
   unfolding start_of start_in
   accepted_start A = go (opened_of g (length dump)) refl
     where
-      never : (r : Refusal) → Refused r ≡ Done → A
+      never : (r : Refusal) → ◌≡◌ {A = Result Unit Refusal} (Err r) (Ok tt) → A
       never r e = clash (cc)
 
-      enough : (m : ℕ) → opened_of g (length dump) ≡ opened.Pages m → m ≡ page_count g (length dump) → cells_for m ≤ length (take w c)
-          → (opened_of g (length dump) ≡ opened.Pages (page_count g (length dump)) → cells_for (page_count g (length dump)) ≤ length (take w c) → A) → A
-      enough m e s h f = f (e ∙ ap opened.Pages s) (rw s at h)
+      enough : (m : ℕ) → opened_of g (length dump) ≡ Ok m → m ≡ page_count g (length dump) → cells_for m ≤ length (take w c)
+          → (opened_of g (length dump) ≡ Ok (page_count g (length dump)) → cells_for (page_count g (length dump)) ≤ length (take w c) → A) → A
+      enough m e s h f = f (e ∙ ap Ok s) (rw s at h)
 
-      go : (v : Opened) → opened_of g (length dump) ≡ v → (start_in v seed (take w c)).answer ≡ Done
-          → (opened_of g (length dump) ≡ opened.Pages (page_count g (length dump)) → cells_for (page_count g (length dump)) ≤ length (take w c) → A) → A
-      go (opened.Refused r) e d f = never r d
-      go (opened.Pages m) e d f =
+      go : (v : (Result ℕ Refusal)) → opened_of g (length dump) ≡ v → (start_in v seed (take w c)).answer ≡ (Ok tt)
+          → (opened_of g (length dump) ≡ Ok (page_count g (length dump)) → cells_for (page_count g (length dump)) ≤ length (take w c) → A) → A
+      go (Err r) e d f = never r d
+      go (Ok m) e d f =
           by_test (ltb (length (take w c)) (cells_for m)) A
           (λ t. never ShortIndex (rw t at d))
           (λ t. enough m e (sym (opened_facts g (length dump) m e).pages) (ltb-false _ _ t) f)
 
 -- no lookup of the paper's visits more records than the object has, for a dump that is accepted
-module _ (g : Geometry) (dump : List ℕ) (n : ℕ) (e : opened_of g (length dump) ≡ opened.Pages n) (m : ℕ) (done : ℕ → Bool) (o : ℕ) where
+module _ (g : Geometry) (dump : List ℕ) (n : ℕ) (e : opened_of g (length dump) ≡ Ok n) (m : ℕ) (done : ℕ → Bool) (o : ℕ) where
   few : n ≤ 4294967296
   few = omega (arith, pages_most g dump n e)
 

@@ -3,6 +3,8 @@
 -- one that was not has a place in it, for the chain has no damaged link. A slot is free for a new object, since no more slots are used
 -- than pages were added, and this page was not.
 use Prim.Native.Nat.{ℕ, suc, ◌+◌, ◌-◌, ◌*◌, ◌≤◌, ◌<◌}
+use Rattle.std.specs.Prelude.{Result, Ok, Err}
+use Rattle.page.specs.declared.refusal.Refusal.{Refusal}
 use mathlib.Core.Bool.{Bool, true, false, not, ◌||◌}
 use mathlib.Core.List.{List, ◌++◌}
 use mathlib.Core.Logic.{⊎_elim}
@@ -24,9 +26,6 @@ use Rattle.index.specs.Chains.{Trace, chain, trace, top}
 use Rattle.index.specs.Places.{place_of}
 use Rattle.index.specs.Additions.{Outcome, outcome, refused, emptied, add_to}
 use Rattle.index.specs.Held.{seen, none_added, with, recs, from_list, Held}
-use Rattle.index.specs.declared.additions.Added.{Added}
-use Rattle.index.specs.declared.additions.Added.TheVariants.{Done, Refused}
-use Rattle.index.specs.declared.places.Place.TheVariants as place
 use Rattle.index.proofs.Chain.Links.{trace_end}
 use Rattle.index.proofs.Sorted.Records.{recs_in, recs_of, recs_none}
 use Rattle.index.proofs.Chain.Insertion.{spot, spot_form, place_spot, place_met, trace_falls}
@@ -38,9 +37,9 @@ use Rattle.index.proofs.Held.Slices.{word_past}
 use Rattle.index.proofs.Held.Cases.{other_marked, other_new, at_refused, at_new, add_other_lem, add_record_lem, record_at_lem}
 
 -- what an addition to an index answers where a page has been added or not
-abbrev pub answer_to : Bool → Added
-answer_to true = Refused AlreadyAdded
-answer_to false = Done
+abbrev pub answer_to : Bool → Result Unit Refusal
+answer_to true = Err AlreadyAdded
+answer_to false = Ok tt
 
 or_left : (t u : Bool) → (t || u) ≡ true → u ≡ false → t ≡ true
 or_left true u e f = refl
@@ -78,7 +77,7 @@ module _
       marked-there : is_marked c p ≡ true
       marked-there = g.marks p pn ∙ there
 
-      met : 0 < o → place_of age p (trace n obj age c o top (first_in c s o)) (first_at s) ≡ place.Refused AlreadyAdded
+      met : 0 < o → place_of age p (trace n obj age c o top (first_in c s o)) (first_at s) ≡ Err AlreadyAdded
       met pos =
           ap (λ (t : Trace). place_of age p t (first_at s)) (from pos)
           ∙ place_met age p L top (first_at s) (trace_falls n obj age c o L top (first_in c s o) (from pos))
@@ -88,7 +87,7 @@ module _
       again (yes z) = add_other_lem n obj age c p g.room pn z ∙ other_marked c p marked-there
       again (no z) =
           add_record_lem n obj age c p g.room pn z
-          ∙ sym (record_at_lem n obj age c p s o (place.Refused AlreadyAdded) refl refl (sym (met (omega arith))))
+          ∙ sym (record_at_lem n obj age c p s o (Err AlreadyAdded) refl refl (sym (met (omega arith))))
           ∙ at_refused c p o s AlreadyAdded
 
       -- it is one of the added pages as before
@@ -116,7 +115,7 @@ module _
 
       -- the page is no record
       module _ (z : o ≡ 0) where
-        mark-answer : add_to n obj age c p ≡ outcome Done (set c (link_at p) last)
+        mark-answer : add_to n obj age c p ≡ outcome (Ok tt) (set c (link_at p) last)
         mark-answer = add_other_lem n obj age c p g.room pn z ∙ other_new c p unmarked
 
         mark-held : Held n obj age (with p added) (set c (link_at p) last)
@@ -140,15 +139,15 @@ module _
         abbrev C : List ℕ
         C = linked c₁ p (spot age p L (first_at s))
 
-        free-place : place_of age p (trace n obj age c o top (first_in c s o)) (first_at s) ≡ place.At (spot age p L (first_at s))
+        free-place : place_of age p (trace n obj age c o top (first_in c s o)) (first_at s) ≡ Ok (spot age p L (first_at s))
         free-place =
             ap (λ (t : Trace). place_of age p t (first_at s)) (from pos)
             ∙ place_spot age p L (first_at s) (out n obj age inj old added p pn fresh pos)
 
-        link-answer : add_to n obj age c p ≡ outcome Done C
+        link-answer : add_to n obj age c p ≡ outcome (Ok tt) C
         link-answer =
             add_record_lem n obj age c p g.room pn (λ z. absurd (omega arith))
-            ∙ sym (record_at_lem n obj age c p s o (place.At (spot age p L (first_at s))) refl refl (sym free-place))
+            ∙ sym (record_at_lem n obj age c p s o (Ok (spot age p L (first_at s))) refl refl (sym free-place))
             ∙ at_new c p o s (spot age p L (first_at s)) unmarked
 
         link-held : Held n obj age (with p added) C

@@ -2,6 +2,7 @@
 -- page count goes by layout and length alone, so that each call may name a K of its own; and each may be lent as many of the words as it
 -- likes, if they are enough. A refused call changes nothing, on any cells.
 use Prim.Native.Nat.{ℕ, ◌≤◌, ◌<◌}
+use Rattle.std.specs.Prelude.{Result, Ok, Err}
 use mathlib.Core.Bool.{Bool, true, false}
 use mathlib.Core.List.{List, ◌∷◌, ◌++◌}
 use mathlib.Core.Path.{◌≡◌, refl, sym, ◌∙◌}
@@ -13,8 +14,6 @@ use Rattle.page.specs.Choice.{pick}
 use Rattle.page.specs.Records.{record_at}
 use Rattle.page.specs.Lengths.{opened_of}
 use Rattle.page.specs.declared.geometry.Geometry.{Geometry}
-use Rattle.page.specs.declared.geometry.Opened.{Opened}
-use Rattle.page.specs.declared.geometry.Opened.TheVariants as opened
 use Rattle.page.specs.declared.refusal.Refusal.{Refusal}
 use Rattle.page.proofs.Lengths.{opened_some}
 use Rattle.page.proofs.Searching.{clash}
@@ -26,9 +25,6 @@ use Rattle.index.specs.Chains.{objects, top, chain}
 use Rattle.index.specs.Places.{place_of}
 use Rattle.index.specs.Additions.{Outcome, start_in, start_of, add_other, add_at, add_record, add_to, add_in, add_of}
 use Rattle.index.specs.Held.{seen, none_added, with, recs, Held}
-use Rattle.index.specs.declared.additions.Added.TheVariants.{Done, Refused}
-use Rattle.index.specs.declared.places.Place.{Place}
-use Rattle.index.specs.declared.places.Place.TheVariants as place
 use Rattle.index.proofs.Sorted.Records.{recs_in, recs_of}
 use Rattle.index.proofs.Chain.Insertion.{Falls, falls_in, trace_falls}
 use Rattle.index.proofs.Held.Stores.{seen_of}
@@ -70,25 +66,25 @@ falls_once age b q L f i = let k = falls_in age q L (age q) f.1 i in absurd (ome
 
 module _ (c : List ℕ) where
   abbrev Unchanged : Outcome → Type 0
-  Unchanged x = (r : Refusal) → x.answer ≡ Refused r → x.cells ≡ c
+  Unchanged x = (r : Refusal) → x.answer ≡ Err r → x.cells ≡ c
 
   either : (t : Bool) (x y : Outcome) → Unchanged x → Unchanged y → Unchanged (pick t x y)
   either true x y h k = h
   either false x y h k = k
 
-  stored : (d : List ℕ) → Unchanged (record { answer = Done; cells = d })
+  stored : (d : List ℕ) → Unchanged (record { answer = (Ok tt); cells = d })
   stored d r e = clash (cc)
 
-  start_in_refused : (seed : ℕ) (x : Opened) → Unchanged (start_in x seed c)
+  start_in_refused : (seed : ℕ) (x : (Result ℕ Refusal)) → Unchanged (start_in x seed c)
   unfolding start_in
-  start_in_refused seed (opened.Refused s) = λ r e. refl
-  start_in_refused seed (opened.Pages n) = either (ltb (length c) (cells_for n)) _ _ (λ r e. refl) (stored _)
+  start_in_refused seed (Err s) = λ r e. refl
+  start_in_refused seed (Ok n) = either (ltb (length c) (cells_for n)) _ _ (λ r e. refl) (stored _)
 
   module _ (p : ℕ) where
-    at_refused : (o s : ℕ) (x : Place) → Unchanged (add_at c p o s x)
+    at_refused : (o s : ℕ) (x : (Result ℕ Refusal)) → Unchanged (add_at c p o s x)
     unfolding add_at
-    at_refused o s (place.Refused s') = λ r e. refl
-    at_refused o s (place.At i) = either (is_marked c p) _ _ (λ r e. refl) (stored _)
+    at_refused o s (Err s') = λ r e. refl
+    at_refused o s (Ok i) = either (is_marked c p) _ _ (λ r e. refl) (stored _)
 
     to-refused : (n : ℕ) (obj age : ℕ → ℕ) → Unchanged (add_to n obj age c p)
     unfolding add_to add_other add_record
@@ -99,21 +95,21 @@ module _ (c : List ℕ) where
         (at_refused (obj p) (slot_of n c (obj p)) (place_of age p (chain n obj age c (obj p)) (first_at (slot_of n c (obj p)))))))
 
   module _ (g : Geometry) (dump : List ℕ) where
-    pub start_refused : (seed : ℕ) (r : Refusal) → (start_of g dump c seed).answer ≡ Refused r → (start_of g dump c seed).cells ≡ c
+    pub start_refused : (seed : ℕ) (r : Refusal) → (start_of g dump c seed).answer ≡ Err r → (start_of g dump c seed).cells ≡ c
     unfolding start_of
     start_refused seed = start_in_refused seed (opened_of g (length dump))
 
-    pub add_refused : (p : ℕ) (r : Refusal) → (add_of g dump c p).answer ≡ Refused r → (add_of g dump c p).cells ≡ c
+    pub add_refused : (p : ℕ) (r : Refusal) → (add_of g dump c p).answer ≡ Err r → (add_of g dump c p).cells ≡ c
     unfolding add_of add_in
     add_refused p = go (opened_of g (length dump))
       where
-        go : (x : Opened) → Unchanged (add_in x (record_at g dump) c p)
-        go (opened.Refused s) = λ r e. refl
-        go (opened.Pages n) = to-refused p n (objects (record_at g dump)) (age_of (record_at g dump))
+        go : (x : (Result ℕ Refusal)) → Unchanged (add_in x (record_at g dump) c p)
+        go (Err s) = λ r e. refl
+        go (Ok n) = to-refused p n (objects (record_at g dump)) (age_of (record_at g dump))
 
 -- ---- the index of a dump
 
-module _ (g : Geometry) (dump : List ℕ) (n : ℕ) (e : opened_of g (length dump) ≡ opened.Pages n) where
+module _ (g : Geometry) (dump : List ℕ) (n : ℕ) (e : opened_of g (length dump) ≡ Ok n) where
   abbrev obj : ℕ → ℕ
   obj = objects (record_at g dump)
 
@@ -131,7 +127,7 @@ module _ (g : Geometry) (dump : List ℕ) (n : ℕ) (e : opened_of g (length dum
   pub start_kept :
       (c : List ℕ) (seed : ℕ) →
       cells_for n ≤ length c →
-      ((start_of g dump c seed).answer ≡ Done) × Holds none_added (start_of g dump c seed).cells
+      ((start_of g dump c seed).answer ≡ (Ok tt)) × Holds none_added (start_of g dump c seed).cells
   unfolding start_of
   start_kept c seed h = rw (e, start_done n c seed h) (refl, start_holds n obj age pos c seed h)
 
@@ -163,7 +159,7 @@ module _ (g : Geometry) (dump : List ℕ) (n : ℕ) (e : opened_of g (length dum
       (c : List ℕ) (seed len : ℕ) →
       cells_for n ≤ len →
       len ≤ length c →
-      ((start_of g dump (take len c) seed).answer ≡ Done) × Holds none_added ((start_of g dump (take len c) seed).cells ++ drop len c)
+      ((start_of g dump (take len c) seed).answer ≡ (Ok tt)) × Holds none_added ((start_of g dump (take len c) seed).cells ++ drop len c)
   start_lent c seed len enough short =
       let r = start_kept (take len c) seed (rw (length-take-le len c short) enough) in
       (r.0, held_whole n obj age pos none_added c len enough short (start_of g dump (take len c) seed).cells r.1)

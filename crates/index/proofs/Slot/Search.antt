@@ -2,6 +2,8 @@
 -- object's. It goes by the tests of the slots alone, and a free slot that gets a key hides no slot behind it: what is found elsewhere is
 -- found there still.
 use Prim.Native.Nat.{ℕ, zero, suc, ◌+◌, ◌-◌, ◌≤◌, ◌<◌, ◌^◌}
+use Rattle.std.specs.Prelude.{Option, Some, None}
+use Rattle.std.specs.Option.{unwrap_or}
 use mathlib.Core.Bool.{Bool, true, false, not, ◌||◌}
 use mathlib.Core.List.{List}
 use mathlib.Core.Logic.{◌≢◌}
@@ -16,27 +18,25 @@ use Rattle.page.specs.Choice.{pick}
 use Rattle.page.specs.Search.{count}
 use Rattle.page.proofs.Searching.{clash}
 use Rattle.index.specs.Cells.{cells_for, slots_for, InTable, word, keys, first_at, seed_of}
-use Rattle.index.specs.Slots.{serves, down, mixed, home_of, slot, slot_of, found_or, first_in, first, first_link, used}
-use Rattle.index.specs.declared.slots.Found.{Found}
-use Rattle.index.specs.declared.slots.Found.TheVariants.{Slot, Nothing}
+use Rattle.index.specs.Slots.{serves, down, mixed, home_of, slot, slot_of, first_in, first, first_link, used}
 use Rattle.index.proofs.Slot.Counts.{count_all}
 use Rattle.index.proofs.Slot.Words.{slots_some, slot_in}
 
 module _ (key : ℕ → ℕ) (o : ℕ) where
   -- a search downwards, one slot at a time
-  pub down_none : (m : ℕ) → m ≤ 0 → down key o m ≡ Nothing
+  pub down_none : (m : ℕ) → m ≤ 0 → down key o m ≡ None
   unfolding down
   down_none zero h = refl
   down_none (suc m) h = absurd (not-suc-le-zero h)
 
-  pub down_free : (m : ℕ) → 0 < m → key (m - 1) ≡ 0 → down key o m ≡ Slot (m - 1)
+  pub down_free : (m : ℕ) → 0 < m → key (m - 1) ≡ 0 → down key o m ≡ Some (m - 1)
   unfolding down
   down_free zero h e = absurd (not-suc-le-zero h)
   down_free (suc s) h e =
       let k : suc s - 1 ≡ s = omega arith in
       rw k (simp (eq-eqb (key s) 0 (rw k at e)))
 
-  pub down_own : (m : ℕ) → 0 < m → key (m - 1) ≡ o → (key (m - 1) ≡ 0 → ⊥) → down key o m ≡ Slot (m - 1)
+  pub down_own : (m : ℕ) → 0 < m → key (m - 1) ≡ o → (key (m - 1) ≡ 0 → ⊥) → down key o m ≡ Some (m - 1)
   unfolding down
   down_own zero h e f = absurd (not-suc-le-zero h)
   down_own (suc s) h e f =
@@ -51,23 +51,23 @@ module _ (key : ℕ → ℕ) (o : ℕ) where
       rw k (simp (ne_eqb (key s) 0 (rw k at f), ne_eqb (key s) o (rw k at e)))
 
   -- what a search found serves, and what it passed does not
-  abbrev Ended : ℕ → Found → Type 0
-  Ended m Nothing = (i : ℕ) → i < m → serves o (key i) ≡ false
-  Ended m (Slot s) = (s < m) × (serves o (key s) ≡ true)
+  abbrev Ended : ℕ → Option ℕ → Type 0
+  Ended m None = (i : ℕ) → i < m → serves o (key i) ≡ false
+  Ended m (Some s) = (s < m) × (serves o (key s) ≡ true)
 
   ended : (m : ℕ) → Ended m (down key o m)
   unfolding down
   ended zero = λ i h. absurd (not-suc-le-zero h)
   ended (suc m) = go (serves o (key m)) refl (down key o m) (ended m)
     where
-      go : (t : Bool) → serves o (key m) ≡ t → (f : Found) → Ended m f → Ended (suc m) (pick t (Slot m) f)
+      go : (t : Bool) → serves o (key m) ≡ t → (f : (Option ℕ)) → Ended m f → Ended (suc m) (pick t (Some m) f)
       go true e f h = (le_refl _, e)
-      go false e Nothing h = λ i k. at i k (ℕ_discrete i m)
+      go false e None h = λ i k. at i k (ℕ_discrete i m)
         where
           at : (i : ℕ) → i < suc m → Dec (i ≡ m) → serves o (key i) ≡ false
           at i k (yes q) = ap (λ (x : ℕ). serves o (key x)) q ∙ e
           at i k (no q) = h i (omega arith)
-      go false e (Slot s) h = (omega (arith, h.0), h.1)
+      go false e (Some s) h = (omega (arith, h.0), h.1)
 
   -- among m slots from a home on
   module _ (m home : ℕ) where
@@ -75,18 +75,18 @@ module _ (key : ℕ → ℕ) (o : ℕ) where
     unfolding slot
     slot-among h = go (down key o (home + 1)) (down key o m) (ended (home + 1)) (ended m)
       where
-        go : (a b : Found) → Ended (home + 1) a → Ended m b → found_or a (found_or b home) < m
-        go (Slot s) b f i = omega (arith, f.0, h)
-        go Nothing (Slot s) f i = i.0
-        go Nothing Nothing f i = h
+        go : (a b : (Option ℕ)) → Ended (home + 1) a → Ended m b → unwrap_or a (unwrap_or b home) < m
+        go (Some s) b f i = omega (arith, f.0, h)
+        go None (Some s) f i = i.0
+        go None None f i = h
 
     -- what the two searches give
     module _ (r : ℕ) where
-      slot-near : down key o (home + 1) ≡ Slot r → r ≡ slot m home key o
+      slot-near : down key o (home + 1) ≡ Some r → r ≡ slot m home key o
       unfolding slot
       slot-near e = rw e refl
 
-      slot-far : down key o (home + 1) ≡ Nothing → r ≡ found_or (down key o m) home → r ≡ slot m home key o
+      slot-far : down key o (home + 1) ≡ None → r ≡ unwrap_or (down key o m) home → r ≡ slot m home key o
       unfolding slot
       slot-far e f = rw e f
 
@@ -99,10 +99,10 @@ module _ (key : ℕ → ℕ) (o : ℕ) where
         in_use true u e = sym e
         in_use false u e = refl
 
-        go : (a b : Found) → Ended (home + 1) a → Ended m b → serves o (key (found_or a (found_or b home))) ≡ true
-        go (Slot s) b h i = h.1
-        go Nothing (Slot s) h i = i.1
-        go Nothing Nothing h i =
+        go : (a b : (Option ℕ)) → Ended (home + 1) a → Ended m b → serves o (key (unwrap_or a (unwrap_or b home))) ≡ true
+        go (Some s) b h i = h.1
+        go None (Some s) h i = i.1
+        go None None h i =
             let all = count_all (used key) m (λ j l. in_use (eqb (key j) 0) (eqb (key j) o) (i j l)) in
             absurd (omega arith)
 
@@ -120,7 +120,7 @@ module _ (key key' : ℕ → ℕ) (o : ℕ) where
 -- the free slot s gets a key
 module _ (key key' : ℕ → ℕ) (o s : ℕ) (free : key s ≡ 0) (others : (x : ℕ) → x ≢ s → key' x ≡ key x) where
   -- a search that did not end at a free slot ends where it did
-  down_fill : (m : ℕ) → ((j : ℕ) → down key o m ≡ Slot j → key j ≡ 0 → ⊥) → down key' o m ≡ down key o m
+  down_fill : (m : ℕ) → ((j : ℕ) → down key o m ≡ Some j → key j ≡ 0 → ⊥) → down key' o m ≡ down key o m
   unfolding down
   down_fill zero h = refl
   down_fill (suc m) h = go (serves o (key m)) refl (λ h'. down_fill m h')
@@ -128,7 +128,7 @@ module _ (key key' : ℕ → ℕ) (o s : ℕ) (free : key s ≡ 0) (others : (x 
       go :
           (t : Bool) →
           serves o (key m) ≡ t →
-          (((j : ℕ) → down key o m ≡ Slot j → key j ≡ 0 → ⊥) → down key' o m ≡ down key o m) →
+          (((j : ℕ) → down key o m ≡ Some j → key j ≡ 0 → ⊥) → down key' o m ≡ down key o m) →
           down key' o (suc m) ≡ down key o (suc m)
       go true f ih =
           let ne : m ≢ s = λ q. h m (simp f refl) (ap key q ∙ free) in
@@ -143,18 +143,18 @@ module _ (key key' : ℕ → ℕ) (o s : ℕ) (free : key s ≡ 0) (others : (x 
   slot_filled m home h = go (down key o (home + 1)) (down key o m) refl refl h
     where
       go :
-          (a b : Found) →
+          (a b : (Option ℕ)) →
           down key o (home + 1) ≡ a →
           down key o m ≡ b →
-          (key (found_or a (found_or b home)) ≡ 0 → ⊥) →
-          found_or (down key' o (home + 1)) (found_or (down key' o m) home) ≡ found_or a (found_or b home)
-      go (Slot i) b e f u = rw (down_fill (home + 1) (λ j q z. let k : i ≡ j = cc in u (ap key k ∙ z)) ∙ e) refl
-      go Nothing (Slot i) e f u =
+          (key (unwrap_or a (unwrap_or b home)) ≡ 0 → ⊥) →
+          unwrap_or (down key' o (home + 1)) (unwrap_or (down key' o m) home) ≡ unwrap_or a (unwrap_or b home)
+      go (Some i) b e f u = rw (down_fill (home + 1) (λ j q z. let k : i ≡ j = cc in u (ap key k ∙ z)) ∙ e) refl
+      go None (Some i) e f u =
           rw (
             down_fill (home + 1) (λ j q z. clash (cc)) ∙ e,
             down_fill m (λ j q z. let k : i ≡ j = cc in u (ap key k ∙ z)) ∙ f,
           ) refl
-      go Nothing Nothing e f u =
+      go None None e f u =
           rw (
             down_fill (home + 1) (λ j q z. clash (cc)) ∙ e,
             down_fill m (λ j q z. clash (cc)) ∙ f,
@@ -185,13 +185,13 @@ module _ (n : ℕ) (c : List ℕ) (o : ℕ) where
     within : r ≡ slot_of n c o → Given
     within e = (e, slot_in n r (rw e (slot_lt pos)) c few room)
 
-    pub slot_first : down (keys c) o (home_of (slots_for n) (seed_of c) o + 1) ≡ Slot r → Given
+    pub slot_first : down (keys c) o (home_of (slots_for n) (seed_of c) o + 1) ≡ Some r → Given
     unfolding slot_of
     slot_first e = within (slot-near (keys c) o (slots_for n) (home_of (slots_for n) (seed_of c) o) r e)
 
     pub slot_second :
-        down (keys c) o (home_of (slots_for n) (seed_of c) o + 1) ≡ Nothing →
-        r ≡ found_or (down (keys c) o (slots_for n)) (home_of (slots_for n) (seed_of c) o) →
+        down (keys c) o (home_of (slots_for n) (seed_of c) o + 1) ≡ None →
+        r ≡ unwrap_or (down (keys c) o (slots_for n)) (home_of (slots_for n) (seed_of c) o) →
         Given
     unfolding slot_of
     slot_second e f = within (slot-far (keys c) o (slots_for n) (home_of (slots_for n) (seed_of c) o) r e f)

@@ -1,6 +1,7 @@
 -- The records of a dump are in a strict order: by sequence, then by page. A page number is below 2^32, so that two ages are equal only if the
 -- pages are; and no record's sequence is so large that its age reaches the top.
 use Prim.Native.Nat.{ℕ, ◌≤◌, ◌<◌}
+use Rattle.std.specs.Prelude.{Ok}
 use mathlib.Core.Bool.{true, false}
 use mathlib.Core.List.{List}
 use mathlib.Core.Path.{◌≡◌, refl}
@@ -11,7 +12,6 @@ use Rattle.page.specs.Lengths.{opened_of}
 use Rattle.page.specs.declared.record.Record.{Record}
 use Rattle.page.specs.declared.record.Record.TheVariants.{Other, Header, Data}
 use Rattle.page.specs.declared.geometry.Geometry.{Geometry}
-use Rattle.page.specs.declared.geometry.Opened.TheVariants.{Pages}
 use Rattle.page.proofs.Searching.{clash}
 use Rattle.page.proofs.Lengths.{opened_most}
 use Rattle.page.proofs.Within.{header_within, data_within}
@@ -45,7 +45,7 @@ module _ (g : Geometry) (dump : List ℕ) where
   age_below i h = omega (arith, sequence_below i)
 
   -- an accepted dump's pages
-  module _ (n : ℕ) (e : opened_of g (length dump) ≡ Pages n) where
+  module _ (n : ℕ) (e : opened_of g (length dump) ≡ Ok n) where
     pub pages_most : n ≤ 1073741824
     pages_most = opened_most g (length dump) n e
 

@@ -1,10 +1,10 @@
 -- The rules of document 01 over an object's sorted list of records. Each rule is a gathering, and so a walk along the list (`listed`). Where the
 -- list is parted at a record, a rule that asks for newer records goes by the part above it alone.
 use Prim.Native.Nat.{ℕ, suc, ◌+◌, ◌≤◌, ◌<◌, max, zero-le}
+use Rattle.std.specs.Prelude.{Option, None, Some}
 use mathlib.Core.Bool.{Bool, true, false, ◌&&◌}
 use mathlib.Core.List.{List, ◌∷◌, ◌++◌}
 use mathlib.Core.Logic.{◌≢◌}
-use mathlib.Core.Option.{Option, none, some}
 use mathlib.Core.Path.{◌≡◌, refl, ap, ◌∙◌}
 use native.Mathlib.Nat.{le_refl}
 use native.Mathlib.Omega.{arith}
@@ -19,8 +19,6 @@ use Rattle.chunk.specs.Records.{age_of, is_of, header_of, data_of}
 use Rattle.chunk.specs.Newest.{later, newest, since}
 use Rattle.chunk.specs.Cuts.{cut_of, lower, lowest_cut}
 use Rattle.chunk.specs.Sizes.{end_of, data_end}
-use Rattle.chunk.specs.declared.cut.Cut.{Cut}
-use Rattle.chunk.specs.declared.cut.Cut.TheVariants.{Nowhere}
 use Rattle.chunk.proofs.Records.{of_object, object_of_lem, other_object}
 use Rattle.chunk.proofs.Cuts.{lower_swap}
 use Rattle.chunk.proofs.Gathering.{and_true, where_none, where_suc, since_none, since_suc, end_none, end_suc, cut_none, cut_suc}
@@ -57,7 +55,7 @@ module _ (S : ℕ → Record) (o : ℕ) where
   abbrev pub end_newer : (P x p a : ℕ) → ℕ
   end_newer P x p a = pick (data_of o (S p) && ltb x (age_of S p)) (max (end_of P (S p)) a) a
 
-  abbrev pub cut_newer : (h x p : ℕ) → Cut → Cut
+  abbrev pub cut_newer : (h x p : ℕ) → Option ℕ → Option ℕ
   cut_newer h x p a = pick (header_of o (S p) && ltb x (age_of S p)) (lower (cut_of (eqb p h) (S p)) a) a
 
 -- a list that has the records of object o among n pages, which say S, the newest first; its records say the same to `says`
@@ -66,29 +64,29 @@ pub record Listed (says S : ℕ → Record) (o n b : ℕ) (L : List ℕ) : Type 
   pub own : (q : ℕ) → In q L → is_of o (S q) ≡ true
   pub falls : Falls (age_of S) b L
   pub counts : (x : ℕ) → since S o x n ≡ through (since_by S o x) 0 L
-  pub newer : (test : Record → Bool) → newest S (λ k. is_of o k && test k) n ≡ through (newer_by S o test) none L
+  pub newer : (test : Record → Bool) → newest S (λ k. is_of o k && test k) n ≡ through (newer_by S o test) None L
   pub ends : (P x : ℕ) → data_end S P o x n ≡ through (end_newer S o P x) 0 L
-  pub cuts : (h x : ℕ) → lowest_cut S o h x n ≡ through (cut_newer S o h x) Nowhere L
+  pub cuts : (h x : ℕ) → lowest_cut S o h x n ≡ through (cut_newer S o h x) None L
 
 -- the sorted list of an object's records is one
 module _ (says S : ℕ → Record) (age : ℕ → ℕ) (o n b : ℕ) (pos : 0 < o) (few : n ≤ 4294967296) where
   -- the newer of two pages of different ages, whichever comes first
-  later_pair : (p q : ℕ) → age_of S q ≢ age_of S p → later S q (some p) ≡ later S p (some q)
+  later_pair : (p q : ℕ) → age_of S q ≢ age_of S p → later S q (Some p) ≡ later S p (Some q)
   later_pair p q d =
       by_test (leb (age_of S p) (age_of S q)) _
       (λ t. let h : age_of S p ≤ age_of S q = leb-true _ _ t in rw (t, lt-leb (age_of S q) (age_of S p) (omega arith)))
       (λ t. let h : age_of S q < age_of S p = leb-false _ _ t in rw (t, le-leb (age_of S q) (age_of S p) (omega arith)))
 
   later_swap : (p q : ℕ) → age_of S q ≢ age_of S p → (r : Option ℕ) → later S q (later S p r) ≡ later S p (later S q r)
-  later_swap p q d none = later_pair p q d
-  later_swap p q d (some r) = go (leb (age_of S r) (age_of S p)) refl (leb (age_of S r) (age_of S q)) refl
+  later_swap p q d None = later_pair p q d
+  later_swap p q d (Some r) = go (leb (age_of S r) (age_of S p)) refl (leb (age_of S r) (age_of S q)) refl
     where
       go :
           (t : Bool) →
           leb (age_of S r) (age_of S p) ≡ t →
           (u : Bool) →
           leb (age_of S r) (age_of S q) ≡ u →
-          later S q (later S p (some r)) ≡ later S p (later S q (some r))
+          later S q (later S p (Some r)) ≡ later S p (later S q (Some r))
       go true e true f = rw (e, f) (later_pair p q d)
       go true e false f =
           let h : age_of S r ≤ age_of S p = leb-true _ _ e in
@@ -126,13 +124,13 @@ module _ (says S : ℕ → Record) (age : ℕ → ℕ) (o n b : ℕ) (pos : 0 < 
     counts = λ x.
         along (λ p. is_of o (S p) && leb x (age_of S p)) (λ p. suc) 0 (since S o x) (since_none S o x) (since_suc S o x) (λ p e. rw e) (λ p q d a. refl);
     newer = λ test.
-        along (λ p. is_of o (S p) && test (S p)) (later S) none (newest S (λ k. is_of o k && test k)) (where_none S _) (where_suc S _)
+        along (λ p. is_of o (S p) && test (S p)) (later S) None (newest S (λ k. is_of o k && test k)) (where_none S _) (where_suc S _)
         (λ p e. rw e) later_swap;
     ends = λ P x.
         along (λ p. data_of o (S p) && ltb x (age_of S p)) (λ p. max (end_of P (S p))) 0 (data_end S P o x) (end_none S P o x) (end_suc S P o x)
         (λ p e. rw e) (λ p q d a. omega arith);
     cuts = λ h x.
-        along (λ p. header_of o (S p) && ltb x (age_of S p)) (λ p. lower (cut_of (eqb p h) (S p))) Nowhere (lowest_cut S o h x) (cut_none S o h x) (cut_suc S o h x)
+        along (λ p. header_of o (S p) && ltb x (age_of S p)) (λ p. lower (cut_of (eqb p h) (S p))) None (lowest_cut S o h x) (cut_none S o h x) (cut_suc S o h x)
         (λ p e. rw e) (λ p q d a. lower_swap (cut_of (eqb q h) (S q)) (cut_of (eqb p h) (S p)) a);
   }
 
@@ -142,9 +140,9 @@ module _ (says S : ℕ → Record) (o n b : ℕ) where
   tested L l test q i = rw (l.own q i, l.same q i)
 
   pub newest_none :
-      (L : List ℕ) → Listed says S o n b L → (test : Record → Bool) → Fails (λ q. test (says q)) L → newest S (λ k. is_of o k && test k) n ≡ none
+      (L : List ℕ) → Listed says S o n b L → (test : Record → Bool) → Fails (λ q. test (says q)) L → newest S (λ k. is_of o k && test k) n ≡ None
   newest_none L l test f =
-      l.newer test ∙ through_idle (newer_by S o test) L none (λ q i. rw (tested L l test q i ∙ f q i))
+      l.newer test ∙ through_idle (newer_by S o test) L None (λ q i. rw (tested L l test q i ∙ f q i))
 
   pub all_counted : (L : List ℕ) → Listed says S o n b L → since S o 0 n ≡ length L
   all_counted L l =
@@ -161,15 +159,15 @@ module _ (says S : ℕ → Record) (o n b : ℕ) where
     below x i = falls_in (age_of S) x B (age_of S q) (falls_below (age_of S) A q B b l.falls) i
 
     pub newest_at :
-        (test : Record → Bool) → Fails (λ x. test (says x)) A → test (says q) ≡ true → newest S (λ k. is_of o k && test k) n ≡ some q
+        (test : Record → Bool) → Fails (λ x. test (says x)) A → test (says q) ≡ true → newest S (λ k. is_of o k && test k) n ≡ Some q
     newest_at test f e =
         l.newer test
-        ∙ through_at (newer_by S o test) A none q B
+        ∙ through_at (newer_by S o test) A None q B
         ∙ rw (
-          through_idle (newer_by S o test) A none (λ x i. rw (tested (A ++ (q ∷ B)) l test x (in_above A q B x i) ∙ f x i)),
+          through_idle (newer_by S o test) A None (λ x i. rw (tested (A ++ (q ∷ B)) l test x (in_above A q B x i) ∙ f x i)),
           tested (A ++ (q ∷ B)) l test q (in_at A q B) ∙ e,
         )
-        (through_idle (newer_by S o test) B (some q)
+        (through_idle (newer_by S o test) B (Some q)
         (λ x i.
         by_test (is_of o (S x) && test (S x)) _ (λ t. rw (t, lt-leb (age_of S q) (age_of S x) (below x i))) (λ t. rw t)))
 
@@ -210,8 +208,8 @@ module _ (says S : ℕ → Record) (o n b : ℕ) where
         let d : is_data (says x) ≡ true = other_data o pos (says x) (of_object o (says x) (rw (l.same x j) at (l.own x j))) (f x i) in
         rw (l.own x j, l.same x j, d))
 
-    pub cut_at : (h : ℕ) → lowest_cut S o h (age_of S q) n ≡ through (λ x. cut_by says (eqb x h) x) Nowhere A
+    pub cut_at : (h : ℕ) → lowest_cut S o h (age_of S q) n ≡ through (λ x. cut_by says (eqb x h) x) None A
     cut_at h =
         l.cuts h (age_of S q)
-        ∙ newer-part (λ p. header_of o (S p)) (λ p. lower (cut_of (eqb p h) (S p))) (λ x. cut_by says (eqb x h) x) Nowhere
+        ∙ newer-part (λ p. header_of o (S p)) (λ p. lower (cut_of (eqb p h) (S p))) (λ x. cut_by says (eqb x h) x) None
         (λ x i y. let j = in_above A q B x i in rw (l.own x j, l.same x j))

@@ -1,23 +1,20 @@
 -- The records of an object: one turn of each walk down its chain, and what the pages of a chain of a list are.
 use Prim.Native.Nat.{ℕ, suc, ◌+◌, ◌≤◌, ◌<◌}
-use mathlib.Core.Bool.{true, false}
+use Rattle.std.specs.Prelude.{Result, Ok, Err}
+use mathlib.Core.Bool.{false}
 use mathlib.Core.List.{List, [], ◌∷◌, ◌++◌}
 use mathlib.Core.Path.{◌≡◌, refl, sym, ap, ◌∙◌}
 use native.Mathlib.Omega.{arith}
 use native.Mathlib.Numerals.{add-one}
 use lib.ListN.{length, get_or, take, drop, length-drop}
 use lib.Seq.{take-suc, take_all, drop-cons, length-take-le}
-use borrow.Author.Tests.{eq-eqb, ne_eqb, lt-ltb, le-ltb}
+use borrow.Author.Tests.{le-ltb}
 use Rattle.page.specs.Choice.{pick}
 use Rattle.page.specs.Numbers.{bad_object}
 use Rattle.page.specs.declared.record.Record.{Record}
 use Rattle.page.specs.declared.refusal.Refusal.{Refusal}
-use Rattle.page.specs.declared.refusal.Refusal.TheVariants.{BadObject, NoObject, ShortBuffer, ShortIndex, IndexDamaged}
+use Rattle.page.specs.declared.refusal.Refusal.TheVariants.{IndexDamaged}
 use Rattle.page.proofs.Searching.{clash, by_test}
-use Rattle.chunk.specs.Lists.{listed_by}
-use Rattle.chunk.specs.declared.answer.Listed.TheVariants as listed
-use Rattle.chunk.specs.declared.answer.Tallied.{Tallied}
-use Rattle.chunk.specs.declared.answer.Tallied.TheVariants as tallied
 use Rattle.index.specs.Cells.{cells_for}
 use Rattle.index.specs.Chains.{Trace, clean, broken, rec}
 use Rattle.index.specs.Held.{from_list}
@@ -46,15 +43,15 @@ module _ (t : Trace) where
   pages_on q rest e = rw e
 
 -- a tally that goes on from a count
-unfoldable pub tally_from : ℕ → Trace → Tallied
-tally_from v t = pick (is_broken t) (tallied.Refused IndexDamaged) (tallied.Count (v + records_in t))
+unfoldable pub tally_from : ℕ → Trace → Result ℕ Refusal
+tally_from v t = pick (is_broken t) (Err IndexDamaged) (Ok (v + records_in t))
 
 module _ (v : ℕ) (t : Trace) where
-  pub tally_end : t ≡ clean → tally_from v t ≡ tallied.Count v
+  pub tally_end : t ≡ clean → tally_from v t ≡ Ok v
   unfolding tally_from is_broken records_in
-  tally_end e = rw e (ap tallied.Count (omega arith))
+  tally_end e = rw e (ap Ok (omega arith))
 
-  pub tally_broken : t ≡ broken → tally_from v t ≡ tallied.Refused IndexDamaged
+  pub tally_broken : t ≡ broken → tally_from v t ≡ Err IndexDamaged
   unfolding tally_from is_broken
   tally_broken e = rw e
 
@@ -69,7 +66,7 @@ unfolding tally_from tally_of
 tally_all t = let k : 0 + records_in t ≡ records_in t = omega arith in rw k refl
 
 -- the tally counted: then the chain has as many pages
-pub tally_counted : (t : Trace) (m : ℕ) → tally_of t ≡ tallied.Count m → length (pages_of t) ≡ m
+pub tally_counted : (t : Trace) (m : ℕ) → tally_of t ≡ Ok m → length (pages_of t) ≡ m
 unfolding tally_of
 tally_counted t m e = by_test (is_broken t) _ (λ b. let q = rw b at e in clash (cc)) (λ b. let q = rw b at e in pages_length t ∙ (cc))
 
@@ -104,41 +101,15 @@ unfolding is_broken from_list
 unbroken [] = refl
 unbroken (q ∷ L) = unbroken L
 
-pub list_tally : (L : List ℕ) → tally_of (from_list L) ≡ tallied.Count (length L)
+pub list_tally : (L : List ℕ) → tally_of (from_list L) ≡ Ok (length L)
 unfolding tally_of
 list_tally L = rw (unbroken L, sym (pages_length (from_list L)) ∙ ap length (list_pages L))
 
--- the refusals before the chain is walked, and the tally behind them
-module _ (says : ℕ → Record) (P : ℕ) (c : List ℕ) (o n room : ℕ) where
-  pub records_few : length c < cells_for n → records_at says P c o n room ≡ listed.Refused ShortIndex 0
-  unfolding records_at
-  records_few h = rw (lt-ltb (length c) (cells_for n) h)
-
-  module _ (h : cells_for n ≤ length c) where
-    pub records_bad : bad_object o ≡ true → records_at says P c o n room ≡ listed.Refused BadObject 0
-    unfolding records_at
-    records_bad b = rw (le-ltb (length c) (cells_for n) h, b)
-
-    pub records_tally : bad_object o ≡ false → records_at says P c o n room ≡ records_by room (pages_of (chain_of says P c o n)) (tally_of (chain_of says P c o n))
-    unfolding records_at
-    records_tally b = rw (le-ltb (length c) (cells_for n) h, b)
-
--- what is answered, by the tally
-module _ (room : ℕ) (L : List ℕ) where
-  pub records_refused : (r : Refusal) → records_by room L (tallied.Refused r) ≡ listed.Refused r 0
-  unfolding records_by
-  records_refused r = refl
-
-  module _ (m : ℕ) where
-    pub records_none : m ≡ 0 → records_by room L (tallied.Count m) ≡ listed.Refused NoObject 0
-    unfolding records_by
-    records_none e = rw (eq-eqb m 0 e)
-
-    module _ (some : m ≡ 0 → ⊥) (e : length L ≡ m) where
-      pub records_short : room < m → records_by room L (tallied.Count m) ≡ listed.Refused ShortBuffer m
-      unfolding records_by listed_by
-      records_short h = rw (ne_eqb m 0 some, e, lt-ltb room m h)
-
-      pub records_fit : m ≤ room → records_by room L (tallied.Count m) ≡ listed.Ids m
-      unfolding records_by listed_by
-      records_fit h = rw (ne_eqb m 0 some, e, le-ltb room m h)
+-- behind the refusals the tally answers
+pub records_tally :
+    (says : ℕ → Record) (P : ℕ) (c : List ℕ) (o n room : ℕ) →
+    cells_for n ≤ length c →
+    bad_object o ≡ false →
+    records_at says P c o n room ≡ records_by room (pages_of (chain_of says P c o n)) (tally_of (chain_of says P c o n))
+unfolding records_at
+records_tally says P c o n room h b = rw (le-ltb (length c) (cells_for n) h, b)

@@ -1,6 +1,8 @@
 -- Walks down a chain. Down to the newest header, a walk goes through the list of the records above it; below that, through the list of the
 -- records above the copy, which is hidden or not by the lowest cut of the headers there.
 use Prim.Native.Nat.{ℕ, suc, ◌+◌, ◌<◌, max}
+use Rattle.std.specs.Prelude.{Option, Some, None}
+use Rattle.page.specs.declared.number.PageNumber.{PageNumber}
 use mathlib.Core.Bool.{Bool, true, false}
 use mathlib.Core.List.{List, [], ◌∷◌, ◌++◌}
 use mathlib.Core.Logic.{inl, inr}
@@ -15,23 +17,14 @@ use Rattle.page.specs.declared.record.Record.TheVariants.{Other, Header, Data}
 use Rattle.chunk.specs.Records.{object_of, is_copy, base_of}
 use Rattle.chunk.specs.Cuts.{cut_of, hides}
 use Rattle.chunk.specs.Sizes.{end_of}
-use Rattle.chunk.specs.declared.cut.Cut.{Cut}
-use Rattle.chunk.specs.declared.answer.Looked.{Looked}
-use Rattle.chunk.specs.declared.answer.Looked.TheVariants as looked
+use Rattle.chunk.specs.Looked.{Looked}
+use Rattle.chunk.specs.Looked as looked
 use Rattle.chunk.proofs.Cuts.{lower_still}
 use Rattle.index.specs.Held.{from_list}
 use Rattle.index.specs.Walks.{headless, behind, cut_by, met_with, reach, found, seek}
-use Rattle.index.specs.declared.walks.Met.{Met}
-use Rattle.index.specs.declared.walks.Met.TheVariants.{Copy, Nothing}
-use Rattle.index.specs.declared.walks.Reached.TheVariants as reached
+use Rattle.index.specs.Reached as reached
 use Rattle.index.proofs.Sorted.Steps.{through, through_at, through_idle}
 use Rattle.index.proofs.Sorted.Parting.{Fails}
-
--- another page has no object
-pub other_none : (k : Record) → is_header k ≡ false → is_data k ≡ false → object_of k ≡ 0
-other_none Other h d = refl
-other_none (Header r) h d = clash (cc)
-other_none (Data r) h d = clash (cc)
 
 -- a record that is no header is data
 module _ (o : ℕ) (pos : 0 < o) where
@@ -59,7 +52,7 @@ module _ (says : ℕ → Record) where
   behind_at (q ∷ A) h B f e = rw (f q (inl refl)) (behind_at A h B (λ x i. f x (inr i)) e)
 
   -- a header only lowers the cut: what is hidden stays so
-  cut_still : (b : Bool) (q : ℕ) (cut : Cut) (place : ℕ) → hides cut place ≡ true → hides (cut_by says b q cut) place ≡ true
+  cut_still : (b : Bool) (q : ℕ) (cut : (Option ℕ)) (place : ℕ) → hides cut place ≡ true → hides (cut_by says b q cut) place ≡ true
   cut_still b q cut place h = by_test (is_header (says q)) _ (λ t. rw t (lower_still place (cut_of b (says q)) cut h)) (λ t. rw t h)
 
   -- the largest end, with page q too
@@ -68,7 +61,7 @@ module _ (says : ℕ → Record) where
 
   module _ (P c : ℕ) where
     pub reach_none :
-        (L : List ℕ) (end : ℕ) (m : Met) (v : ℕ) → Fails headed L → reach says P c end m v (from_list L) ≡ headless (v + length L)
+        (L : List ℕ) (end : ℕ) (m : (Option PageNumber)) (v : ℕ) → Fails headed L → reach says P c end m v (from_list L) ≡ headless (v + length L)
     unfolding reach from_list
     reach_none [] end m v f = let e : v + 0 ≡ v = omega arith in rw e
     reach_none (q ∷ L) end m v f =
@@ -76,7 +69,7 @@ module _ (says : ℕ → Record) where
         rw (f q (inl refl), ← e) (reach_none L (end_by P q end) (met_with says P c q m) (v + 1) (λ x i. f x (inr i)))
 
     pub reach_at :
-        (A : List ℕ) (h : ℕ) (B : List ℕ) (end : ℕ) (m : Met) (v : ℕ) →
+        (A : List ℕ) (h : ℕ) (B : List ℕ) (end : ℕ) (m : (Option PageNumber)) (v : ℕ) →
         Fails headed A →
         headed h ≡ true →
         reach says P c end m v (from_list (A ++ (h ∷ B)))
@@ -93,27 +86,27 @@ module _ (says : ℕ → Record) where
     copied q = is_copy c (says q)
 
     -- the first copy of a list
-    pub met_none : (L : List ℕ) → Fails copied L → through (met_with says P c) Nothing L ≡ Nothing
-    met_none L f = through_idle (met_with says P c) L Nothing (λ q i. rw (f q i))
+    pub met_none : (L : List ℕ) → Fails copied L → through (met_with says P c) None L ≡ None
+    met_none L f = through_idle (met_with says P c) L None (λ q i. rw (f q i))
 
     pub met_at_lem :
-        (A : List ℕ) (q : ℕ) (B : List ℕ) → Fails copied A → copied q ≡ true → through (met_with says P c) Nothing (A ++ (q ∷ B)) ≡ Copy (record { 0 = q })
+        (A : List ℕ) (q : ℕ) (B : List ℕ) → Fails copied A → copied q ≡ true → through (met_with says P c) None (A ++ (q ∷ B)) ≡ Some (record { 0 = q })
     met_at_lem A q B f e =
-        through_at (met_with says P c) A Nothing q B
-        ∙ rw (met_none A f, e) (through_idle (met_with says P c) B (Copy (record { 0 = q })) (λ x i. refl))
+        through_at (met_with says P c) A None q B
+        ∙ rw (met_none A f, e) (through_idle (met_with says P c) B (Some (record { 0 = q })) (λ x i. refl))
 
     module _ (shown : ℕ) where
       abbrev hole : ℕ → Looked
       hole v = looked.Hole shown v
 
-      pub seek_none : (L : List ℕ) (cut : Cut) (v : ℕ) → Fails copied L → seek says P c shown cut v (from_list L) ≡ hole (v + length L)
+      pub seek_none : (L : List ℕ) (cut : (Option ℕ)) (v : ℕ) → Fails copied L → seek says P c shown cut v (from_list L) ≡ hole (v + length L)
       unfolding seek from_list
       seek_none [] cut v f = ap hole (omega arith)
       seek_none (q ∷ L) cut v f =
           rw (f q (inl refl)) (seek_none L (cut_by says false q cut) (v + 1) (λ x i. f x (inr i)) ∙ ap hole (omega arith))
 
       -- behind a cut that hides the chunk no copy is shown
-      seek-hidden : (L : List ℕ) (cut : Cut) (v : ℕ) → hides cut (base_of P c) ≡ true → seek says P c shown cut v (from_list L) ≡ hole (v + length L)
+      seek-hidden : (L : List ℕ) (cut : (Option ℕ)) (v : ℕ) → hides cut (base_of P c) ≡ true → seek says P c shown cut v (from_list L) ≡ hole (v + length L)
       unfolding seek from_list
       seek-hidden [] cut v h = ap hole (omega arith)
       seek-hidden (q ∷ L) cut v h =
@@ -124,7 +117,7 @@ module _ (says : ℕ → Record) where
 
       -- the first copy, which is hidden or not
       pub seek_at :
-          (A : List ℕ) (q : ℕ) (B : List ℕ) (cut : Cut) (v : ℕ) →
+          (A : List ℕ) (q : ℕ) (B : List ℕ) (cut : (Option ℕ)) (v : ℕ) →
           Fails copied A →
           copied q ≡ true →
           seek says P c shown cut v (from_list (A ++ (q ∷ B)))

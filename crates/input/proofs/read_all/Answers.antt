@@ -1,5 +1,5 @@
 -- What a read adds is the first bytes of what is left of those lent, and the reader lost it after the others.
-use Rattle.std.proofs.Common.{rules, ◌≡◌, ℕ, ◌+◌, ◌≤◌, List, ◌++◌, length, take, sym, ap, ap₂, ◌∙◌, subst, le_refl, drop_at, length-take-le}
+use Rattle.std.proofs.Common.{rules, ◌≡◌, Ok, ℕ, ◌+◌, ◌≤◌, List, ◌++◌, length, take, sym, ap, ap₂, ◌∙◌, subst, le_refl, drop_at, length-take-le}
 use Rattle.std.proofs.lemmas.Slice.{take-put_mid_below}
 use Rattle.std.specs.Io.KnownBytes.{Consumes}
 use Rattle.std.proofs.KnownBytes.{Consumes-trans}
@@ -16,6 +16,10 @@ take_more a k n xs ys h i =
 
 pub loop-done-preserved : goal.loop-done-preserved
 loop-done-preserved g c =
-    let more = take_more c.loop-done.done _ c.in-Ok.more c.loop-done.buf c.read.new.buf c.loop-done.invariant.within c.in-Ok.ensures.bound.0 in
-    let lost = Consumes-trans _ _ _ _ _ c.loop-done.invariant.known c.in-Ok.ensures.bytes.0 in
-    record { within = search rules; kept = search rules; known = subst (Consumes _ _) (sym more) lost }
+    let more = c.in_ok-more.more in
+    let was : c.read.result ≡ Ok more = search rules in
+    let bound = rw was at c.read.ensures.bound in
+    let bytes = rw was at c.read.ensures.bytes in
+    let taken = take_more c.loop-done.done _ more c.loop-done.buf c.read.new.buf c.loop-done.invariant.within bound.0 in
+    let lost = Consumes-trans _ _ _ _ _ c.loop-done.invariant.known bytes.0 in
+    record { within = search rules; kept = search rules; known = subst (Consumes _ _) (sym taken) lost }

@@ -1,16 +1,10 @@
 -- The page lies in the dump, so that its place fits.
 use Prim.Native.Nat.{◌+◌, ◌*◌, ◌≤◌}
 use native.Mathlib.Omega.{arith}
-use borrow.Author.Tests.{le-leb, lt-leb}
+use borrow.Author.Tests.{le-leb}
 use Rattle.page.proofs.Lengths.{page_within}
 use Rattle.capi.proofs.answer.place_of.Goals as goal
 use Rattle.capi.proofs.answer.place_of.Goals.{After-page_len}
-
-pub returns-then-not-holds : goal.returns-then-not-holds
-returns-then-not-holds c = rw (← c.holds.ensures, c.if-not-holds.true)
-
-pub returns-then-g-valid : goal.returns-then-g-valid
-returns-then-g-valid c = rw (← c.holds.ensures, c.if-not-holds.false, lt-leb _ _ c.if-g-valid.true)
 
 -- the page ends within the dump
 within : (c : After-page_len) → let a = c.args in a.p.0 * c.page_len.result + c.page_len.result ≤ a.len

@@ -17,7 +17,7 @@ page-place c =
     let a = c.args in
     rw c.page_len.ensures.value
     (page_within c.geometry_at-g.result (length a.dump.now) a.page
-    (headed_in c.geometry_at-g.result a.dump.now a.page _ (sym c.header-h.ensures ∙ c.in-Fields.is))).ends
+    (headed_in c.geometry_at-g.result a.dump.now a.page _ (sym c.header.ensures ∙ c.in-Ok.is))).ends
 
 pub overflow_mul-result : goal.overflow_mul-result
 overflow_mul-result c = omega (arith, page-place c)
@@ -27,17 +27,13 @@ overflow_add-result c =
     let a = c.args in
     omega (arith, page-place (goal.at.overflow_add-result c).After-page_len, c.place.ensures, text_fits a.f)
 
-pub returns-in-Refused : goal.returns-in-Refused
+pub returns-in-Ok : goal.returns-in-Ok
 unfolding text_answer
-returns-in-Refused c = rw (← c.geometry_at-g.ensures, ← c.header-h.ensures, c.in-Refused.is, c.number.ensures)
-
-pub returns-in-Fields : goal.returns-in-Fields
-unfolding text_answer
-returns-in-Fields c =
+returns-in-Ok c =
     rw (
       ← c.geometry_at-g.ensures,
-      ← c.header-h.ensures,
-      c.in-Fields.is,
+      ← c.header.ensures,
+      c.in-Ok.is,
       c.page_len.ensures.value,
       c.place.ensures,
       c.length.ensures,

@@ -1,5 +1,5 @@
 -- The loop's invariant: the count of the live pages passed.
-use Prim.Native.Nat.{◌≤◌, ◌-◌}
+use Prim.Native.Nat.{◌≤◌}
 use mathlib.Core.Path.{◌≡◌}
 use Rattle.page.specs.Search.{count}
 use Rattle.page.specs.Records.{record_at}
@@ -7,7 +7,4 @@ use Rattle.chunk.specs.Live.{live_page}
 use Rattle.chunk.proofs.list.live_in.Given as goal
 
 abbrev pub invariant-loop-i : goal.invariant-loop-i
-invariant-loop-i l = (l.i ≤ l.pages) × (l.count ≤ l.i) × (l.count ≡ count (live_page (record_at l.g l.dump) l.pages) l.i)
-
-abbrev pub decreases-loop-i : goal.decreases-loop-i
-decreases-loop-i l = l.pages - l.i
+invariant-loop-i l = (l.count ≤ l.i) × (l.count ≡ count (live_page (record_at l.g l.dump) l.pages) l.i)

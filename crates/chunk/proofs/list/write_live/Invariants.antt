@@ -1,5 +1,4 @@
 -- The loop's invariant: the ids of the live pages passed stand in front of the words, ascending, and the count is how many they are.
-use Prim.Native.Nat.{◌≤◌, ◌-◌}
 use Rattle.page.specs.Records.{record_at}
 use Rattle.chunk.specs.Live.{object_at, live_page}
 use Rattle.chunk.proofs.Sorting.{Listed}
@@ -7,7 +6,4 @@ use Rattle.chunk.proofs.list.write_live.Given as goal
 
 abbrev pub invariant-loop-i : goal.invariant-loop-i
 invariant-loop-i l =
-    (l.i ≤ l.pages) × Listed (live_page (record_at l.g l.dump) l.pages) (object_at (record_at l.g l.dump)) l.initial.words l.words l.count l.i
-
-abbrev pub decreases-loop-i : goal.decreases-loop-i
-decreases-loop-i l = l.pages - l.i
+    Listed (live_page (record_at l.g l.dump) l.pages) (object_at (record_at l.g l.dump)) l.initial.words l.words l.count l.i

@@ -1,9 +1,10 @@
 -- A copied front and zeros behind it.
-use mathlib.Core.Path.{◌∙◌}
-use Rattle.chunk.proofs.Laying.{laid_over}
+use borrow.Author.Rules.{rules}
+use Rattle.chunk.proofs.Laying.{zeros_over}
 use Rattle.chunk.proofs.read.overlay.Goals as goal
 
 pub returns : goal.returns
 returns c =
-    c.clear_from.ensures
-    ∙ rw c.copy_front.ensures (laid_over c.args.part.now c.args.buffer.now c.args.shown c.lesser-count.result c.lesser-count.ensures c.requires)
+    let front = c.copy.ensures.whole (search rules) in
+    let zeros = c.fill.ensures.after (λ y e. e) in
+    rw front (zeros_over c.args.part.now c.args.buffer.now _ c.args.shown c.min-count.result c.min-count.ensures c.requires (rw front at zeros))

@@ -11,7 +11,7 @@ use Rattle.page.proofs.Lengths.{page_within}
 use Rattle.page.proofs.Pages.{page_front}
 use Rattle.chunk.specs.Answers.{valid_part}
 use Rattle.chunk.proofs.read.valid_part.Goals as goal
-use Rattle.chunk.proofs.read.valid_part.Goals.{After-page_len}
+use Rattle.chunk.proofs.read.valid_part.Goals.{After-page_len, then-not-holds-via-then-not-holds, then-not-holds-via-else-not-holds+then-g-valid}
 
 -- the part ends within the dump
 within : (c : After-page_len) → let a = c.args in
@@ -24,13 +24,11 @@ within c =
 
 pub returns-then-not-holds : goal.returns-then-not-holds
 unfolding valid_part
-returns-then-not-holds c = rw (← c.holds.ensures, c.if-not-holds.true)
-
-pub returns-then-g-valid : goal.returns-then-g-valid
-unfolding valid_part
-returns-then-g-valid c =
-    let lies : let a = c.args in page_in a.g (length a.dump.now) a.p.0 ≡ true = rw (← c.holds.ensures) c.if-not-holds.false in
-    rw (lies, lt-leb _ _ c.if-g-valid.true)
+returns-then-not-holds c =
+    elim c.then-not-holds.branch [
+      | then-not-holds-via-then-not-holds w ↦ rw (← c.holds.ensures, w.if-not-holds.true)
+      | then-not-holds-via-else-not-holds+then-g-valid w ↦ rw (← c.holds.ensures, w.if-not-holds.false, lt-leb _ _ w.if-g-valid.true)
+    ]
 
 pub overflow_mul-a : goal.overflow_mul-a
 overflow_mul-a c = omega (arith, within c)

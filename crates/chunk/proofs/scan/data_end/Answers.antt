@@ -1,7 +1,6 @@
 use mathlib.Core.Bool.{false}
 use mathlib.Core.Path.{◌≡◌, sym, ◌∙◌}
 use native.Mathlib.Omega.{arith}
-use borrow.Author.Rules.{rules}
 use Rattle.page.specs.Records.{is_data, record_at}
 use Rattle.page.specs.Tags.{names_at}
 use Rattle.page.proofs.Sound.{else_data}
@@ -12,7 +11,7 @@ use Rattle.chunk.proofs.Gathering.{end_none, end_skip, end_other, end_step}
 use Rattle.chunk.proofs.scan.data_end.Goals as goal
 
 pub loop-i-init : goal.loop-i-init
-loop-i-init c = (search rules, rw end_none)
+loop-i-init c = rw end_none
 
 pub loop-i-preserved-then-not-names_object : goal.loop-i-preserved-then-not-names_object
 loop-i-preserved-then-not-names_object c =
@@ -21,24 +20,24 @@ loop-i-preserved-then-not-names_object c =
     let says = seen_by a.t (record_at a.g a.dump.now) in
     let u : names_at a.g a.dump.now q.i a.o.0 ≡ false = rw (← c.names_object.ensures) c.if-not-names_object.true in
     let t : is_of a.o.0 (says q.i) ≡ false = seen_unnamed a.g a.dump.now q.i a.o.0 u a.t in
-    (search rules, q.invariant.1 ∙ sym (end_other says a.g.layout.«data» a.o.0 a.age q.i t))
+    (q.invariant ∙ sym (end_other says a.g.layout.«data» a.o.0 a.age q.i t))
 
 pub loop-i-preserved-in_default : goal.loop-i-preserved-in_default
 loop-i-preserved-in_default c =
     let q = c.loop-i in
     let a = c.args in
     let says = seen_by a.t (record_at a.g a.dump.now) in
-    let t : is_data (says q.i) ≡ false = rw (← c.seen_at-r.ensures) (else_data c.seen_at-r.result c.in_default.not-Data) in
-    (search rules, q.invariant.1 ∙ sym (end_skip says a.g.layout.«data» a.o.0 a.age q.i t))
+    let t : is_data (says q.i) ≡ false = rw (← c.seen_at.ensures) (else_data c.seen_at.result c.in_default.not-Data) in
+    (q.invariant ∙ sym (end_skip says a.g.layout.«data» a.o.0 a.age q.i t))
 
 pub loop-i-preserved : goal.loop-i-preserved
 loop-i-preserved c =
     let q = c.loop-i in
     let a = c.args in
     let says = seen_by a.t (record_at a.g a.dump.now) in
-    (search rules, c.end_with-end.ensures ∙ rw (q.invariant.1, ← c.in-Data.is, c.seen_at-r.ensures) (sym (end_step says a.g.layout.«data» a.o.0 a.age q.i)))
+    (c.end_with-end.ensures ∙ rw (q.invariant, ← c.in-Data.is, c.seen_at.ensures) (sym (end_step says a.g.layout.«data» a.o.0 a.age q.i)))
 
 pub returns : goal.returns
 returns c =
     let e : c.loop-i.i ≡ c.args.pages = omega arith in
-    rw e at c.loop-i.invariant.1
+    rw e at c.loop-i.invariant

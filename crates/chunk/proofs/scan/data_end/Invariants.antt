@@ -1,5 +1,4 @@
 -- The loop's invariant: the largest end of the pages passed.
-use Prim.Native.Nat.{◌≤◌, ◌-◌}
 use mathlib.Core.Path.{◌≡◌}
 use Rattle.page.specs.Records.{record_at}
 use Rattle.chunk.specs.Takes.{seen_by}
@@ -7,7 +6,4 @@ use Rattle.chunk.specs.Sizes.{data_end}
 use Rattle.chunk.proofs.scan.data_end.Given as goal
 
 abbrev pub invariant-loop-i : goal.invariant-loop-i
-invariant-loop-i l = (l.i ≤ l.pages) × (l.end ≡ data_end (seen_by l.t (record_at l.g l.dump)) l.g.layout.«data» l.o.0 l.age l.i)
-
-abbrev pub decreases-loop-i : goal.decreases-loop-i
-decreases-loop-i l = l.pages - l.i
+invariant-loop-i l = (l.end ≡ data_end (seen_by l.t (record_at l.g l.dump)) l.g.layout.«data» l.o.0 l.age l.i)

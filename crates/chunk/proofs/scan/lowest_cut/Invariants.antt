@@ -1,5 +1,4 @@
 -- The loop's invariant: the lowest cut of the pages passed.
-use Prim.Native.Nat.{◌≤◌, ◌-◌}
 use mathlib.Core.Path.{◌≡◌}
 use Rattle.page.specs.Records.{record_at}
 use Rattle.chunk.specs.Takes.{seen_by}
@@ -7,7 +6,4 @@ use Rattle.chunk.specs.Cuts.{lowest_cut}
 use Rattle.chunk.proofs.scan.lowest_cut.Given as goal
 
 abbrev pub invariant-loop-i : goal.invariant-loop-i
-invariant-loop-i l = (l.i ≤ l.pages) × (l.cut ≡ lowest_cut (seen_by l.t (record_at l.g l.dump)) l.o.0 l.h.0 l.age l.i)
-
-abbrev pub decreases-loop-i : goal.decreases-loop-i
-decreases-loop-i l = l.pages - l.i
+invariant-loop-i l = (l.cut ≡ lowest_cut (seen_by l.t (record_at l.g l.dump)) l.o.0 l.h.0 l.age l.i)

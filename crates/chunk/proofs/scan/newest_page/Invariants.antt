@@ -1,5 +1,4 @@
 -- The loop's invariant: the newest wanted page of those passed.
-use Prim.Native.Nat.{◌≤◌, ◌-◌}
 use mathlib.Core.Path.{◌≡◌}
 use Rattle.page.specs.Records.{record_at}
 use Rattle.chunk.specs.Takes.{seen_by}
@@ -8,7 +7,4 @@ use Rattle.chunk.specs.Scans.{wanted, newest_in}
 use Rattle.chunk.proofs.scan.newest_page.Given as goal
 
 abbrev pub invariant-loop-i : goal.invariant-loop-i
-invariant-loop-i l = (l.i ≤ l.pages) × (l.best ≡ newest_in (seen_by l.t (record_at l.g l.dump)) (newest (seen_by l.t (record_at l.g l.dump)) (wanted l.o.0 l.w) l.i))
-
-abbrev pub decreases-loop-i : goal.decreases-loop-i
-decreases-loop-i l = l.pages - l.i
+invariant-loop-i l = (l.best ≡ newest_in (seen_by l.t (record_at l.g l.dump)) (newest (seen_by l.t (record_at l.g l.dump)) (wanted l.o.0 l.w) l.i))

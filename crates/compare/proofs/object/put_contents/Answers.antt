@@ -1,16 +1,24 @@
--- Where one side is no live file nothing is compared. Of two live files the sizes are put, and then the stretches up to the smaller size.
+-- Where one side is no live file nothing is compared.
+use Prim.Native.Nat.{min}
+use mathlib.Core.Path.{◌≡◌}
 use native.Mathlib.Omega.{arith}
+use Rattle.sort.specs.Lists.{joined}
 use Rattle.text.proofs.Putting.{nothing, also}
-use Rattle.compare.proofs.Lining.{contents_first, contents_second, contents_both}
+use Rattle.compare.specs.Differences.{stretches_of}
+use Rattle.compare.specs.Lines.{content_lines}
 use Rattle.compare.proofs.object.put_contents.Goals as goal
 
-pub returns-in-Nothing : goal.returns-in-Nothing
-returns-in-Nothing c = rw (c.in-Nothing.is, contents_first) (nothing _ _ (omega arith) (omega arith))
+pub returns-in_default : goal.returns-in_default
+unfolding content_lines stretches_of joined
+returns-in_default c = rw (c.in_default.is-0, c.in_default.is-1) (nothing _ _ (omega arith) (omega arith))
 
-pub returns-in-Nothing-other : goal.returns-in-Nothing-other
-returns-in-Nothing-other c = rw (c.in-Nothing-other.is, contents_second) (nothing _ _ (omega arith) (omega arith))
+pub returns-in_default-2 : goal.returns-in_default-2
+unfolding content_lines stretches_of joined
+returns-in_default-2 c = rw c.in_default.is-0 (nothing _ _ (omega arith) (omega arith))
 
-pub returns-in-Bytes-other : goal.returns-in-Bytes-other
-returns-in-Bytes-other c =
-    rw (c.in-Bytes-other.is, c.in-Bytes.is, contents_both, ← c.smaller.ensures)
-    (also c.put_sizes-next.ensures c.put_stretches.ensures)
+-- Of two live files the sizes are put, and then the stretches up to the smaller size.
+pub returns-in-Some-Some : goal.returns-in-Some-Some
+unfolding content_lines stretches_of
+returns-in-Some-Some c =
+    let m : c.min.result ≡ min c.in-Some-Some.y c.in-Some-Some.z = c.min.ensures in
+    rw (c.in-Some-Some.is-0, c.in-Some-Some.is-1, ← m) (also c.put_sizes-next.ensures c.put_stretches.ensures)

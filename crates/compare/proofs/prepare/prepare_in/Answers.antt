@@ -6,7 +6,7 @@ use mathlib.Core.Path.{◌≡◌, sym, ap, ◌∙◌}
 use native.Mathlib.Omega.{arith}
 use lib.ListN.{length, take, replicate}
 use lib.Seq.{length-take-le}
-use Rattle.compare.specs.Prepared.{work_for, is_room}
+use Rattle.compare.specs.Prepared.{is_room}
 use Rattle.compare.proofs.Preparing.{room_has, room_refused, room_enough}
 use Rattle.compare.proofs.prepare.prepare_in.Goals as goal
 use Rattle.compare.proofs.prepare.prepare_in.Goals.{After-work_for-room}
@@ -40,11 +40,6 @@ copies-front w = length-take-le _ w.args.copies.now (has w).1
 work-front : (w : After-work_for-room) → length (take w.work_for-room.result w.args.work.now) ≡ w.work_for-room.result
 work-front w = length-take-le _ w.args.work.now (has w).2
 
-pub fill-requires : goal.fill-requires
-fill-requires c =
-    let k = c.count_records-records.ensures in
-    record { dump_value = c.requires; order_len = order-front (goal.at.fill-requires c).After-work_for-room ∙ k; copies_len = copies-front (goal.at.fill-requires c).After-work_for-room ∙ k; work_len = work-front (goal.at.fill-requires c).After-work_for-room ∙ c.work_for-room.ensures ∙ ap work_for k }
-
 pub returns : goal.returns
 returns c =
     let a = c.args in
@@ -54,21 +49,3 @@ returns c =
     c.count_records-records.ensures (enough (goal.at.returns c).After-work_for-room) _ _ _
     e.order_after (c.fill.auto.order ∙ order-front (goal.at.returns c).After-work_for-room) e.copies_after (c.fill.auto.copies ∙ copies-front (goal.at.returns c).After-work_for-room)
     (e.work_after ∙ ap (λ (j : ℕ). replicate {A = ℕ} j 0) (work-front (goal.at.returns c).After-work_for-room ∙ c.work_for-room.ensures)))
-
-pub slice_bounds-fill-end : goal.slice_bounds-fill-end
-slice_bounds-fill-end c = (has c).0
-
-pub slice_bounds-fill-end-2 : goal.slice_bounds-fill-end-2
-slice_bounds-fill-end-2 c = sym (order-front (goal.at.slice_bounds-fill-end-2 c).After-work_for-room)
-
-pub slice_bounds-fill-end-3 : goal.slice_bounds-fill-end-3
-slice_bounds-fill-end-3 c = (has (goal.at.slice_bounds-fill-end-3 c).After-work_for-room).1
-
-pub slice_bounds-fill-end-4 : goal.slice_bounds-fill-end-4
-slice_bounds-fill-end-4 c = sym (copies-front (goal.at.slice_bounds-fill-end-4 c).After-work_for-room)
-
-pub slice_bounds-fill-end-5 : goal.slice_bounds-fill-end-5
-slice_bounds-fill-end-5 c = (has (goal.at.slice_bounds-fill-end-5 c).After-work_for-room).2
-
-pub slice_bounds-fill-end-6 : goal.slice_bounds-fill-end-6
-slice_bounds-fill-end-6 c = sym (work-front (goal.at.slice_bounds-fill-end-6 c).After-work_for-room)

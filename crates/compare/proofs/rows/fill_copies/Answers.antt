@@ -1,18 +1,14 @@
 use Prim.Native.Nat.{ℕ, ◌+◌, ◌-◌}
 use mathlib.Core.List.{List, ◌++◌}
-use mathlib.Core.Path.{◌≡◌, refl, sym, ap, ◌∙◌}
+use mathlib.Core.Path.{◌≡◌, sym, ap, ◌∙◌}
 use native.Mathlib.Omega.{arith}
 use lib.ListN.{take, drop}
+use Rattle.std.proofs.lemmas.List.{take_rest}
 use Rattle.page.specs.Records.{record_at}
 use Rattle.compare.specs.Rows.{copies_in}
-use Rattle.compare.proofs.Filling.{part_length, Turn, fill_start, turn_at, fill_end}
+use Rattle.compare.proofs.Filling.{part_length, Turn, turn_at, fill_end}
 use Rattle.compare.proofs.rows.fill_copies.Goals as goal
 use Rattle.compare.proofs.rows.fill_copies.Goals.{After-run_of}
-
-pub loop-i-init : goal.loop-i-init
-loop-i-init c =
-    let a = c.args in
-    (refl, fill_start a.g a.dump.now a.pages a.g.layout.«data» c.requires.dump_value a.order.now c.requires.order_value a.copies.now c.requires.copies_len)
 
 turn : (k : After-run_of) → let q = k.loop-i in
     let a = k.args in
@@ -22,7 +18,7 @@ turn k =
     let s = k in
     let a = s.args in
     turn_at a.g a.dump.now a.pages a.g.layout.«data» s.requires.dump_value a.order.now s.requires.order_value q.copies q.i q.invariant.1
-    k.loop-i-test.true _ k.run_of.result k.key_of-o.ensures k.run_of.ensures
+    k.loop-i-test.true _ k.run_of.result k.key_of-o.ensures (rw take_rest at k.run_of.ensures)
 
 pub fill_run-requires : goal.fill_run-requires
 fill_run-requires c =
@@ -57,14 +53,5 @@ overflow_add-end c = omega (arith, (turn c).inside)
 pub slice_bounds-fill_run-end : goal.slice_bounds-fill_run-end
 slice_bounds-fill_run-end c = omega (arith, (turn c).inside)
 
-pub slice_bounds-fill_run-end-in-loop-i : goal.slice_bounds-fill_run-end-in-loop-i
-slice_bounds-fill_run-end-in-loop-i c = omega (arith, (turn (goal.at.slice_bounds-fill_run-end-in-loop-i c).After-run_of).inside)
-
 pub loop-i-smaller : goal.loop-i-smaller
 loop-i-smaller c = omega (arith, (turn (goal.at.loop-i-smaller c).After-run_of).some)
-
-pub shape_of-copies : goal.shape_of-copies
-shape_of-copies c = c.loop-i.invariant.1.long ∙ sym c.requires.copies_len
-
-pub shape_of-work : goal.shape_of-work
-shape_of-work c = c.loop-i.invariant.0

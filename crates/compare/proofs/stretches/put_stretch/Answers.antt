@@ -3,15 +3,10 @@ use mathlib.Core.Path.{sym, ◌∙◌}
 use native.Mathlib.Omega.{arith}
 use Rattle.text.proofs.Putting.{nothing}
 use Rattle.compare.proofs.Differing.{shown_differ}
-use Rattle.compare.proofs.Stretching.{line_differs, line_same}
+use Rattle.compare.proofs.Stretching.{line_same}
 use Rattle.compare.proofs.stretches.put_stretch.Goals as goal
 
-pub returns-then-differ : goal.returns-then-differ
-returns-then-differ c =
-    let e = sym (shown_differ c.part_in-a.ensures c.part_in-b.ensures) ∙ sym c.differ.ensures ∙ c.if-differ.true in
-    rw (line_differs _ _ e) c.put_line.ensures
-
-pub returns : goal.returns
-returns c =
+pub returns-else-differ : goal.returns-else-differ
+returns-else-differ c =
     let e = sym (shown_differ c.part_in-a.ensures c.part_in-b.ensures) ∙ sym c.differ.ensures ∙ c.if-differ.false in
     rw (line_same _ _ e) (nothing _ _ (omega arith) (omega arith))

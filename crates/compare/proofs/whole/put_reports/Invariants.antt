@@ -6,7 +6,7 @@ use Rattle.compare.proofs.Listing.{Underway}
 use Rattle.compare.proofs.whole.put_reports.Given as goal
 
 abbrev pub invariant-loop-i : goal.invariant-loop-i
-invariant-loop-i l = Underway l.g l.dump l.g2 l.dump2 l.order l.rows l.order2 l.rows2 l.initial.buf l.at l.buf l.next l.i l.j
+invariant-loop-i l = Underway l.g l.dump l.g2 l.dump2 l.order l.rows l.order2 l.rows2 l.initial.buf l.at l.buf l.put l.i l.j
 
 abbrev pub decreases-loop-i : goal.decreases-loop-i
 decreases-loop-i l = (length l.order + length l.order2) - (l.i + l.j)

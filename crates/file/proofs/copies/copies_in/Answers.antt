@@ -1,65 +1,55 @@
 -- The size lookup refuses, or gives the size that the chunks are counted by. A first walk counts the copies that are met and puts none; there is room
 -- for them, or not.
-use Prim.Native.Nat.{◌<◌}
-use mathlib.Core.Path.{◌≡◌, refl, sym, ap, ◌∙◌}
+use mathlib.Core.Bool.{Bool, ◌&&◌}
+use mathlib.Core.List.{◌++◌}
+use mathlib.Core.Path.{◌≡◌, refl, sym, ◌∙◌}
 use native.Mathlib.Omega.{arith}
-use lib.ListN.{length}
-use Rattle.page.specs.Numbers.{page_values}
-use Rattle.page.proofs.Lengths.{opened_pages}
-use Rattle.chunk.specs.declared.answer.Sized.TheVariants as sized
+use lib.Dec.{ltb}
+use lib.ListN.{length, drop}
+use lib.Seq.{length-take-le}
+use Rattle.std.specs.Prelude.{Ok}
+use Rattle.page.specs.declared.refusal.Refusal.{Refusal}
 use Rattle.index.specs.Walks.{size_from}
-use Rattle.index.proofs.Walk.Ahead.{is_sized}
-use Rattle.file.specs.Copies.{copied_from, copied_by, rows_from, rows_by}
-use Rattle.file.proofs.Chunks.{data_some}
-use Rattle.file.proofs.Putting.{put_zero}
-use Rattle.file.proofs.Copying.{opened_data, copies_short, copies_rows, copies_filled}
+use Rattle.file.specs.Copied.{Rows}
+use Rattle.file.specs.Copies.{copied_from, rows_from, rows_by}
+use Rattle.file.specs.Table.{chunks_in}
+use Rattle.file.proofs.Chunks.{ok_before}
+use Rattle.file.proofs.Copying.{copies_short, copies_rows, copies_filled}
 use Rattle.file.proofs.copies.copies_in.Goals as goal
-use Rattle.file.proofs.copies.copies_in.Goals.{In-Size, After-walk-w}
+use Rattle.file.proofs.copies.copies_in.Goals.{In_ok-size, After-fill-count}
 
-given-size : (g : In-Size) → (let a = g.args in size_from a.g a.dump.now a.cells.now a.o.0 ≡ sized.Size g.in-Size.bytes g.in-Size.field-1)
-given-size g = sym g.size-s.ensures ∙ g.in-Size.is
-
-pub walk-w-requires : goal.walk-w-requires
-walk-w-requires c = let c = c in record { pages_lt_page_values = opened_pages _ _ _ c.requires; pages_in_bounds = (is_sized _ _ _ _ _ _ _ c.requires (given-size (goal.at.walk-w-requires c).In-Size)).room; chunks_lt_chunk_values = omega (arith, c.chunks_in-chunks.ensures.upper_bound); data_bound = opened_data _ _ _ c.requires; n_in_bounds = omega arith }
-
-same : (w : After-walk-w) → w.walk-w.new.rows ≡ w.args.rows.now
-same w = w.walk-w.ensures.rows_after ∙ put_zero _ _ _
+sized : (w : In_ok-size) → (let a = w.args in size_from a.g a.dump.now a.cells.now a.o.0 ≡ Ok w.in_ok-size.field-0)
+sized w = sym w.size.ensures ∙ ok_before Refusal _ _ w.in_ok-size.ensures.cases
 
 pub returns-then-rows-room : goal.returns-then-rows-room
 unfolding rows_from rows_by
-returns-then-rows-room c =
-    let c = c in record {
-      value = copies_short _ _ _ _ _ _ _ c.requires (given-size (goal.at.returns-then-rows-room c).In-Size) _ _ _ c.first_link-first.ensures c.chunks_in-chunks.ensures.value c.walk-w.ensures.copies_value c.args.rows.now
-          _ c.room_for-room.ensures (omega (arith, c.if-rows-room.true, ap length (same (goal.at.returns-then-rows-room c).After-walk-w)));
-      rows_after = same (goal.at.returns-then-rows-room c).After-walk-w;
-    }
+returns-then-rows-room c = record {
+  value = copies_short _ _ _ _ _ _ _ c.requires (sized (goal.at.returns-then-rows-room c).In_ok-size) _ _ c.first_link-first.ensures c.walk-w.ensures.copies_value _
+      _ c.words_of-room.ensures c.if-rows-room.true;
+  rows_after = refl;
+}
 
--- they are no more than the pages
-few : (w : After-walk-w) → w.walk-w.result.copies < page_values
-few w = omega (arith, w.walk-w.ensures.copies_le_pages, opened_pages _ _ _ w.requires)
+pub fill-count-requires-clause-rows_length : goal.fill-count-requires-clause-rows_length
+fill-count-requires-clause-rows_length c =
+    omega (arith, length-take-le c.words_of-room.result c.args.rows.now c.if-rows-room.false, c.words_of-room.ensures, c.walk-w.ensures.copies_value)
 
-pub fill-m-requires : goal.fill-m-requires
-fill-m-requires c =
-    let c = c in record { pages_lt_page_values = opened_pages _ _ _ c.requires; pages_in_bounds = (is_sized _ _ _ _ _ _ _ c.requires (given-size (goal.at.fill-m-requires c).In-Size)).room; chunks_lt_chunk_values = omega (arith, c.chunks_in-chunks.ensures.upper_bound); data_bound = opened_data _ _ _ c.requires; n_in_bounds = omega (arith, c.if-rows-room.false, c.room_for-room.ensures); n_value = c.walk-w.ensures.copies_value }
+-- all are put
+filled :
+    (w : After-fill-count) (damaged : Bool) → damaged ≡ w.walk-w.result.broken && ltb w.fill-count.result (chunks_in w.args.g.layout.«data» w.in_ok-size.field-0.answer) →
+    (let a = w.args in let all = Rows w.in_ok-size.field-0.answer w.fill-count.result damaged in
+    (all ≡ copied_from a.g a.dump.now a.cells.now a.o.0 (length a.rows.now))
+    × (w.fill-count.new.rows ++ drop w.words_of-room.result a.rows.now ≡ rows_from a.g a.dump.now a.cells.now a.o.0 a.rows.now all))
+filled w damaged d =
+    let s = sym w.size.ensures ∙ ok_before Refusal _ _ w.in_ok-size.ensures.cases in
+    let long = length-take-le w.words_of-room.result w.args.rows.now w.if-rows-room.false in (
+      copies_rows _ _ _ _ _ _ _ w.requires s _ _ w.first_link-first.ensures w.walk-w.ensures.copies_value _ (omega arith) _ _ _ w.fill-count.ensures.value
+          w.walk-w.ensures.broken_value d,
+      copies_filled _ _ _ _ _ _ _ w.requires s _ _ w.first_link-first.ensures w.walk-w.ensures.copies_value _ _ _ _
+          (rw (w.fill-count.ensures.rows_after, long, w.words_of-room.ensures)),
+    )
 
-pub returns-in-Refused : goal.returns-in-Refused
-unfolding copied_from copied_by rows_from rows_by
-returns-in-Refused c = record { value = rw (← c.size-s.ensures, c.in-Refused.is); rows_after = refl }
+pub returns-then-w : goal.returns-then-w
+returns-then-w c = let f = filled (goal.at.returns-then-w c).After-fill-count _ (rw (c.if-w.true, c.chunks_in.ensures.value)) in record { value = f.0; rows_after = f.1 }
 
-pub returns-else-rows-room : goal.returns-else-rows-room
-returns-else-rows-room c =
-    let c = c in record {
-      value = copies_rows _ _ _ _ _ _ _ c.requires (given-size (goal.at.returns-else-rows-room c).In-Size) _ _ _ c.first_link-first.ensures c.chunks_in-chunks.ensures.value c.walk-w.ensures.copies_value c.args.rows.now
-          (omega (arith, c.if-rows-room.false, c.room_for-room.ensures, ap length (same (goal.at.returns-else-rows-room c).After-walk-w))) _ _ _ c.fill-m.ensures.value c.walk-w.ensures.broken_value c.is_damaged.ensures;
-      rows_after = copies_filled _ _ _ _ _ _ _ c.requires (given-size (goal.at.returns-else-rows-room c).In-Size) _ _ _ c.first_link-first.ensures c.chunks_in-chunks.ensures.value c.walk-w.ensures.copies_value c.args.rows.now
-          _ _ _ _ (same (goal.at.returns-else-rows-room c).After-walk-w) c.fill-m.ensures.rows_after;
-    }
-
-pub chunks_in-chunks-requires : goal.chunks_in-chunks-requires
-chunks_in-chunks-requires c = data_some _ _ _ c.requires
-
-pub room_for-room-requires : goal.room_for-room-requires
-room_for-room-requires c = omega (arith, few (goal.at.room_for-room-requires c).After-walk-w)
-
-pub overflow_cast-result : goal.overflow_cast-result
-overflow_cast-result c = omega (arith, c.room_for-room.ensures, few (goal.at.overflow_cast-result c).After-walk-w)
+pub returns-else-w : goal.returns-else-w
+returns-else-w c = let f = filled (goal.at.returns-else-w c).After-fill-count _ (rw c.if-w.false) in record { value = f.0; rows_after = f.1 }

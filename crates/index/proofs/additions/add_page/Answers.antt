@@ -1,30 +1,15 @@
--- The tests come in the definition's order. A header and a data page are records, of the object and the sequence that they name; another page
--- has no object.
+-- A header and a data page are records, of the object and the sequence that they name.
 use Prim.Native.Nat.{◌<◌, ◌≤◌}
 use mathlib.Core.Path.{◌≡◌, sym, ap, ◌∙◌}
 use native.Mathlib.Omega.{arith}
 use lib.ListN.{length}
 use Rattle.page.specs.Records.{record_at}
 use Rattle.page.specs.declared.record.Record.TheVariants.{Header, Data}
-use Rattle.page.proofs.Sound.{else_header, else_data}
 use Rattle.page.proofs.Within.{header_within, data_within}
 use Rattle.chunk.specs.Records.{object_of}
 use Rattle.index.specs.Cells.{cells_for}
-use Rattle.index.proofs.Held.Cases.{add_short, add_far, add_other_lem, add_record_lem}
-use Rattle.index.proofs.Walk.Walks.{other_none}
+use Rattle.index.proofs.Held.Cases.{add_record_lem}
 use Rattle.index.proofs.additions.add_page.Goals as goal
-
-pub returns-then-cells-cells_for : goal.returns-then-cells-cells_for
-returns-then-cells-cells_for c = sym (add_short _ _ _ _ _ (rw c.cells_for.ensures at c.if-cells-cells_for.true))
-
-pub returns-then-pages-p : goal.returns-then-pages-p
-returns-then-pages-p c = sym (add_far _ _ _ _ _ (rw c.cells_for.ensures at c.if-cells-cells_for.false) c.if-pages-p.true)
-
-pub returns-in_default-r : goal.returns-in_default-r
-returns-in_default-r c =
-    let none = other_none c.record_at-r.result (else_header c.record_at-r.result c.in_default.not-Header) (else_data c.record_at-r.result c.in_default-r.not-Data) in
-    c.add_other.ensures
-    ∙ sym (add_other_lem _ _ _ _ _ (rw c.cells_for.ensures at c.if-cells-cells_for.false) c.if-pages-p.false (rw c.record_at-r.ensures at none))
 
 pub add_record-requires : goal.add_record-requires
 add_record-requires c =

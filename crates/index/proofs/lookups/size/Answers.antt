@@ -1,16 +1,9 @@
--- A refused dump is refused before anything else; another has a page.
-use mathlib.Core.Path.{sym, ◌∙◌}
-use Rattle.page.proofs.Lengths.{opened_some}
+-- A refusal of the dump is passed on.
+use mathlib.Core.Path.{◌∙◌}
+use Rattle.page.proofs.Passing.{passed_on}
 use Rattle.index.specs.Walks.{size_from}
 use Rattle.index.proofs.lookups.size.Goals as goal
 
-pub size_in-requires : goal.size_in-requires
-size_in-requires c = opened_some _ _ _ (sym c.opened_of-p.ensures ∙ c.in-Pages.is)
-
-pub returns-in-Refused : goal.returns-in-Refused
+pub returns-in_err-pages : goal.returns-in_err-pages
 unfolding size_from
-returns-in-Refused c = rw (← c.opened_of-p.ensures, c.in-Refused.is)
-
-pub returns-in-Pages : goal.returns-in-Pages
-unfolding size_from
-returns-in-Pages c = rw (← c.opened_of-p.ensures, c.in-Pages.is) c.size_in.ensures
+returns-in_err-pages c = passed_on _ c.from_residual.ensures.1 ∙ rw (← c.in_err-pages.ensures)

@@ -1,5 +1,6 @@
 use Prim.Native.Nat.{ℕ, ◌<◌}
 use mathlib.Core.List.{List}
+use mathlib.Core.Logic.{⊎_elim}
 use mathlib.Core.Path.{◌≡◌, refl, sym, ap, ◌∙◌}
 use native.Mathlib.Omega.{arith}
 use lib.ListN.{length, set, take, length-set}
@@ -12,36 +13,28 @@ use Rattle.index.specs.Chains.{objects, top}
 use Rattle.index.specs.Walks.{under}
 use Rattle.index.specs.Recorded.{pages_of}
 use Rattle.index.specs.declared.chains.Step.TheVariants.{End, Damaged, Record}
-use Rattle.index.proofs.Chain.Links.{Meets, stepped}
+use Rattle.index.proofs.Chain.Links.{stepped}
 use Rattle.index.proofs.Chain.Turns.{few}
 use Rattle.index.proofs.Walk.Recorded.{pages_length, pages_end, pages_broken, pages_on, Next, next_of, all_taken}
 use Rattle.index.proofs.records.write_pages.Goals as goal
 use Rattle.index.proofs.records.write_pages.Goals.{In-Record}
 
-pub loop-q-init : goal.loop-q-init
-loop-q-init c = (refl, refl, refl)
-
--- where the chain ends all its pages have been written
+-- where the chain ends, or is damaged, all its pages have been written
 pub returns-in-End : goal.returns-in-End
 returns-in-End c =
     let q = c.loop-q in
-    let k = stepped _ _ _ _ _ _ End (sym c.in-End.is ∙ c.follow-step.ensures) in
-    q.invariant.2 ∙ ap (λ (L : List ℕ). in_front L c.args.words.now) (all_taken (pages_of (under (record_at c.args.g c.args.dump.now) c.args.pages c.args.cells.now c.args.o.0 top c.args.first)) q.count (q.invariant.1 ∙ pages_end _ k))
-
-pub returns-in-Damaged : goal.returns-in-Damaged
-returns-in-Damaged c =
-    let q = c.loop-q in
-    let k = stepped _ _ _ _ _ _ Damaged (sym c.in-Damaged.is ∙ c.follow-step.ensures) in
-    q.invariant.2 ∙ ap (λ (L : List ℕ). in_front L c.args.words.now) (all_taken (pages_of (under (record_at c.args.g c.args.dump.now) c.args.pages c.args.cells.now c.args.o.0 top c.args.first)) q.count (q.invariant.1 ∙ pages_broken _ k))
-
-here : (c : In-Record) → (let q = c.loop-q in let a = c.args in Meets (record_at a.g a.dump.now) a.pages a.o.0 a.cells.now q.bound q.link c.in-Record.q c.in-Record.age c.in-Record.field-2)
-here c = stepped _ _ _ _ _ _ (Record _ _ _) (sym c.in-Record.is ∙ c.follow-step.ensures)
+    let none = ⊎_elim
+    (λ e. pages_end _ (stepped _ _ _ _ _ _ End (sym e ∙ c.follow.ensures)))
+    (λ e. pages_broken _ (stepped _ _ _ _ _ _ Damaged (sym e ∙ c.follow.ensures)))
+    c.in-End.is
+    in
+    q.invariant.2 ∙ ap (λ (L : List ℕ). in_front L c.args.words.now) (all_taken (pages_of (under (record_at c.args.g c.args.dump.now) c.args.pages c.args.cells.now c.args.o.0 top c.args.first)) q.count (q.invariant.1 ∙ none))
 
 next : (c : In-Record) → (link : ℕ) → link ≡ word c.args.cells.now (link_at c.in-Record.q.0) → Next (pages_of (under (record_at c.args.g c.args.dump.now) c.args.pages c.args.cells.now c.args.o.0 top c.args.first)) c.loop-q.count c.in-Record.q.0
     (pages_of (under (record_at c.args.g c.args.dump.now) c.args.pages c.args.cells.now c.args.o.0 c.in-Record.age link))
 next c link e =
-    let here : (let q = c.loop-q in let a = c.args in Meets (record_at a.g a.dump.now) a.pages a.o.0 a.cells.now q.bound q.link c.in-Record.q c.in-Record.age c.in-Record.field-2) = stepped _ _ _ _ _ _ (Record _ _ _) (sym c.in-Record.is ∙ c.follow-step.ensures) in
-    next_of (pages_of (under (record_at c.args.g c.args.dump.now) c.args.pages c.args.cells.now c.args.o.0 top c.args.first)) _ _ _ (c.loop-q.invariant.1 ∙ pages_on _ _ _ (here.onward link e))
+    let k = stepped _ _ _ c.args.cells.now _ _ (Record _ _ _) c.in-Record.ensures in
+    next_of (pages_of (under (record_at c.args.g c.args.dump.now) c.args.pages c.args.cells.now c.args.o.0 top c.args.first)) _ _ _ (c.loop-q.invariant.1 ∙ pages_on _ _ _ (k.onward link e))
 
 room : (c : In-Record) → (c.loop-q.count < length c.args.words.now) × (c.loop-q.count < c.args.pages)
 room c =
@@ -58,7 +51,7 @@ pub overflow_add-count : goal.overflow_add-count
 overflow_add-count c = omega (arith, (room c).1)
 
 pub loop-q-smaller : goal.loop-q-smaller
-loop-q-smaller c = (here (goal.at.loop-q-smaller c).In-Record).older
+loop-q-smaller c = (stepped _ _ _ c.args.cells.now _ _ (Record _ _ _) c.in-Record.ensures).older
 
 pub loop-q-preserved : goal.loop-q-preserved
 loop-q-preserved c =
@@ -74,12 +67,6 @@ loop-q-preserved c =
           ∙ put_front ids w p (omega (arith, n.2, (room (goal.at.loop-q-preserved c).In-Record).0))
           ∙ ap (λ (L : List ℕ). in_front L w) (sym n.0),
     )
-
-pub shape_of-words-in-End : goal.shape_of-words-in-End
-shape_of-words-in-End c = c.loop-q.invariant.0
-
-pub shape_of-words-in-Damaged : goal.shape_of-words-in-Damaged
-shape_of-words-in-Damaged c = c.loop-q.invariant.0
 
 pub offset_bounds-words-count : goal.offset_bounds-words-count
 offset_bounds-words-count c = omega (arith, (room c).1)

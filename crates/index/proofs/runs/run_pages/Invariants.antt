@@ -8,11 +8,8 @@ use Rattle.index.specs.Chains.{objects}
 use Rattle.index.specs.Runs.{taken_by, run_by}
 use Rattle.index.proofs.runs.run_pages.Given as goal
 
-abbrev pub invariant-loop-p : goal.invariant-loop-p
-invariant-loop-p l =
+abbrev pub invariant-loop-i : goal.invariant-loop-i
+invariant-loop-i l =
     (length l.cells ≡ length l.initial.cells)
-    × (run_by (taken_by l.takes (record_at l.g l.dump)) l.pages (objects (record_at l.g l.dump)) (age_of (record_at l.g l.dump)) (l.end - l.initial.p) l.initial.p l.initial.cells
-    ≡ run_by (taken_by l.takes (record_at l.g l.dump)) l.pages (objects (record_at l.g l.dump)) (age_of (record_at l.g l.dump)) (l.end - l.p) l.p l.cells)
-
-abbrev pub decreases-loop-p : goal.decreases-loop-p
-decreases-loop-p l = l.end - l.p
+    × (run_by (taken_by l.takes (record_at l.g l.dump)) l.pages (objects (record_at l.g l.dump)) (age_of (record_at l.g l.dump)) (l.fn.to.0 - l.fn.from.0) l.fn.from.0 l.initial.cells
+    ≡ run_by (taken_by l.takes (record_at l.g l.dump)) l.pages (objects (record_at l.g l.dump)) (age_of (record_at l.g l.dump)) (l.fn.to.0 - l.i) l.i l.cells)

@@ -11,13 +11,13 @@ pub with-c-requires : goal.with-c-requires
 with-c-requires c =
     let a = c.args in
     let q = c.loop-i in
-    counts_at_most a.g a.dump.now q.i (2 ^ 31) q.c q.invariant.1 (omega arith)
+    counts_at_most a.g a.dump.now q.i (2 ^ 31) q.c q.invariant (omega arith)
 
 pub loop-i-preserved : goal.loop-i-preserved
 loop-i-preserved c =
     let a = c.args in
     let q = c.loop-i in
-    (search rules, cc (counts_next a.g a.dump.now q.i))
+    cc (counts_next a.g a.dump.now q.i)
 
 pub returns : goal.returns
 returns c =

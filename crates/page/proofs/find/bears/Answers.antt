@@ -2,9 +2,10 @@
 use mathlib.Core.Bool.{true}
 use mathlib.Core.Path.{◌≡◌, sym, ◌∙◌, ap}
 use lib.ListN.{length}
+use borrow.Author.Tests.{ne_eqb}
 use Rattle.page.specs.Lengths.{page_in}
 use Rattle.page.specs.Tags.{claim_on, claim_at}
-use Rattle.page.specs.Find.{is_good, bears_sequence}
+use Rattle.page.specs.Find.{is_good}
 use Rattle.page.proofs.Blocks.{bears_other, bears_same}
 use Rattle.page.proofs.find.bears.Goals as goal
 use Rattle.page.proofs.find.bears.Goals.{Else-not-holds}
@@ -12,22 +13,15 @@ use Rattle.page.proofs.find.bears.Goals.{Else-not-holds}
 lies : (c : Else-not-holds) → page_in c.args.g (length c.args.dump.now) c.args.n.0 ≡ true
 lies c = rw (← c.holds.ensures) c.if-not-holds.false
 
-pub returns-then-not-holds : goal.returns-then-not-holds
-unfolding claim_at bears_sequence
-returns-then-not-holds c = rw (← c.holds.ensures, c.if-not-holds.true)
+pub returns-else-t-sequence : goal.returns-else-t-sequence
+unfolding claim_at claim_on
+returns-else-t-sequence c =
+    let a = c.args in
+    rw (lies (goal.at.returns-else-t-sequence c).Else-not-holds, ← c.tags_at-t.ensures, ne_eqb _ _ c.if-t-sequence.false) (sym (bears_other c.tags_at-t.result a.g.layout.«data» a.sequence c.if-t-sequence.false))
 
 pub returns-then-t-sequence : goal.returns-then-t-sequence
 unfolding claim_at claim_on
 returns-then-t-sequence c =
     let a = c.args in
-    rw (lies (goal.at.returns-then-t-sequence c).Else-not-holds, ← c.tags_at-t.ensures) (sym (bears_other c.tags_at-t.result a.g.layout.«data» a.sequence c.if-t-sequence.true))
-
-pub returns : goal.returns
-unfolding claim_at claim_on
-returns c =
-    let a = c.args in
-    rw (lies (goal.at.returns c).Else-not-holds, ← c.tags_at-t.ensures)
-    (c.is_good.ensures ∙ ap is_good c.claim.ensures ∙ sym (bears_same c.tags_at-t.result a.g.layout.«data» a.sequence c.if-t-sequence.false))
-
-pub tags_at-t-requires : goal.tags_at-t-requires
-tags_at-t-requires c = lies c
+    rw (lies (goal.at.returns-then-t-sequence c).Else-not-holds, ← c.tags_at-t.ensures)
+    (c.is_good.ensures ∙ ap is_good c.claim.ensures ∙ sym (bears_same c.tags_at-t.result a.g.layout.«data» a.sequence c.if-t-sequence.true))

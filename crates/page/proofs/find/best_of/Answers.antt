@@ -2,22 +2,14 @@ use Prim.Native.Nat.{◌+◌, ◌-◌, ◌^◌, ◌<◌}
 use mathlib.Core.Bool.{true}
 use mathlib.Core.Path.{◌≡◌, sym, ◌∙◌}
 use native.Mathlib.Omega.{arith}
-use borrow.Author.Rules.{rules}
 use Rattle.page.specs.Layouts.{layouts, roomy}
 use Rattle.page.specs.Find.{candidate_score}
-use Rattle.page.specs.Leaving.{in_turn}
 use Rattle.page.proofs.Layouts.{row_roomy, roomy_facts}
 use Rattle.page.proofs.Lengths.{block_some}
-use Rattle.page.proofs.Blocks.{through_ends}
-use Rattle.page.proofs.Leading.{in_turn_twice, in_turn_listed, leads_none, need_some, leads_still, leads_now, Won, leads_won, won_named, won_refused}
+use Rattle.page.proofs.Leading.{in_turn_twice, in_turn_listed, need_some, leads_still, leads_now, Won, leads_won, won_named, won_refused}
 use Rattle.page.proofs.Leaving.{Underway, under_none, under_on, under_lost, under_won, under_fits}
 use Rattle.page.proofs.find.best_of.Goals as goal
 use Rattle.page.proofs.find.best_of.Goals.{After-in_turn-n, After-row, After-need_of-need, At-blocks-2, Else-next-pages, After-gain_in-gain}
-
-pub candidates-init : goal.candidates-init
-candidates-init c =
-    let a = c.args in
-    (search rules, search rules, leads_none (candidate_score a.dump.now a.k) (in_turn c.guess-first.result))
 
 -- the candidate is one of the table
 listed : (c : After-in_turn-n) → c.in_turn-n.result < layouts
@@ -42,9 +34,6 @@ blocks-2-init c =
     under_none c.args.dump.now c.args.k c.in_turn-n.result (record { layout = c.row.result; block = c.args.k }) c.pages_under-pages.result
     (rw c.row.ensures) c.pages_under-pages.ensures (block_some c.args.k c.requires.k_value) (omega arith) c.requires.dump_value
 
-pub overflow_sub-pages : goal.overflow_sub-pages
-overflow_sub-pages c = c.blocks-2.invariant.through.within
-
 pub is_lost-requires : goal.is_lost-requires
 is_lost-requires c = (under_fits c.blocks-2.invariant).0
 
@@ -54,12 +43,6 @@ turn-less c = omega (arith, c.candidates-test.true)
 
 turn_few : (c : At-blocks-2) → c.candidates.turn + 1 < 2 ^ 32
 turn_few c = omega (arith, c.candidates-test.true)
-
-pub overflow_step-turn : goal.overflow_step-turn
-overflow_step-turn c = omega (arith, turn_few (goal.at.overflow_step-turn c).At-blocks-2)
-
-pub candidates-smaller-then-is_lost : goal.candidates-smaller-then-is_lost
-candidates-smaller-then-is_lost c = turn-less (goal.at.candidates-smaller-then-is_lost c).At-blocks-2
 
 pub candidates-preserved-then-is_lost : goal.candidates-preserved-then-is_lost
 candidates-preserved-then-is_lost c =
@@ -73,11 +56,6 @@ candidates-preserved-then-is_lost c =
 more : (c : Else-next-pages) → c.blocks-2.next < c.pages_under-pages.result
 more c = let t = c.blocks-2.invariant.through in omega (arith, t.within, c.if-next-pages.false)
 
-pub gain_in-gain-requires : goal.gain_in-gain-requires
-gain_in-gain-requires c =
-    let t = c.blocks-2.invariant.through in
-    record { block_value = t.starts; block_bound = omega (arith, t.few, through_ends t (more c)) }
-
 -- the candidate, one block on
 on : (c : After-gain_in-gain) → let a = c.args in
     Underway a.dump.now a.k c.in_turn-n.result (record { layout = c.row.result; block = a.k }) c.pages_under-pages.result (c.blocks-2.next + a.k) (c.blocks-2.score + c.gain_in-gain.result.score) (c.blocks-2.marked + c.gain_in-gain.result.marked)
@@ -85,26 +63,14 @@ on c =
     let more : c.blocks-2.next < c.pages_under-pages.result = let t = c.blocks-2.invariant.through in omega (arith, t.within, c.if-next-pages.false) in
     under_on c.blocks-2.invariant c.gain_in-gain.result more c.gain_in-gain.ensures
 
-pub overflow_add-next : goal.overflow_add-next
-overflow_add-next c = omega (arith, (under_fits (on c)).3)
-
 pub overflow_add-score : goal.overflow_add-score
 overflow_add-score c = omega (arith, (under_fits (on (goal.at.overflow_add-score c).After-gain_in-gain)).1)
 
 pub overflow_add-marked : goal.overflow_add-marked
 overflow_add-marked c = omega (arith, (under_fits (on (goal.at.overflow_add-marked c).After-gain_in-gain)).2)
 
-pub blocks-2-smaller : goal.blocks-2-smaller
-blocks-2-smaller c = omega (arith, c.blocks-2.invariant.through.some, more (goal.at.blocks-2-smaller c).Else-next-pages)
-
 pub blocks-2-preserved : goal.blocks-2-preserved
 blocks-2-preserved c = on (goal.at.blocks-2-preserved c).After-gain_in-gain
-
-pub overflow_step-turn-in-candidates : goal.overflow_step-turn-in-candidates
-overflow_step-turn-in-candidates c = omega (arith, turn_few (goal.at.overflow_step-turn-in-candidates c).At-blocks-2)
-
-pub candidates-smaller : goal.candidates-smaller
-candidates-smaller c = turn-less (goal.at.candidates-smaller c).At-blocks-2
 
 pub candidates-preserved : goal.candidates-preserved
 candidates-preserved c =
@@ -118,10 +84,6 @@ candidates-preserved c =
 pub returns-then-best-eq0 : goal.returns-then-best-eq0
 returns-then-best-eq0 c = let behind : let q = c.candidates in let a = c.args in Won (candidate_score a.dump.now a.k) q.best q.found = let e : c.candidates.turn ≡ layouts = omega (arith, c.candidates-test.false) in leads_won (in_turn_twice c.guess-first.result) (λ n h. in_turn_listed c.guess-first.result n c.guess-first.ensures h) (rw e at c.candidates.invariant.2) in
     sym (won_refused behind c.if-best-eq0.true)
-
-pub row-requires-2 : goal.row-requires-2
-row-requires-2 c = let behind : let q = c.candidates in let a = c.args in Won (candidate_score a.dump.now a.k) q.best q.found = let e : c.candidates.turn ≡ layouts = omega (arith, c.candidates-test.false) in leads_won (in_turn_twice c.guess-first.result) (λ n h. in_turn_listed c.guess-first.result n c.guess-first.ensures h) (rw e at c.candidates.invariant.2) in
-    behind.within
 
 pub returns : goal.returns
 returns c = let behind : let q = c.candidates in let a = c.args in Won (candidate_score a.dump.now a.k) q.best q.found = let e : c.candidates.turn ≡ layouts = omega (arith, c.candidates-test.false) in leads_won (in_turn_twice c.guess-first.result) (λ n h. in_turn_listed c.guess-first.result n c.guess-first.ensures h) (rw e at c.candidates.invariant.2) in

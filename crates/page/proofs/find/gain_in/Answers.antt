@@ -1,4 +1,3 @@
-use Prim.Native.Nat.{◌+◌}
 use mathlib.Core.Path.{◌≡◌, sym, ◌∙◌}
 use native.Mathlib.Omega.{arith}
 use borrow.Author.Rules.{rules}
@@ -7,9 +6,6 @@ use Rattle.page.specs.Find.{is_scored, marked_at}
 use Rattle.page.proofs.Blocks.{tally_yes, tally_no, tally_le, scored_in_block}
 use Rattle.page.proofs.find.gain_in.Goals as goal
 use Rattle.page.proofs.find.gain_in.Goals.{then-bears, else-bears, then-is_marked, else-is_marked}
-
-pub loop-i-init : goal.loop-i-init
-loop-i-init c = (search rules, search rules, omega arith, omega arith)
 
 pub overflow_add-marked : goal.overflow_add-marked
 overflow_add-marked c =
@@ -43,10 +39,3 @@ loop-i-preserved c =
         | else-is_marked w ↦ rw w.marked-is (tally_no marked a.block c.loop-i.i c.loop-i.marked c.loop-i.invariant.3 (m ∙ w.if-is_marked.false))
       ],
     )
-
-pub returns : goal.returns
-returns c =
-    let a = c.args in
-    let q = c.loop-i in
-    let e : q.i ≡ a.block + a.g.block = omega arith in
-    record { scored = rw e at q.invariant.2; counted = rw e at q.invariant.3 }

@@ -25,12 +25,6 @@ few c = rw c.pages_under-pages.ensures (pages_few (record { layout = c.row.resul
 pub nonzero_div-stride-2 : goal.nonzero_div-stride-2
 nonzero_div-stride-2 c = block_some c.args.k c.requires.k_value
 
-pub overflow_mul-stride : goal.overflow_mul-stride
-overflow_mul-stride c = omega (arith, strides c.pages_under-pages.result c.args.k 1 (omega arith), few c)
-
-pub overflow_mul-stride-in-loop-i : goal.overflow_mul-stride-in-loop-i
-overflow_mul-stride-in-loop-i c = omega (arith, strides c.pages_under-pages.result c.args.k c.loop-i.i (omega arith), few (goal.at.overflow_mul-stride-in-loop-i c).Else-pages-eq0)
-
 pub gain_in-score-requires : goal.gain_in-score-requires
 gain_in-score-requires c =
     let i = c.loop-i.i in

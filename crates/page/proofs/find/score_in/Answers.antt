@@ -3,16 +3,13 @@ use mathlib.Core.Path.{sym, ap, ◌∙◌}
 use native.Mathlib.Omega.{arith}
 use Rattle.page.specs.Tags.{claim_at}
 use Rattle.page.specs.Leaving.{at_least}
-use Rattle.page.proofs.Blocks.{Through, through_none, through_on, through_ends}
+use Rattle.page.proofs.Blocks.{Through, through_none, through_on}
 use Rattle.page.proofs.Leaving.{through_lost, through_won, through_fits, at_least_lem, not_least}
 use Rattle.page.proofs.find.score_in.Goals as goal
 use Rattle.page.proofs.find.score_in.Goals.{Else-next-pages, After-struct_known-1}
 
 pub loop-g-init : goal.loop-g-init
 loop-g-init c = through_none (claim_at c.args.g c.args.dump.now) c.args.g.block c.args.pages c.requires.block_nonzero c.requires.pages_bound c.requires.block_value
-
-pub overflow_sub-pages : goal.overflow_sub-pages
-overflow_sub-pages c = c.loop-g.invariant.within
 
 pub is_lost-requires : goal.is_lost-requires
 is_lost-requires c = (through_fits c.loop-g.invariant).0
@@ -34,11 +31,6 @@ returns-then-next-pages c =
 more : (c : Else-next-pages) → c.loop-g.next < c.args.pages
 more c = omega (arith, c.loop-g.invariant.within, c.if-next-pages.false)
 
-pub gain_in-gain-requires : goal.gain_in-gain-requires
-gain_in-gain-requires c =
-    let t = c.loop-g.invariant in
-    record { block_value = t.starts; block_bound = omega (arith, t.few, through_ends t (more c)) }
-
 -- one block on
 on : (c : After-struct_known-1) → let a = c.args in
     Through (claim_at a.g a.dump.now) a.g.block a.pages (c.loop-g.next + a.g.block) (c.loop-g.score + c.gain_in-gain.result.score) (c.loop-g.marked + c.gain_in-gain.result.marked)
@@ -47,17 +39,11 @@ on c =
     through_on c.loop-g.invariant c.gain_in-gain.result.score c.gain_in-gain.result.marked more
     c.gain_in-gain.ensures.scored c.gain_in-gain.ensures.counted
 
-pub overflow_add-next : goal.overflow_add-next
-overflow_add-next c = omega (arith, (through_fits (on c)).3)
-
 pub overflow_add-score : goal.overflow_add-score
 overflow_add-score c = omega (arith, (through_fits (on (goal.at.overflow_add-score c).After-struct_known-1)).1)
 
 pub overflow_add-marked : goal.overflow_add-marked
 overflow_add-marked c = omega (arith, (through_fits (on (goal.at.overflow_add-marked c).After-struct_known-1)).2)
-
-pub loop-g-smaller : goal.loop-g-smaller
-loop-g-smaller c = omega (arith, c.loop-g.invariant.some, more (goal.at.loop-g-smaller c).Else-next-pages)
 
 pub loop-g-preserved : goal.loop-g-preserved
 loop-g-preserved c = on (goal.at.loop-g-preserved c).After-struct_known-1

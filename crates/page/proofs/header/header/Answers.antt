@@ -1,21 +1,18 @@
 -- A page that is a header lies in the dump, and is long enough for one.
 use mathlib.Core.Bool.{true}
-use mathlib.Core.Path.{◌≡◌, ap}
+use mathlib.Core.Path.{◌≡◌, ap, sym}
 use lib.ListN.{length}
 use native.Mathlib.Omega.{arith}
 use Rattle.page.specs.Lengths.{page_in}
-use Rattle.page.specs.Asked.{headed_of, headed_by}
 use Rattle.page.proofs.Layouts.{roomy_facts}
 use Rattle.page.proofs.Lengths.{page_within}
 use Rattle.page.proofs.Pages.{page_length}
 use Rattle.page.proofs.Sound.{asked_in}
 use Rattle.page.proofs.header.header.Goals as goal
-use Rattle.page.proofs.header.header.Goals.{In-Header}
+use Rattle.page.proofs.header.header.Goals.{In_ok-ask_header}
 
-lies : (c : In-Header) → let a = c.args in page_in a.g (length a.dump.now) a.n.0 ≡ true
-lies c =
-    let a = c.args in
-    asked_in a.g a.dump.now a.n.0 (rw (← c.ask_header-a.ensures) c.in-Header.is)
+lies : (c : In_ok-ask_header) → let a = c.args in page_in a.g (length a.dump.now) a.n.0 ≡ true
+lies c = let a = c.args in asked_in a.g a.dump.now a.n.0 (sym c.in_ok-ask_header.ensures)
 
 pub page_at-requires : goal.page_at-requires
 page_at-requires c = lies c
@@ -23,14 +20,6 @@ page_at-requires c = lies c
 pub of_page-requires : goal.of_page-requires
 of_page-requires c =
     let a = c.args in
-    let h = lies (goal.at.of_page-requires c).In-Header in
+    let h = lies (goal.at.of_page-requires c).In_ok-ask_header in
     let w = page_within a.g (length a.dump.now) a.n.0 h in
     omega (arith, roomy_facts a.g.layout w.room, ap length c.page_at.ensures, page_length a.g a.dump.now a.n.0 h)
-
-pub returns-in-Refused : goal.returns-in-Refused
-unfolding headed_of headed_by
-returns-in-Refused c = rw (← c.ask_header-a.ensures, c.in-Refused.is)
-
-pub returns-in-Header : goal.returns-in-Header
-unfolding headed_of headed_by
-returns-in-Header c = rw (← c.ask_header-a.ensures, c.in-Header.is, ← c.page_at.ensures, c.of_page.ensures)

@@ -3,8 +3,6 @@ use Prim.Native.Nat.{◌+◌, ◌≤◌}
 use mathlib.Core.Path.{ap}
 use lib.ListN.{length}
 use native.Mathlib.Omega.{arith}
-use native.Mathlib.Nat.{add-sub_cancel_left}
-use Rattle.page.specs.Headers.{text_of}
 use Rattle.page.proofs.Layouts.{roomy_facts}
 use Rattle.page.proofs.Lengths.{page_within}
 use Rattle.page.proofs.Pages.{page_length}
@@ -27,15 +25,5 @@ within c =
       page_length a.g a.dump.now a.n.0 c.requires,
     )
 
-pub overflow_add-end : goal.overflow_add-end
-overflow_add-end c = let a = c.args in omega (arith, text_fits a.f, c.place-from.ensures, c.length.ensures)
-
 pub slice_bounds-result-end : goal.slice_bounds-result-end
 slice_bounds-result-end c = omega (arith, within c)
-
-pub returns : goal.returns
-unfolding text_of
-returns c = rw (add-sub_cancel_left, c.page_at-page.ensures, c.place-from.ensures, c.length.ensures)
-
-pub page_at-page-requires : goal.page_at-page-requires
-page_at-page-requires c = c.requires

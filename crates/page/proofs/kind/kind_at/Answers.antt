@@ -3,7 +3,6 @@ use mathlib.Core.Bool.{true}
 use mathlib.Core.Path.{◌≡◌, ◌∙◌, ap}
 use lib.ListN.{length}
 use Rattle.page.specs.Lengths.{page_in}
-use Rattle.page.specs.Kinds.{kind_at}
 use Rattle.page.proofs.Lengths.{page_within}
 use Rattle.page.proofs.Pages.{page_length}
 use Rattle.page.proofs.kind.kind_at.Goals as goal
@@ -12,19 +11,8 @@ use Rattle.page.proofs.kind.kind_at.Goals.{Else-not-holds}
 lies : (c : Else-not-holds) → page_in c.args.g (length c.args.dump.now) c.args.n.0 ≡ true
 lies c = rw (← c.holds.ensures) c.if-not-holds.false
 
-pub returns-then-not-holds : goal.returns-then-not-holds
-unfolding kind_at
-returns-then-not-holds c = rw (← c.holds.ensures, c.if-not-holds.true)
-
-pub page_at-requires : goal.page_at-requires
-page_at-requires c = lies c
-
 pub kind_on-requires : goal.kind_on-requires
 kind_on-requires c =
     let s = c.args in
     let h = lies (goal.at.kind_on-requires c).Else-not-holds in
     record { l_value = (page_within s.g (length s.dump.now) s.n.0 h).room; page_len = ap length c.page_at.ensures ∙ page_length s.g s.dump.now s.n.0 h }
-
-pub returns : goal.returns
-unfolding kind_at
-returns c = rw (lies (goal.at.returns c).Else-not-holds, ← c.page_at.ensures) c.kind_on.ensures

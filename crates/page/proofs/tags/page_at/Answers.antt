@@ -2,8 +2,6 @@
 use Prim.Native.Nat.{◌+◌, ◌*◌, ◌≤◌}
 use lib.ListN.{length}
 use native.Mathlib.Omega.{arith}
-use native.Mathlib.Nat.{add-sub_cancel_left}
-use Rattle.page.specs.Pages.{page_at}
 use Rattle.page.proofs.Lengths.{page_within}
 use Rattle.page.proofs.tags.page_at.Goals as goal
 use Rattle.page.proofs.tags.page_at.Goals.{After-struct_known-1}
@@ -19,7 +17,3 @@ overflow_add-e c = omega (arith, within c)
 
 pub slice_bounds-result-end : goal.slice_bounds-result-end
 slice_bounds-result-end c = omega (arith, within c)
-
-pub returns : goal.returns
-unfolding page_at
-returns c = simp (add-sub_cancel_left, c.page_len-size.ensures.value)

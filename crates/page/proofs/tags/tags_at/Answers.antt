@@ -9,9 +9,3 @@ pub of_page-requires : goal.of_page-requires
 of_page-requires c =
     let a = c.args in
     record { l_value = (page_within a.g (length a.dump.now) a.n.0 c.requires).room; page_len = ap length c.page_at.ensures ∙ page_length a.g a.dump.now a.n.0 c.requires }
-
-pub returns : goal.returns
-returns c = rw (← c.page_at.ensures) c.of_page.ensures
-
-pub page_at-requires : goal.page_at-requires
-page_at-requires c = c.requires

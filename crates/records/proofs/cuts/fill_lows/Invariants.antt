@@ -7,6 +7,3 @@ use Rattle.records.proofs.cuts.fill_lows.Given as goal
 
 abbrev pub invariant-loop-i : goal.invariant-loop-i
 invariant-loop-i l = Lowered (seen_by l.t (record_at l.g l.dump)) l.ages l.words l.cut l.newest l.i
-
-abbrev pub decreases-loop-i : goal.decreases-loop-i
-decreases-loop-i l = l.i

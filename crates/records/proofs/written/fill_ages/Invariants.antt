@@ -1,6 +1,5 @@
 -- The loop's invariant is `Listed`: the ages of the records passed stand in front of the words. All of them fill the words, as there are as many words
 -- as records; sorted they are `written`.
-use Prim.Native.Nat.{◌≤◌, ◌-◌}
 use Rattle.page.specs.Records.{record_at}
 use Rattle.chunk.specs.Records.{age_of}
 use Rattle.chunk.specs.Takes.{seen_by}
@@ -11,7 +10,4 @@ use Rattle.records.proofs.written.fill_ages.Given as goal
 abbrev pub invariant-loop-i : goal.invariant-loop-i
 invariant-loop-i l =
     let says = seen_by l.t (record_at l.g l.dump) in
-    (l.i ≤ l.pages) × Listed (is_record says l.o.0) (age_of says) l.initial.words l.words l.at l.i
-
-abbrev pub decreases-loop-i : goal.decreases-loop-i
-decreases-loop-i l = l.pages - l.i
+    Listed (is_record says l.o.0) (age_of says) l.initial.words l.words l.at l.i

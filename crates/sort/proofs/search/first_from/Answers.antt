@@ -1,21 +1,17 @@
-use native.Mathlib.Omega.{arith}
-use Rattle.sort.proofs.Searching.{sought_none, sought_up, sought_down, sought_end}
+use Rattle.std.proofs.Common.{rules, ltb, arith, ltb-true, ltb-false, lt-ltb}
+use Rattle.std.proofs.lemmas.List.Sorted.{IsPartitionPoint-from_clause}
+use Rattle.std.proofs.lemmas.Grind.{get_or_default_zero}
 use Rattle.sort.proofs.search.first_from.Goals as goal
 
-pub loop-low-preserved-then-words-mid : goal.loop-low-preserved-then-words-mid
-loop-low-preserved-then-words-mid c =
-    let q = c.loop-low in
-    (omega arith, q.invariant.1, λ s. sought_up _ _ _ _ _ s (q.invariant.2 s) (omega (arith, q.invariant.1)) c.if-words-mid.true)
-
-pub loop-low-preserved : goal.loop-low-preserved
-loop-low-preserved c =
-    let q = c.loop-low in
-    (omega arith, omega (arith, q.invariant.1), λ s. sought_down _ _ _ _ _ s (q.invariant.2 s) (omega arith) (omega (arith, q.invariant.1)) c.if-words-mid.false)
-
-pub returns : goal.returns
-returns c =
-    let q = c.loop-low.invariant in
-    record { upper_bound = omega (arith, q.0, q.1); parted = λ s. sought_end _ _ _ _ (q.2 s) c.loop-low-test.false }
-
-pub loop-low-init : goal.loop-low-init
-loop-low-init c = (omega arith, omega arith, λ s. sought_none _ _)
+pub returns-clause-parted : goal.returns-clause-parted
+returns-clause-parted c = λ s.
+    let words = c.args.words.now in
+    let x = c.args.x in
+    let p = IsPartitionPoint-from_clause (λ y. ltb y x) words c.partition_point.result c.partition_point.ensures.partitioned
+    (λ i j d h k below. lt-ltb _ _ (omega (arith, s.rise i j h k, ltb-true _ _ below, get_or_default_zero words i d (omega arith), get_or_default_zero words j d k)))
+    (λ a r q k. search rules) in
+    record {
+      inside = c.partition_point.ensures.bound;
+      low = λ i h. ltb-true _ _ (p.0 i 0 (omega arith) h);
+      high = λ i h k. ltb-false _ _ (p.1 i 0 h k);
+    }

@@ -1,15 +1,11 @@
 -- The figures are those under the layout that was found, under which the dump is accepted.
-use mathlib.Core.Path.{sym, ◌∙◌}
+use mathlib.Core.Path.{sym}
 use Rattle.page.proofs.Finding.{found_opens}
 use Rattle.summary.specs.Figures.{figured_by, figured_of, figured_on}
 use Rattle.summary.proofs.figures.figures_of.Goals as goal
 
-pub returns-in-Refused : goal.returns-in-Refused
-unfolding figured_by figured_of
-returns-in-Refused c = rw (← c.find-found.ensures, c.in-Refused.is)
-
-pub returns-in-Layout : goal.returns-in-Layout
+pub returns : goal.returns
 unfolding figured_by figured_of figured_on
-returns-in-Layout c =
-    let e = sym c.find-found.ensures ∙ c.in-Layout.is in
+returns c =
+    let e = sym c.in_ok-layout.ensures in
     rw e (rw (found_opens c.args.dump.now c.args.k _ e) at c.figures_on.ensures)

@@ -1,18 +1,14 @@
--- A byte within the lent bytes is stored. One past their end changes nothing, and the position goes on as far as positions count.
-use mathlib.Core.Path.{refl}
-use native.Mathlib.Omega.{arith}
+-- A byte within the lent bytes is stored, and one past their end changes nothing.
+use Rattle.std.proofs.Common.{arith, [], ◌∷◌, ◌∙◌}
 use Rattle.text.specs.Put.{over, counted}
-use Rattle.text.proofs.Putting.{left_out_lem}
+use Rattle.text.proofs.Putting.{out_past}
 use Rattle.text.proofs.put.put_byte.Goals as goal
-
-pub returns-then-at-buf : goal.returns-then-at-buf
-unfolding over counted
-returns-then-at-buf c = record { short = omega arith; holds = refl; behind = omega arith }
-
-pub returns-then-at-lt-MOST : goal.returns-then-at-lt-MOST
-unfolding counted
-returns-then-at-lt-MOST c = left_out_lem _ _ _ _ (omega arith) c.if-at-buf.false (omega arith)
+use Rattle.text.proofs.put.put_byte.Goals.{then-at-buf, else-at-buf}
 
 pub returns : goal.returns
-unfolding counted
-returns c = left_out_lem _ _ _ _ (omega arith) c.if-at-buf.false (omega arith)
+unfolding over counted
+returns c = record {
+  short = omega arith;
+  holds = elim c.if-at-buf.branch [ then-at-buf w ↦ w.buf-is | else-at-buf w ↦ w.buf-is ∙ out_past (c.args.x ∷ []) c.args.buf.now c.args.at w.if-at-buf.false ];
+  behind = omega (arith, c.saturating_add.ensures);
+}

@@ -1,17 +1,14 @@
--- Past the end it is counted; where it fits it is copied; else it is put byte by byte.
-use native.Mathlib.Omega.{arith}
-use Rattle.text.proofs.Putting.{past_end, copied}
+-- Within the lent bytes as much is copied as there is room for, and past their end nothing changes.
+use Rattle.std.proofs.Common.{arith, rules, ◌∙◌}
+use Rattle.text.specs.Put.{counted}
+use Rattle.text.proofs.Putting.{out_past, copied_part}
 use Rattle.text.proofs.put.put_text.Goals as goal
-
-pub returns-then-buf-at : goal.returns-then-buf-at
-returns-then-buf-at c =
-    let a = c.args in
-    past_end a.text.now a.buf.now a.at _ (omega arith) c.if-buf-at.true c.past.ensures
-
-pub returns-then-text-buf : goal.returns-then-text-buf
-returns-then-text-buf c =
-    let a = c.args in
-    copied a.text.now a.buf.now _ a.at (omega arith) (omega (arith, c.if-text-buf.true, c.if-buf-at.false)) c.copy.ensures
+use Rattle.text.proofs.put.put_text.Goals.{then-at-buf, else-at-buf}
 
 pub returns : goal.returns
-returns c = c.put_bytes.ensures
+unfolding counted
+returns c = record {
+  short = omega arith;
+  holds = elim c.if-at-buf.branch [ then-at-buf w ↦ w.buf-is ∙ copied_part c.args.text.now c.args.buf.now _ c.args.at w.min-fitting.result _ w.if-at-buf.true w.min-fitting.ensures (omega arith) (w.copy.ensures.whole (search rules)) | else-at-buf w ↦ w.buf-is ∙ out_past c.args.text.now c.args.buf.now c.args.at w.if-at-buf.false ];
+  behind = omega (arith, c.saturating_add.ensures);
+}

@@ -2,7 +2,6 @@ use Prim.Native.Nat.{◌≤◌}
 use mathlib.Core.Bool.{true, false}
 use mathlib.Core.Path.{◌≡◌, sym, ap, ◌∙◌}
 use native.Mathlib.Omega.{arith}
-use borrow.Author.Rules.{rules}
 use lib.ListN.{length}
 use Rattle.page.specs.Records.{is_header}
 use Rattle.page.proofs.Sound.{else_header}
@@ -11,7 +10,7 @@ use Rattle.chunk.specs.Live.{passed, ids_of}
 use Rattle.chunk.specs.Records.{is_gone}
 use Rattle.chunk.proofs.Living.{passed_none, passed_skip, passed_take, passed_length}
 use Rattle.text.specs.Put.{Put}
-use Rattle.text.proofs.Putting.{nothing, also, kept}
+use Rattle.text.proofs.Putting.{nothing, also}
 use Rattle.tree.specs.Children.{is_child, child_row, child_rows}
 use Rattle.tree.specs.Heads.{said_at}
 use Rattle.tree.specs.Objects.{says_by}
@@ -26,7 +25,7 @@ loop-i-preserved-then-key_of-eq-ROOT c =
     let a = c.args in
     let says = says_by a.g a.dump.now a.t in
     let t = root_no_child says a.heads.now q.i (sym c.key_of.ensures ∙ c.if-key_of-eq-ROOT.true) in
-    (search rules, rw (passed_skip (is_child says a.heads.now) (child_row says a.heads.now) q.i t) q.invariant.1)
+    rw (passed_skip (is_child says a.heads.now) (child_row says a.heads.now) q.i t) q.invariant
 
 -- the header that a row names is the newest of its object
 names : (k : After-seen_at-r) → said_at (says_by k.args.g k.args.dump.now k.args.t) k.args.heads.now k.loop-i.i ≡ k.seen_at-r.result
@@ -39,7 +38,7 @@ loop-i-preserved-in_default c =
     let a = c.args in
     let says = says_by a.g a.dump.now a.t in
     let t = page_no_child says a.heads.now q.i (rw said (else_header c.seen_at-r.result c.in_default.not-Header)) in
-    (search rules, rw (passed_skip (is_child says a.heads.now) (child_row says a.heads.now) q.i t) q.invariant.1)
+    rw (passed_skip (is_child says a.heads.now) (child_row says a.heads.now) q.i t) q.invariant
 
 pub loop-i-preserved-then-gone_under : goal.loop-i-preserved-then-gone_under
 loop-i-preserved-then-gone_under c =
@@ -50,7 +49,7 @@ loop-i-preserved-then-gone_under c =
     let e : is_gone (said_at says a.heads.now q.i) ≡ true =
     ap is_gone (said ∙ c.in-Header.is) ∙ sym c.gone_under.ensures ∙ c.if-gone_under.true in
     let t = deleted_no_child says a.heads.now q.i e in
-    (search rules, rw (passed_skip (is_child says a.heads.now) (child_row says a.heads.now) q.i t) q.invariant.1)
+    rw (passed_skip (is_child says a.heads.now) (child_row says a.heads.now) q.i t) q.invariant
 
 pub loop-i-preserved : goal.loop-i-preserved
 loop-i-preserved c =
@@ -64,7 +63,7 @@ loop-i-preserved c =
     let r : c.pack.result ≡ child_row says a.heads.now q.i =
     c.pack.ensures ∙ sym (child_row_lem says a.heads.now q.i _ e) in
     let more = passed_take (is_child says a.heads.now) (child_row says a.heads.now) q.i t in
-    (search rules, rw (more, ← r) (also q.invariant.1 c.put_row-at.ensures))
+    rw (more, ← r) (also q.invariant c.put_row-at.ensures)
 
 -- once all heads are passed, the rows of all children were put
 put_all : (l : After-sort) →
@@ -72,8 +71,8 @@ put_all : (l : After-sort) →
     Put (passed (is_child says l.args.heads.now) (child_row says l.args.heads.now) (length l.args.heads.now)) l.args.rows.now 0 l.loop-i.rows l.loop-i.at
 put_all l =
     let q = l.loop-i in
-    let e : q.i ≡ length l.args.heads.now = omega (arith, l.loop-i-test.false, q.invariant.0) in
-    rw e at q.invariant.1
+    let e : q.i ≡ length l.args.heads.now = omega arith in
+    rw e at q.invariant
 
 -- and are no more than the heads
 fits : (l : After-sort) →
@@ -95,10 +94,4 @@ returns c =
     }
 
 pub loop-i-init : goal.loop-i-init
-loop-i-init c = (search rules, rw passed_none (nothing _ _ (omega arith) (omega arith)))
-
-pub overflow_cast-place : goal.overflow_cast-place
-overflow_cast-place c = record { fits = omega (arith, c.loop-i-test.true, c.requires.heads_len_bound) }
-
-pub shape_of-rows : goal.shape_of-rows
-shape_of-rows c = c.sort.auto.words ∙ kept c.loop-i.invariant.1
+loop-i-init c = rw passed_none (nothing _ _ (omega arith) (omega arith))

@@ -1,4 +1,4 @@
-use mathlib.Core.Path.{refl, ◌∙◌}
+use mathlib.Core.Path.{◌∙◌}
 use Rattle.tree.proofs.Climbing.{raised_some, raised_doubled, raised_enough}
 use Rattle.tree.proofs.climb.climb.Goals as goal
 
@@ -14,9 +14,3 @@ loop-steps-preserved c =
 
 pub returns : goal.returns
 returns c = let q = c.loop-steps in raised_enough _ q.steps _ q.ways q.invariant.1 c.loop-steps-test.false
-
-pub loop-steps-init : goal.loop-steps-init
-loop-steps-init c = (refl, λ says n heads w. w)
-
-pub shape_of-ways : goal.shape_of-ways
-shape_of-ways c = c.loop-steps.invariant.0

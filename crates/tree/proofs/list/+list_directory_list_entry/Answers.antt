@@ -30,12 +30,6 @@ list_directory-loop-i-init t c =
     done_none says names a.pages a.heads.now a.children.now a.depth a.key a.directory a.at a.rows.now _ _ between
     (omega arith) (omega (arith, c.ranges.at))
 
--- an entry is listed with one step less
-pub list_directory-list_entry-next-requires : goal.list_directory-list_entry-next-requires
-list_directory-list_entry-next-requires t c =
-    let inside = c.loop-i.invariant.segment.inside in
-    (omega arith, (c.requires.heads, (c.requires.children_value, omega (arith, c.loop-i-test.true, inside))))
-
 pub list_directory-loop-i-preserved : goal.list_directory-loop-i-preserved
 list_directory-loop-i-preserved t c =
     done_more _ _ _ _ _ _ _ _ _ _ _ _ _ _ _ c.loop-i.invariant _ _ c.loop-i-test.true c.list_entry-next.ensures
@@ -78,10 +72,6 @@ pub list_entry-returns-then-not-is_standing : goal.list_entry-returns-then-not-i
 list_entry-returns-then-not-is_standing t c =
     plain_put _ _ _ _ _ c.requires.heads _ _ _ _ _ _ _ (learnt t (goal.at.list_entry-returns-then-not-is_standing t c).After-is_standing)
     _ _ _ _ _ c.put_row-next.ensures c.if-not-is_standing.true
-
--- a directory is listed in turn
-pub list_entry-list_directory-requires : goal.list_entry-list_directory-requires
-list_entry-list_directory-requires t c = (omega arith, (c.requires.heads, c.requires.children_value))
 
 pub list_entry-returns : goal.list_entry-returns
 list_entry-returns t c =

@@ -1,20 +1,12 @@
-use native.Mathlib.Nat.{le_antisymm}
 use native.Mathlib.Omega.{arith}
-use borrow.Author.Rules.{rules}
-use Rattle.text.proofs.Putting.{nothing, also, kept}
+use Rattle.text.proofs.Putting.{nothing, also}
 use Rattle.tree.proofs.Texting.{lines_none, lines_more}
 use Rattle.tree.proofs.texts.put_lines.Goals as goal
 
 pub loop-i-init : goal.loop-i-init
-loop-i-init c = (search rules, rw lines_none (nothing _ _ (omega arith) (omega arith)))
+loop-i-init c = rw lines_none (nothing _ _ (omega arith) (omega arith))
 
 pub loop-i-preserved : goal.loop-i-preserved
 loop-i-preserved c =
     let q = c.loop-i in
-    (search rules, rw lines_more (also q.invariant.1 c.put_row_lines-next.ensures))
-
-pub shape_of-buf : goal.shape_of-buf
-shape_of-buf c = kept c.loop-i.invariant.1
-
-pub returns : goal.returns
-returns c = let q = c.loop-i in rw (le_antisymm q.invariant.0 c.loop-i-test.false) at q.invariant.1
+    rw lines_more (also q.invariant c.put_row_lines-next.ensures)

@@ -1,11 +1,6 @@
 -- The name stands in front of the bytes of its field, and they are put.
-use mathlib.Core.Path.{sym}
-use lib.Seq.{length-take-le}
 use Rattle.tree.proofs.Texting.{name_put}
 use Rattle.tree.proofs.texts.put_name.Goals as goal
-
-pub slice_bounds-put_text-end : goal.slice_bounds-put_text-end
-slice_bounds-put_text-end c = sym (length-take-le _ _ c.name_length-end.ensures.upper_bound)
 
 pub returns : goal.returns
 returns c =

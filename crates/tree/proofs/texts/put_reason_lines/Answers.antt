@@ -6,7 +6,7 @@ use Rattle.tree.proofs.texts.put_reason_lines.Goals as goal
 pub returns : goal.returns
 unfolding reason_lines
 returns c =
-    rw (← c.key_of.ensures, ← c.of.ensures)
+    rw (← c.key_of.ensures, ← c.into.ensures)
     (also
     (also (also c.put_object-key.ensures c.put_text-words.ensures) c.put_words-end.ensures)
     c.put_byte.ensures)

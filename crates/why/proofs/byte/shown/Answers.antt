@@ -1,35 +1,26 @@
--- A page that is not in the dump shows nothing, nor does a byte that is none of its data bytes. Another lies in the dump, at the page's begin and as many
--- bytes further.
+-- A byte that is shown lies in the dump, at the page's begin and as many bytes further.
 use Prim.Native.Nat.{◌+◌, ◌*◌, ◌<◌}
 use mathlib.Core.Bool.{true}
 use mathlib.Core.Path.{◌≡◌, sym, ◌∙◌}
 use native.Mathlib.Omega.{arith}
-use borrow.Author.Tests.{lt-ltb, le-ltb}
+use borrow.Author.Tests.{lt-ltb}
 use lib.ListN.{length}
 use Rattle.page.specs.Lengths.{page_in}
 use Rattle.why.proofs.Finding.{byte_inside, byte_there}
 use Rattle.why.proofs.byte.shown.Goals as goal
 use Rattle.why.proofs.byte.shown.Goals.{After-page_len}
 
-pub returns-then-not-holds : goal.returns-then-not-holds
-returns-then-not-holds c = rw (c.in-Held.is, ← c.holds.ensures, c.if-not-holds.true)
-
-pub returns-then-g-at : goal.returns-then-g-at
-returns-then-g-at c = rw (c.in-Held.is, ← c.holds.ensures, c.if-not-holds.false, le-ltb _ _ c.if-g-at.true)
-
 -- behind both tests: the page lies in the dump, and so does the byte
 there : (c : After-page_len) → page_in c.args.g (length c.args.dump.now) c.in-Held.p.0 ≡ true
 there c = sym c.holds.ensures ∙ c.if-not-holds.false
 
 inside : (c : After-page_len) → c.in-Held.p.0 * c.page_len.result + c.in-Held.at < length c.args.dump.now
-inside c =
-    let there : page_in c.args.g (length c.args.dump.now) c.in-Held.p.0 ≡ true = sym c.holds.ensures ∙ c.if-not-holds.false in
-    rw c.page_len.ensures.value (byte_inside c.args.g c.args.dump.now c.in-Held.p.0 c.in-Held.at there c.if-g-at.false)
+inside c = rw c.page_len.ensures.value (byte_inside c.args.g c.args.dump.now c.in-Held.p.0 c.in-Held.at (there c) c.if-g-at.false)
 
 pub returns-else-g-at : goal.returns-else-g-at
 returns-else-g-at c =
-    rw (c.in-Held.is, there (goal.at.returns-else-g-at c).After-page_len, lt-ltb _ _ c.if-g-at.false, c.page_len.ensures.value)
-    (sym (byte_there c.args.g c.args.dump.now c.in-Held.p.0 c.in-Held.at (there (goal.at.returns-else-g-at c).After-page_len) c.if-g-at.false))
+    let there = there (goal.at.returns-else-g-at c).After-page_len in
+    rw (c.in-Held.is, there, lt-ltb _ _ c.if-g-at.false, c.page_len.ensures.value) (sym (byte_there c.args.g c.args.dump.now c.in-Held.p.0 c.in-Held.at there c.if-g-at.false))
 
 pub overflow_mul-i : goal.overflow_mul-i
 overflow_mul-i c = omega (arith, inside c)

@@ -1,5 +1,5 @@
 -- The loop's invariant: the newest page of those passed that sets the size. One whose tags name another object sets it only as the newest header.
-use Prim.Native.Nat.{ℕ, ◌≤◌, ◌-◌}
+use Prim.Native.Nat.{ℕ}
 use mathlib.Core.Bool.{Bool}
 use mathlib.Core.Path.{◌≡◌}
 use Rattle.page.specs.Records.{record_at}
@@ -17,7 +17,4 @@ sets says P o h age size p = sets_by P o h age size p (says p)
 abbrev pub invariant-loop-i : goal.invariant-loop-i
 invariant-loop-i l =
     let says = seen_by l.t (record_at l.g l.dump) in
-    (l.i ≤ l.pages) × (l.best ≡ newest_in says (newest_where says (sets says l.g.layout.«data» l.o.0 l.h.0 l.age l.size) l.i))
-
-abbrev pub decreases-loop-i : goal.decreases-loop-i
-decreases-loop-i l = l.pages - l.i
+    l.best ≡ newest_in says (newest_where says (sets says l.g.layout.«data» l.o.0 l.h.0 l.age l.size) l.i)

@@ -1,36 +1,35 @@
-use Prim.Native.Nat.{◌<◌}
+use Prim.Native.Nat.{◌<◌, ◌≤◌}
 use mathlib.Core.Path.{◌≡◌, sym, ◌∙◌}
 use native.Mathlib.Omega.{arith}
-use lib.ListN.{get_or}
+use lib.ListN.{get_or, length}
 use Rattle.page.specs.Records.{record_at}
 use Rattle.chunk.specs.Takes.{seen_by}
 use Rattle.why.specs.Codes.{code_of}
 use Rattle.why.specs.Marks.{places}
 use Rattle.why.specs.Sweeps.{reason_seen}
-use Rattle.sort.proofs.Clearing.{clear_inside}
-use Rattle.why.proofs.InPlace.{SeenBelow, taken_below, sweep_none, mark_inside, code_below, sweep_goes, sweep_past, sweep_same, sweep_row, sweep_end}
+use Rattle.why.proofs.InPlace.{SeenBelow, taken_below, sweep_none, mark_inside, code_below, sweep_goes, sweep_past, sweep_same, sweep_row, sweep_end, zeros_behind}
 use Rattle.why.proofs.sweep.sweep.Goals as goal
-use Rattle.why.proofs.sweep.sweep.Goals.{After-place_of-x, After-code-code}
+use Rattle.why.proofs.sweep.sweep.Goals.{After-place_of-x, After-code-code, then-goes_on-via-then-goes_on, then-goes_on-via-else-goes_on+then-size-x}
 
 pub bounds-rows-j : goal.bounds-rows-j
-bounds-rows-j c = omega (arith, c.loop-j.invariant.long, c.requires.count_in_bounds, c.loop-j-test.true)
+bounds-rows-j c = omega (arith, c.loop-j.invariant.long, c.loop-j-test.true)
 
 -- the place of the mark is before the last
 inside : (c : After-place_of-x) → c.place_of-x.result < places
 inside c =
     let q = c.loop-j in
     rw c.place_of-x.ensures
-    (mark_inside c.requires.count_in_bounds q.invariant c.requires.every c.loop-j-test.true)
+    (mark_inside q.invariant c.requires.every c.loop-j-test.true)
 
 pub loop-j-preserved-then-goes_on : goal.loop-j-preserved-then-goes_on
 loop-j-preserved-then-goes_on c =
     let q = c.loop-j in
-    sweep_goes c.requires.count_in_bounds q.invariant c.loop-j-test.true c.taking-seen.ensures c.place_of-x.ensures (sym c.goes_on.ensures ∙ c.if-goes_on.true)
-
-pub loop-j-preserved-then-size-x : goal.loop-j-preserved-then-size-x
-loop-j-preserved-then-size-x c =
-    let q = c.loop-j in
-    sweep_past c.requires.count_in_bounds q.invariant c.loop-j-test.true c.taking-seen.ensures c.place_of-x.ensures (sym c.goes_on.ensures ∙ c.if-goes_on.false) c.if-size-x.true
+    elim c.then-goes_on.branch [
+      | then-goes_on-via-then-goes_on w ↦
+          sweep_goes q.invariant c.loop-j-test.true c.taking-seen.ensures c.place_of-x.ensures (sym c.goes_on.ensures ∙ w.if-goes_on.true)
+      | then-goes_on-via-else-goes_on+then-size-x w ↦
+          sweep_past q.invariant c.loop-j-test.true c.taking-seen.ensures c.place_of-x.ensures (sym c.goes_on.ensures ∙ w.if-goes_on.false) w.if-size-x.true
+    ]
 
 pub reason-requires : goal.reason-requires
 reason-requires c = record { data_nonzero = c.requires.data_nonzero; x_lt_places = inside (goal.at.reason-requires c).After-place_of-x }
@@ -43,7 +42,7 @@ coded c = rw (← c.reason.ensures) c.code-code.ensures
 pub loop-j-preserved-then-code-last : goal.loop-j-preserved-then-code-last
 loop-j-preserved-then-code-last c =
     let q = c.loop-j in
-    sweep_same c.requires.count_in_bounds q.invariant c.loop-j-test.true c.taking-seen.ensures c.place_of-x.ensures (sym c.goes_on.ensures ∙ c.if-goes_on.false) c.if-size-x.false (coded (goal.at.loop-j-preserved-then-code-last c).After-code-code) c.if-code-last.true
+    sweep_same q.invariant c.loop-j-test.true c.taking-seen.ensures c.place_of-x.ensures (sym c.goes_on.ensures ∙ c.if-goes_on.false) c.if-size-x.false (coded (goal.at.loop-j-preserved-then-code-last c).After-code-code) c.if-code-last.true
 
 pub row-requires : goal.row-requires
 row-requires c =
@@ -56,34 +55,19 @@ row-requires c =
 pub loop-j-preserved : goal.loop-j-preserved
 loop-j-preserved c =
     let q = c.loop-j in
-    sweep_row c.requires.count_in_bounds q.invariant c.loop-j-test.true c.taking-seen.ensures c.place_of-x.ensures (sym c.goes_on.ensures ∙ c.if-goes_on.false) c.if-size-x.false (coded (goal.at.loop-j-preserved c).After-code-code) c.if-code-last.false c.row.ensures
+    sweep_row q.invariant c.loop-j-test.true c.taking-seen.ensures c.place_of-x.ensures (sym c.goes_on.ensures ∙ c.if-goes_on.false) c.if-size-x.false (coded (goal.at.loop-j-preserved c).After-code-code) c.if-code-last.false c.row.ensures
 
 pub bounds-rows-at : goal.bounds-rows-at
 bounds-rows-at c =
     let q = c.loop-j in
-    omega (arith, q.invariant.order, q.invariant.long, c.loop-j-test.true, c.requires.count_in_bounds)
-
-pub overflow_cast-result : goal.overflow_cast-result
-overflow_cast-result c =
-    let q = c.loop-j in
-    record { fits = omega (arith, q.invariant.order, q.invariant.inside, c.requires.count_bound) }
+    omega (arith, q.invariant.order, q.invariant.long, c.loop-j-test.true)
 
 pub returns : goal.returns
 returns c =
     let q = c.loop-j in
-    let told =
-    sweep_end c.requires.count_in_bounds q.invariant
-    (c.clear.ensures
-    ∙ clear_inside q.at c.args.count q.rows (omega (arith, q.invariant.order, q.invariant.inside)) (omega (arith, q.invariant.long, c.requires.count_in_bounds)))
-    c.loop-j-test.false
-    in
+    let fits : q.at ≤ length q.rows = omega (arith, q.invariant.order, q.invariant.long, c.loop-j.auto.j-end) in
+    let told = sweep_end q.invariant fits (zeros_behind q.at q.rows _ fits (c.fill.ensures.after (λ y e. e))) c.loop-j-test.false in
     record { value = told.0; rows_after = told.1 }
 
 pub loop-j-init : goal.loop-j-init
-loop-j-init c = sweep_none _ _ _ _ _
-
-pub goes_on-requires : goal.goes_on-requires
-goes_on-requires c = omega (arith, c.loop-j.invariant.long, c.requires.count_in_bounds)
-
-pub shape_of-rows : goal.shape_of-rows
-shape_of-rows c = c.rows-1.given ∙ c.loop-j.invariant.long
+loop-j-init c = sweep_none _ _ _ _

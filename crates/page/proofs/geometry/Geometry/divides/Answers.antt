@@ -2,7 +2,6 @@
 use Prim.Native.Nat.{◌*◌, ◌≤◌}
 use native.Mathlib.Omega.{arith}
 use Rattle.page.specs.Layouts.{most_bytes}
-use Rattle.page.specs.Lengths.{whole_blocks}
 use Rattle.page.proofs.Layouts.{product_le, product_pos, Roomy, roomy_facts}
 use Rattle.page.proofs.Lengths.{block_some, block_most}
 use Rattle.page.proofs.geometry.Geometry.divides.Goals as goal
@@ -20,7 +19,3 @@ overflow_mul-block c =
 
 pub nonzero_rem-result : goal.nonzero_rem-result
 nonzero_rem-result c = product_pos (block_some c.args.self.block c.requires.block_value) (omega (arith, room c, c.page_len.ensures.value))
-
-pub returns : goal.returns
-unfolding whole_blocks
-returns c = rw c.page_len.ensures.value

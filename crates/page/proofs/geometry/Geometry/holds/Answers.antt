@@ -2,7 +2,6 @@
 use Prim.Native.Nat.{◌*◌, ◌≤◌}
 use native.Mathlib.Omega.{arith}
 use Rattle.page.specs.Layouts.{most_bytes}
-use Rattle.page.specs.Lengths.{page_in}
 use Rattle.page.proofs.Layouts.{product_le, roomy_facts}
 use Rattle.page.proofs.geometry.Geometry.holds.Goals as goal
 use Rattle.page.proofs.geometry.Geometry.holds.Goals.{After-struct_known-1}
@@ -18,11 +17,3 @@ overflow_mul-result c = omega (arith, place c, c.page_len-size.ensures.upper_bou
 
 pub overflow_add-result : goal.overflow_add-result
 overflow_add-result c = omega (arith, place c, c.page_len-size.ensures.upper_bound)
-
-pub returns-then-not-has_room : goal.returns-then-not-has_room
-unfolding page_in
-returns-then-not-has_room c = rw (← c.has_room.ensures, c.if-not-has_room.true)
-
-pub returns : goal.returns
-unfolding page_in
-returns c = rw (← c.has_room.ensures, c.if-not-has_room.false, c.page_len-size.ensures.value)

@@ -3,35 +3,17 @@ use mathlib.Core.Bool.{true}
 use mathlib.Core.Path.{◌≡◌}
 use native.Mathlib.Omega.{arith}
 use native.Mathlib.Nat.{div-le_self}
-use borrow.Author.Tests.{le-leb, lt-leb}
 use Rattle.page.specs.Layouts.{layout_of, roomy}
-use Rattle.page.specs.Lengths.{opened_of}
 use Rattle.page.proofs.Layouts.{listed_roomy, roomy_facts}
 use Rattle.page.proofs.Lengths.{length_most}
 use Rattle.page.proofs.geometry.Geometry.opened_of.Goals as goal
 use Rattle.page.proofs.geometry.Geometry.opened_of.Goals.{Else-not-length_fits}
-
-pub returns-then-number-ge-COUNT : goal.returns-then-number-ge-COUNT
-unfolding opened_of
-returns-then-number-ge-COUNT c = rw (← c.number.ensures, le-leb _ _ c.if-number-ge-COUNT.true)
-
-pub returns-then-not-block_fits : goal.returns-then-not-block_fits
-unfolding opened_of
-returns-then-not-block_fits c = rw (← c.number.ensures, lt-leb _ _ c.if-number-ge-COUNT.false, ← c.block_fits.ensures, c.if-not-block_fits.true)
-
-pub returns-then-not-length_fits : goal.returns-then-not-length_fits
-unfolding opened_of
-returns-then-not-length_fits c = rw (← c.number.ensures, lt-leb _ _ c.if-number-ge-COUNT.false, ← c.block_fits.ensures, c.if-not-block_fits.false, ← c.length_fits.ensures, c.if-not-length_fits.true)
 
 has_room : (c : Else-not-length_fits) → roomy (let a = c.args in layout_of a.«data» a.spare a.tag) ≡ true
 has_room c = listed_roomy (let a = c.args in layout_of a.«data» a.spare a.tag) (rw (← c.number.ensures) c.if-number-ge-COUNT.false)
 
 pub divides-requires : goal.divides-requires
 divides-requires c = record { layout_value = has_room c; block_value = rw (← c.block_fits.ensures) c.if-not-block_fits.false }
-
-pub returns-then-not-divides : goal.returns-then-not-divides
-unfolding opened_of
-returns-then-not-divides c = rw (← c.number.ensures, lt-leb _ _ c.if-number-ge-COUNT.false, ← c.block_fits.ensures, c.if-not-block_fits.false, ← c.length_fits.ensures, c.if-not-length_fits.false, ← c.divides.ensures, c.if-not-divides.true)
 
 pub nonzero_div-result : goal.nonzero_div-result
 nonzero_div-result c = omega (arith, roomy_facts _ (has_room (goal.at.nonzero_div-result c).Else-not-length_fits), c.page_len.ensures.value)
@@ -41,7 +23,3 @@ overflow_cast-result c =
     let a = c.args in
     let m = length_most a.len (rw (← c.length_fits.ensures) c.if-not-length_fits.false) in
     omega (arith, div-le_self a.len c.page_len.result)
-
-pub returns : goal.returns
-unfolding opened_of
-returns c = rw (← c.number.ensures, lt-leb _ _ c.if-number-ge-COUNT.false, ← c.block_fits.ensures, c.if-not-block_fits.false, ← c.length_fits.ensures, c.if-not-length_fits.false, ← c.divides.ensures, c.if-not-divides.false, c.page_len.ensures.value)

@@ -1,16 +1,9 @@
--- The page count decides, where the dump has one.
-use borrow.Author.Tests.{le-leb, lt-leb}
+-- A refused dump has no page.
+use mathlib.Core.Path.{◌∙◌}
 use Rattle.page.specs.Lengths.{placed_of, placed_in}
+use Rattle.page.proofs.Passing.{passed_on}
 use Rattle.page.proofs.geometry.Geometry.placed.Goals as goal
 
-pub returns-then-count-n : goal.returns-then-count-n
+pub returns-in_err-count : goal.returns-in_err-count
 unfolding placed_of placed_in
-returns-then-count-n c = rw (← c.opened_of-o.ensures, c.in-Pages.is, le-leb _ _ c.if-count-n.true)
-
-pub returns-in-Refused : goal.returns-in-Refused
-unfolding placed_of placed_in
-returns-in-Refused c = rw (← c.opened_of-o.ensures, c.in-Refused.is)
-
-pub returns-else-count-n : goal.returns-else-count-n
-unfolding placed_of placed_in
-returns-else-count-n c = rw (← c.opened_of-o.ensures, c.in-Pages.is, lt-leb _ _ c.if-count-n.false)
+returns-in_err-count c = passed_on _ c.from_residual.ensures.1 ∙ rw (← c.in_err-count.ensures)

@@ -1,5 +1,0 @@
--- Each arm of the match is a case of the definition.
-use Rattle.chunk.proofs.moment.Moment.is_missing.Goals as goal
-
-pub returns-in-Before : goal.returns-in-Before
-returns-in-Before c = rw c.in-Before.is

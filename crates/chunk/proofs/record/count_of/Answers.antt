@@ -1,5 +1,0 @@
--- Each arm of the match is a case of the definition.
-use Rattle.chunk.proofs.record.count_of.Goals as goal
-
-pub returns-in-Data : goal.returns-in-Data
-returns-in-Data c = rw c.in-Data.is

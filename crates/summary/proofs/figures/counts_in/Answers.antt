@@ -1,8 +1,0 @@
--- Each case is its own.
-use Rattle.summary.proofs.figures.counts_in.Goals as goal
-
-pub returns-in-Counts : goal.returns-in-Counts
-returns-in-Counts c = rw c.in-Counts.is
-
-pub returns-in-Refused : goal.returns-in-Refused
-returns-in-Refused c = rw c.in-Refused.is
