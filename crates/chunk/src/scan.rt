@@ -48,9 +48,10 @@ pub fn newest_page(dump: &[u8], g: Geometry, t: Takes, pages: u32, o: ObjectId, 
             continue;
         }
         let r = seen_at(dump, g, t, n);
-        if is_wanted(r, o, w) {
-            best = newer(best, n, order_of(sequence_of(r), n));
+        if !is_wanted(r, o, w) {
+            continue;
         }
+        best = newer(best, n, order_of(sequence_of(r), n));
     }
     best
 }

@@ -1,4 +1,4 @@
-use mathlib.Core.Bool.{false}
+use mathlib.Core.Bool.{true, false}
 use mathlib.Core.Path.{◌≡◌, sym, ap, ◌∙◌}
 use native.Mathlib.Omega.{arith}
 use Rattle.page.specs.Records.{record_at}
@@ -10,7 +10,6 @@ use Rattle.chunk.specs.Scans.{wanted, newest_in}
 use Rattle.chunk.proofs.Records.{seen_unnamed}
 use Rattle.chunk.proofs.Gathering.{where_none, where_skip, where_take, later_in_lem}
 use Rattle.chunk.proofs.scan.newest_page.Goals as goal
-use Rattle.chunk.proofs.scan.newest_page.Goals.{then-is_wanted, else-is_wanted}
 
 pub loop-i-init : goal.loop-i-init
 loop-i-init c = rw where_none
@@ -24,22 +23,30 @@ loop-i-preserved-then-not-names_object c =
     let t : is_of a.o.0 (says q.i) ≡ false = seen_unnamed a.g a.dump.now q.i a.o.0 u a.t in
     (q.invariant ∙ ap (newest_in says) (sym (where_skip says (λ p. wanted a.o.0 a.w (says p)) q.i (rw t))))
 
+pub loop-i-preserved-then-not-is_wanted : goal.loop-i-preserved-then-not-is_wanted
+loop-i-preserved-then-not-is_wanted c =
+    let q = c.loop-i in
+    let a = c.args in
+    let says = seen_by a.t (record_at a.g a.dump.now) in
+    let t : wanted a.o.0 a.w (says q.i) ≡ false =
+    rw (← c.seen_at-r.ensures, ← c.is_wanted.ensures) c.if-not-is_wanted.true
+    in
+    (q.invariant ∙ ap (newest_in says) (sym (where_skip says (λ p. wanted a.o.0 a.w (says p)) q.i t)))
+
 pub loop-i-preserved : goal.loop-i-preserved
 loop-i-preserved c =
     let q = c.loop-i in
     let a = c.args in
     let says = seen_by a.t (record_at a.g a.dump.now) in
     let test = wanted a.o.0 a.w in
-    let tested : test (says q.i) ≡ c.is_wanted.result = rw (← c.seen_at-r.ensures) (sym c.is_wanted.ensures) in
-    elim c.if-is_wanted.branch [
-      | then-is_wanted w ↦
-          let g : w.order_of.result ≡ age_of says q.i = rw (← c.seen_at-r.ensures, ← w.sequence_of.ensures) w.order_of.ensures in
-          w.best-is
-          ∙ w.newer-best.ensures
+    let t : test (says q.i) ≡ true =
+    rw (← c.seen_at-r.ensures, ← c.is_wanted.ensures) c.if-not-is_wanted.false
+    in
+    let g : c.order_of.result ≡ age_of says q.i = rw (← c.seen_at-r.ensures, ← c.sequence_of.ensures) c.order_of.ensures in (
+      c.newer-best.ensures
           ∙ rw (q.invariant, g) (later_in_lem says q.i (newest says test q.i))
-          ∙ ap (newest_in says) (sym (where_take says (λ p. test (says p)) q.i (tested ∙ w.if-is_wanted.true)))
-      | else-is_wanted w ↦ w.best-is ∙ q.invariant ∙ ap (newest_in says) (sym (where_skip says (λ p. test (says p)) q.i (tested ∙ w.if-is_wanted.false)))
-    ]
+          ∙ ap (newest_in says) (sym (where_take says (λ p. test (says p)) q.i t))
+    )
 
 pub returns : goal.returns
 returns c =
