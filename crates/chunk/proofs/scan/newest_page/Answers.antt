@@ -42,11 +42,10 @@ loop-i-preserved c =
     let t : test (says q.i) ≡ true =
     rw (← c.seen_at-r.ensures, ← c.is_wanted.ensures) c.if-not-is_wanted.false
     in
-    let g : c.order_of.result ≡ age_of says q.i = rw (← c.seen_at-r.ensures, ← c.sequence_of.ensures) c.order_of.ensures in (
-      c.newer-best.ensures
-          ∙ rw (q.invariant, g) (later_in_lem says q.i (newest says test q.i))
-          ∙ ap (newest_in says) (sym (where_take says (λ p. test (says p)) q.i t))
-    )
+    let g : c.order_of.result ≡ age_of says q.i = rw (← c.seen_at-r.ensures, ← c.sequence_of.ensures) c.order_of.ensures in
+    c.newer-best.ensures
+    ∙ rw (q.invariant, g) (later_in_lem says q.i (newest says test q.i))
+    ∙ ap (newest_in says) (sym (where_take says (λ p. test (says p)) q.i t))
 
 pub returns : goal.returns
 returns c =
