@@ -266,9 +266,9 @@ const NUMBERS: [Numbers; 6] = [
         c_enum: "lohenarr_stands",
         prefix: "LOHENARR_STANDS_",
         file: "records/src/standing.rt",
-        within: ("pub enum Standing {", "\nimpl "),
-        name: "const ",
-        number: &["= "],
+        within: ("fn kind(self)", "\n    }\n"),
+        name: "Standing::",
+        number: &["=> "],
         others: &[],
         host: ("ffi.rs", "impl StandingAnswer {"),
     },
@@ -317,12 +317,24 @@ fn first_number(text: &str) -> u32 {
         .unwrap_or_else(|_| panic!("no number: {text}"))
 }
 
-/// The names of a text with their numbers, by what stands in front of each.
-fn numbered(text: &str, name: &str, number: &[&str]) -> Numbered {
+/// The number that a text begins with, or that of the constant that it begins with, which
+/// the whole text declares.
+fn number_in(text: &str, whole: &str) -> u32 {
+    if text.starts_with(|c: char| c.is_ascii_digit()) {
+        return first_number(text);
+    }
+    let declared = format!("const {}: u32 = ", first_name(text));
+    let (_, number) = whole.split_once(&declared).expect("a constant");
+    first_number(number)
+}
+
+/// The names of a text with their numbers, by what stands in front of each; constants among
+/// the numbers are those of the whole text.
+fn numbered(text: &str, whole: &str, name: &str, number: &[&str]) -> Numbered {
     let of = |part: &str| {
         let mut behind = number.iter().filter_map(|mark| part.split_once(mark));
         let (_, behind) = behind.next().expect("a name has a number");
-        (constant(first_name(part)), first_number(behind))
+        (constant(first_name(part)), number_in(behind, whole))
     };
     text.split(name).skip(1).map(of).collect()
 }
@@ -333,8 +345,8 @@ impl Numbers {
         let text = bare(&read(&root().join("crates").join(self.file)));
         let lines = text.lines().filter(|line| !line.trim().is_empty());
         let text = lines.collect::<Vec<_>>().join("\n");
-        let (text, _) = between(&text, self.within.0, self.within.1);
-        let mut all = numbered(text, self.name, self.number);
+        let (part, _) = between(&text, self.within.0, self.within.1);
+        let mut all = numbered(part, &text, self.name, self.number);
         let others = self.others.iter();
         all.extend(others.map(|(name, number)| (name.to_string(), *number)));
         all
@@ -345,7 +357,8 @@ impl Numbers {
         let text = read(&root().join("host/src").join(self.host.0));
         let (text, _) = between(&text, self.host.1, "\n}\n");
         let (text, _) = text.split_once("\n\n").unwrap_or((text, ""));
-        numbered(&bare(text), "const ", &["= "])
+        let text = bare(text);
+        numbered(&text, &text, "const ", &["= "])
     }
 
     /// As a text of the header has them.

@@ -1,6 +1,8 @@
 // Scans over the pages of a dump that are taken, each a single pass. A page whose tags do not name the object is passed over unread. What the four share is
 // that test alone: one for all would take from its caller what it gathers, with the law of each step, and be longer than they are.
 ghost use Rattle.std.specs.Prelude.{◌≡◌};
+ghost use Rattle.page.specs.Choice.{pick};
+ghost use Rattle.chunk.specs.Records.{age_of};
 ghost use Rattle.page.specs.Records.{record_at};
 ghost use Rattle.page.specs.declared.record.Record.TheVariants as Record;
 ghost use Rattle.chunk.specs.Takes.{seen_by};
@@ -37,6 +39,27 @@ pub fn newer(other: Newest, page: PageNumber, age: u64) -> Newest
     }
 }
 
+// The newer of the newest page so far and page n, if n is wanted. Apart from the scan, whose loop is then the test that most pages fail, and no more: with
+// this in it each page took half as long again (docs/LOOK-BACK.md).
+#[inline(never)]
+fn newer_wanted(
+    best: Newest,
+    dump: &[u8],
+    g: Geometry,
+    t: Takes,
+    n: PageNumber,
+    o: ObjectId,
+    w: Want,
+) -> Newest
+    ensures { result ≡ pick (wanted o.0 w (seen_by t (record_at g dump.now) n.0)) (later_in best n.0 (age_of (seen_by t (record_at g dump.now)) n.0)) best }
+{
+    let r = seen_at(dump, g, t, n);
+    if !is_wanted(r, o, w) {
+        return best;
+    }
+    newer(best, n, order_of(sequence_of(r), n))
+}
+
 // The newest of the first pages that is a wanted record of object o.
 pub fn newest_page(dump: &[u8], g: Geometry, t: Takes, pages: u32, o: ObjectId, w: Want) -> Newest
     ensures { result ≡ newest_in (seen_by t (record_at g dump.now)) (newest (seen_by t (record_at g dump.now)) (wanted o.0 w) pages) }
@@ -47,10 +70,7 @@ pub fn newest_page(dump: &[u8], g: Geometry, t: Takes, pages: u32, o: ObjectId, 
         if !names_object(dump, g, n, o) {
             continue;
         }
-        let r = seen_at(dump, g, t, n);
-        if is_wanted(r, o, w) {
-            best = newer(best, n, order_of(sequence_of(r), n));
-        }
+        best = newer_wanted(best, dump, g, t, n, o, w);
     }
     best
 }

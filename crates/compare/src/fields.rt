@@ -59,7 +59,7 @@ pub(crate) fn put_fields(one: &[u8], other: &[u8], buf: &mut [u8], at: usize) ->
     ensures { Put (joined lines_of (map field (passed (field_differs one.now other.now) place_of fields))) buf.old at buf.new result }
 {
     let mut next = at;
-    for (place, length) in FIELDS {
+    for &(place, length) in &FIELDS {
         next = put_field(one, other, place, length, buf, next);
     }
     next

@@ -73,7 +73,7 @@ module _ (w₀ : List ℕ) (n : ℕ) where
         rw (key-at h) at k
 
     -- one key more
-    gather_more :
+    pub gather_more :
         (F : List ℕ) → F ≡ first_of (λ j. get_or w (n + j) 0) last (get_or w i 0) → i < n →
         Gathered (sets w m F) (key_of (get_or w i 0)) (m + length F) (i + 1)
     gather_more F e h =

@@ -22,7 +22,8 @@ impl Layout {
     // The bytes of a header, whose last field is the shrink word.
     pub const HEADER_BYTES: u32 = (Fields::SHRINK as u32) + 4;
 
-    // The rows of the table: data size, spare size and tag offset.
+    // The rows of the table: data size, spare size and tag offset. It is read where it lies, by a reference: by value it would be laid out on the stack at
+    // each read.
     const TABLE: [(u16, u16, u16); 13] = [
         (2048, 64, 0),
         (2048, 64, 2),
@@ -45,7 +46,7 @@ impl Layout {
         requires { n < layouts }
         ensures { result ≡ layout_at n }
     {
-        let (data, spare, tag) = Layout::TABLE[n as usize];
+        let (data, spare, tag) = (&Layout::TABLE)[n as usize];
         Layout {
             data: u32::from(data),
             spare: u32::from(spare),

@@ -19,7 +19,7 @@ pub record Counted (g : Geometry) (dump : List ℕ) (m : Moment) (o room n : ℕ
   pub is : r ≡ recorded_in (says_at g dump m o) n m o room
 
 module _ {g : Geometry} {dump : List ℕ} {m : Moment} {o room n : ℕ} {r : Recorded} (w : Counted g dump m o room n r) where
-  recorded_on_lem : r ≡ recorded_on g dump m o room
+  pub recorded_on_lem : r ≡ recorded_on g dump m o room
   unfolding recorded_on
   recorded_on_lem = w.is ∙ rw w.accepted
 

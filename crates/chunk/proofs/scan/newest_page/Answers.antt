@@ -4,13 +4,13 @@ use native.Mathlib.Omega.{arith}
 use Rattle.page.specs.Records.{record_at}
 use Rattle.page.specs.Tags.{names_at}
 use Rattle.chunk.specs.Takes.{seen_by}
-use Rattle.chunk.specs.Records.{age_of, is_of}
+use Rattle.chunk.specs.Records.{is_of}
 use Rattle.chunk.specs.Newest.{newest}
 use Rattle.chunk.specs.Scans.{wanted, newest_in}
 use Rattle.chunk.proofs.Records.{seen_unnamed}
 use Rattle.chunk.proofs.Gathering.{where_none, where_skip, where_take, later_in_lem}
+use Rattle.page.proofs.Searching.{by_test}
 use Rattle.chunk.proofs.scan.newest_page.Goals as goal
-use Rattle.chunk.proofs.scan.newest_page.Goals.{then-is_wanted, else-is_wanted}
 
 pub loop-i-init : goal.loop-i-init
 loop-i-init c = rw where_none
@@ -30,16 +30,9 @@ loop-i-preserved c =
     let a = c.args in
     let says = seen_by a.t (record_at a.g a.dump.now) in
     let test = wanted a.o.0 a.w in
-    let tested : test (says q.i) ≡ c.is_wanted.result = rw (← c.seen_at-r.ensures) (sym c.is_wanted.ensures) in
-    elim c.if-is_wanted.branch [
-      | then-is_wanted w ↦
-          let g : w.order_of.result ≡ age_of says q.i = rw (← c.seen_at-r.ensures, ← w.sequence_of.ensures) w.order_of.ensures in
-          w.best-is
-          ∙ w.newer-best.ensures
-          ∙ rw (q.invariant, g) (later_in_lem says q.i (newest says test q.i))
-          ∙ ap (newest_in says) (sym (where_take says (λ p. test (says p)) q.i (tested ∙ w.if-is_wanted.true)))
-      | else-is_wanted w ↦ w.best-is ∙ q.invariant ∙ ap (newest_in says) (sym (where_skip says (λ p. test (says p)) q.i (tested ∙ w.if-is_wanted.false)))
-    ]
+    by_test (test (says q.i)) _
+    (λ t. c.newer_wanted-best.ensures ∙ rw (t, q.invariant) (later_in_lem says q.i (newest says test q.i)) ∙ ap (newest_in says) (sym (where_take says (λ p. test (says p)) q.i t)))
+    (λ t. c.newer_wanted-best.ensures ∙ rw t q.invariant ∙ ap (newest_in says) (sym (where_skip says (λ p. test (says p)) q.i t)))
 
 pub returns : goal.returns
 returns c =
